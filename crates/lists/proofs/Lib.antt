@@ -1,0 +1,9 @@
+pub mod Tab
+pub mod Part
+pub mod Put
+pub mod Read
+pub mod Loop
+pub mod Rows
+pub mod Insert
+pub mod Fold
+pub mod Ring

@@ -1,0 +1,13 @@
+pub mod Values
+pub mod Order
+pub mod Held
+pub mod Rounded
+pub mod Patterns
+pub mod Mirror
+pub mod Next
+pub mod Rounding
+pub mod Operations
+pub mod Least
+pub mod NextLeast
+pub mod Tests
+pub mod Steps

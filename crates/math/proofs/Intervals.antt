@@ -1,0 +1,7 @@
+pub mod Sum
+pub mod Corners
+pub mod Product
+pub mod Quotient
+pub mod Geop
+pub mod Tests
+pub mod Laws

@@ -1,0 +1,6 @@
+-- Laws of plain values: of doubles, of intervals, of the square root. The folders scalars/ and root/ have the proofs of the functions.
+pub mod Bools
+pub mod Doubles
+pub mod Intervals
+pub mod Picks
+pub mod Roots

@@ -1,0 +1,4 @@
+// The arithmetic of the search: intervals of f64 that are rounded outward, and the square root.
+
+pub mod root;
+pub mod scalars;

@@ -1,0 +1,317 @@
+// Intervals of f64, rounded outward: what the search needs of geop-core-math's scalars/mod.rs, under its names.
+// A function's promise names the definition that it equals, in specs/, for every operand, NaN and the infinities included.
+ghost use mathlib.Core.Path.{_≡_};
+ghost use mathlib.Core.Bool.{false};
+ghost use lib.Ieee.{isNan};
+ghost use Rattle.math.specs.Neighbours.{nextUp, nextDown};
+ghost use Rattle.math.specs.Picks.{minF, maxF};
+ghost use Rattle.math.specs.Scalars.{geop, ENTIRE, sharp, middle, widthS, fromRatio, addS, subS, mulS, divS, inverseS, hasZero, couldBeEqual, couldBeGreater, definitelyGreater, couldBeLess, definitelyLess, isSharp, isSubsetOf, isExactly, inUnit, isSteady, unionS, intersectS, interpolateS};
+
+// The neighbouring f64 above: 2^-1074 from either zero. NaN and the positive infinity stay.
+// x + 0.0 is x, but for a zero, which becomes the positive one: then one step of the bits serves every x.
+pub fn next_up(x: f64) -> f64
+    ensures { λ r. ⌜ r ≡ nextUp x ⌝ }
+{
+    if x < f64::from_bits(0x7ff0_0000_0000_0000) {
+        let b = f64::to_bits(x + 0.0);
+        if b < 0x8000_0000_0000_0000 {
+            return f64::from_bits(b + 1);
+        }
+        return f64::from_bits(b - 1);
+    }
+    x
+}
+
+// The neighbouring f64 below.
+pub fn next_down(x: f64) -> f64
+    ensures { λ r. ⌜ r ≡ nextDown x ⌝ }
+{
+    -next_up(-x)
+}
+
+pub fn is_nan(x: f64) -> bool
+    ensures { λ r. ⌜ r ≡ isNan x ⌝ }
+{
+    x != x
+}
+
+// The lesser of two: a NaN is passed over where the other is a number, and of two equal ones it is the first.
+pub fn min(a: f64, b: f64) -> f64
+    ensures { λ r. ⌜ r ≡ minF a b ⌝ }
+{
+    if a != a {
+        return b;
+    }
+    if b < a { b } else { a }
+}
+
+// The greater of two, by the same rules.
+pub fn max(a: f64, b: f64) -> f64
+    ensures { λ r. ⌜ r ≡ maxF a b ⌝ }
+{
+    if a != a {
+        return b;
+    }
+    if a < b { b } else { a }
+}
+
+// `min` with a first operand that is a number: one machine instruction.
+fn lesser(a: f64, b: f64) -> f64
+    requires { ⌜ isNan a ≡ false ⌝ }
+    ensures { λ r. ⌜ (r ≡ minF a b) × (isNan r ≡ false) ⌝ }
+{
+    if b < a { b } else { a }
+}
+
+// `max` with a first operand that is a number.
+fn greater(a: f64, b: f64) -> f64
+    requires { ⌜ isNan a ≡ false ⌝ }
+    ensures { λ r. ⌜ (r ≡ maxF a b) × (isNan r ≡ false) ⌝ }
+{
+    if a < b { b } else { a }
+}
+
+// An interval from lo to hi.
+pub struct Scalar {
+    pub lo: f64,
+    pub hi: f64,
+}
+
+// What a division gives: an interval, or nothing, where the divisor holds zero.
+pub enum Divided {
+    Value(Scalar),
+    Failed,
+}
+
+impl Scalar {
+    pub const ZERO: Scalar = Scalar { lo: 0.0, hi: 0.0 };
+
+    pub const ONE: Scalar = Scalar { lo: 1.0, hi: 1.0 };
+
+    pub const TWO: Scalar = Scalar { lo: 2.0, hi: 2.0 };
+
+    // The whole line. (A constant cannot hold an infinity.)
+    pub fn entire() -> Scalar
+        ensures { λ r. ⌜ r ≡ ENTIRE ⌝ }
+    {
+        let inf = f64::from_bits(0x7ff0_0000_0000_0000);
+        Scalar { lo: -inf, hi: inf }
+    }
+
+    // The interval of one value.
+    pub fn from_f64(v: f64) -> Scalar
+        ensures { λ r. ⌜ r ≡ sharp v ⌝ }
+    {
+        Scalar { lo: v, hi: v }
+    }
+
+    // num / den, widened. Fails where den is 0.
+    pub fn from_ratio(num: u32, den: u32) -> Divided
+        ensures { λ r. ⌜ r ≡ fromRatio num den ⌝ }
+    {
+        if den == 0 {
+            return Divided::Failed;
+        }
+        let exact = (num as f64) / (den as f64);
+        Divided::Value(Scalar {
+            lo: next_down(exact),
+            hi: next_up(exact),
+        })
+    }
+
+    // The middle, (lo + hi) / 2, rounded twice.
+    pub fn to_f64(self) -> f64
+        ensures { λ r. ⌜ r ≡ middle self ⌝ }
+    {
+        (self.lo + self.hi) / 2.0
+    }
+
+    pub fn add(self, other: Scalar) -> Scalar
+        ensures { λ r. ⌜ r ≡ addS self other ⌝ }
+    {
+        Scalar {
+            lo: next_down(self.lo + other.lo),
+            hi: next_up(self.hi + other.hi),
+        }
+    }
+
+    pub fn sub(self, other: Scalar) -> Scalar
+        ensures { λ r. ⌜ r ≡ subS self other ⌝ }
+    {
+        Scalar {
+            lo: next_down(self.lo - other.hi),
+            hi: next_up(self.hi - other.lo),
+        }
+    }
+
+    pub fn mul(self, other: Scalar) -> Scalar
+        ensures { λ r. ⌜ r ≡ mulS self other ⌝ }
+    {
+        let a = self.lo * other.lo;
+        let b = self.lo * other.hi;
+        let c = self.hi * other.lo;
+        let d = self.hi * other.hi;
+        let inf = f64::from_bits(0x7ff0_0000_0000_0000);
+        let lo = lesser(lesser(lesser(lesser(inf, a), b), c), d);
+        let hi = greater(greater(greater(greater(-inf, a), b), c), d);
+        Scalar {
+            lo: next_down(lo),
+            hi: next_up(hi),
+        }
+    }
+
+    // Zero lies in it.
+    pub fn has_zero(self) -> bool
+        ensures { λ r. ⌜ r ≡ hasZero self ⌝ }
+    {
+        self.lo <= 0.0 && self.hi >= 0.0
+    }
+
+    // The widened reciprocal.
+    pub fn inverse(self) -> Scalar
+        ensures { λ r. ⌜ r ≡ inverseS self ⌝ }
+    {
+        Scalar {
+            lo: next_down(1.0 / self.hi),
+            hi: next_up(1.0 / self.lo),
+        }
+    }
+
+    // Fails where the divisor holds zero.
+    pub fn div(self, other: Scalar) -> Divided
+        ensures { λ r. ⌜ r ≡ divS self other ⌝ }
+    {
+        if other.has_zero() {
+            return Divided::Failed;
+        }
+        Divided::Value(self.mul(other.inverse()))
+    }
+
+    pub fn could_be_equal(self, other: Scalar) -> bool
+        ensures { λ r. ⌜ r ≡ couldBeEqual self other ⌝ }
+    {
+        self.lo <= other.hi && other.lo <= self.hi
+    }
+
+    pub fn could_be_greater(self, other: Scalar) -> bool
+        ensures { λ r. ⌜ r ≡ couldBeGreater self other ⌝ }
+    {
+        self.hi > other.lo
+    }
+
+    pub fn definitely_greater(self, other: Scalar) -> bool
+        ensures { λ r. ⌜ r ≡ definitelyGreater self other ⌝ }
+    {
+        self.lo > other.hi
+    }
+
+    pub fn could_be_less(self, other: Scalar) -> bool
+        ensures { λ r. ⌜ r ≡ couldBeLess self other ⌝ }
+    {
+        self.lo < other.hi
+    }
+
+    pub fn definitely_less(self, other: Scalar) -> bool
+        ensures { λ r. ⌜ r ≡ definitelyLess self other ⌝ }
+    {
+        self.hi < other.lo
+    }
+
+    // It is a single value.
+    pub fn is_sharp(self) -> bool
+        ensures { λ r. ⌜ r ≡ isSharp self ⌝ }
+    {
+        self.lo == self.hi
+    }
+
+    // hi - lo, rounded and never below zero, as a single value.
+    pub fn width(self) -> Scalar
+        ensures { λ r. ⌜ r ≡ sharp (widthS self) ⌝ }
+    {
+        let w = max(self.hi - self.lo, 0.0);
+        Scalar { lo: w, hi: w }
+    }
+
+    pub fn lower(self) -> Scalar
+        ensures { λ r. ⌜ r ≡ sharp (self .lo) ⌝ }
+    {
+        Scalar::from_f64(self.lo)
+    }
+
+    pub fn upper(self) -> Scalar
+        ensures { λ r. ⌜ r ≡ sharp (self .hi) ⌝ }
+    {
+        Scalar::from_f64(self.hi)
+    }
+
+    // Its middle, as a single value.
+    pub fn sharpen(self) -> Scalar
+        ensures { λ r. ⌜ r ≡ sharp (middle self) ⌝ }
+    {
+        Scalar::from_f64(self.to_f64())
+    }
+
+    pub fn is_subset_of(self, other: Scalar) -> bool
+        ensures { λ r. ⌜ r ≡ isSubsetOf self other ⌝ }
+    {
+        other.lo <= self.lo && self.hi <= other.hi
+    }
+
+    pub fn is_exactly(self, other: Scalar) -> bool
+        ensures { λ r. ⌜ r ≡ isExactly self other ⌝ }
+    {
+        self.is_subset_of(other) && other.is_subset_of(self)
+    }
+
+    // What lies in both. Of two that don't meet it is the narrower, self on a tie.
+    pub fn intersect(self, other: Scalar) -> Scalar
+        ensures { λ r. ⌜ r ≡ intersectS self other ⌝ }
+    {
+        let lo = max(self.lo, other.lo);
+        let hi = min(self.hi, other.hi);
+        if lo <= hi {
+            return Scalar { lo, hi };
+        }
+        if self.hi - self.lo <= other.hi - other.lo {
+            return self;
+        }
+        other
+    }
+
+    // From the lesser lo to the greater hi.
+    pub fn union(self, other: Scalar) -> Scalar
+        ensures { λ r. ⌜ r ≡ unionS self other ⌝ }
+    {
+        Scalar {
+            lo: min(self.lo, other.lo),
+            hi: max(self.hi, other.hi),
+        }
+    }
+
+    // It lies in 0 to 1.
+    fn in_unit(self) -> bool
+        ensures { λ r. ⌜ r ≡ inUnit self ⌝ }
+    {
+        self.lo >= 0.0 && self.hi <= 1.0
+    }
+
+    // Every point between a and b is a itself.
+    fn steady(a: Scalar, b: Scalar, alpha: Scalar) -> bool
+        ensures { λ r. ⌜ r ≡ isSteady a b alpha ⌝ }
+    {
+        a.is_exactly(b) && alpha.in_unit()
+    }
+
+    // The point a fraction alpha of the way from a to b: a where both are the same and alpha lies in 0 to 1, else what
+    // a + alpha (b - a) and (1 - alpha) a + alpha b have in common.
+    pub fn interpolate(a: Scalar, b: Scalar, alpha: Scalar) -> Scalar
+        ensures { λ r. ⌜ r ≡ interpolateS geop a b alpha ⌝ }
+    {
+        if Scalar::steady(a, b, alpha) {
+            return a;
+        }
+        let via_delta = a.add(alpha.mul(b.sub(a)));
+        let via_weights = Scalar::ONE.sub(alpha).mul(a).add(alpha.mul(b));
+        via_delta.intersect(via_weights)
+    }
+}
