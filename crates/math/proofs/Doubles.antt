@@ -9,5 +9,6 @@ pub mod Rounding
 pub mod Operations
 pub mod Least
 pub mod NextLeast
+pub mod Grid
 pub mod Tests
 pub mod Steps

@@ -1,7 +1,11 @@
 pub mod Sum
 pub mod Corners
 pub mod Product
+pub mod Tests
+pub mod Strict
 pub mod Quotient
 pub mod Geop
-pub mod Tests
 pub mod Laws
+pub mod Sizes
+pub mod Alpha
+pub mod Instance

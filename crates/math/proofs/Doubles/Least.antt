@@ -113,6 +113,15 @@ module _ (a b c d : Float) where
   pub least-a : T (number a) → T (le (least4 a b c d) a)
   least-a n = le-trans (least4 a b c d) (minF (inf false) a) a (le-trans (least4 a b c d) (minF (minF (inf false) a) b) (minF (inf false) a) to-2 (min-left (minF (inf false) a) b n1)) (min-right (inf false) a (unfold isNan in tt) n)
 
+-- what is no larger than each of the four that is a number is no larger than the least
+above-min : (w a b : Float) → T (number a) → T (le w a) → (T (number b) → T (le w b)) → T (le w (minF a b))
+above-min w a b n h k = subst (λ (x : Float). T (le w x)) (sym (min-is a b n)) (pick (λ (x : Float). T (le w x)) (lt b a) b a (λ t. k (le-number-l b a (lt→le-f b a t))) (λ _. h))
+
+pub least-above : (w a b c d : Float) → T (le w (inf false)) → (T (number a) → T (le w a)) → (T (number b) → T (le w b)) → (T (number c) → T (le w c)) → (T (number d) → T (le w d)) → T (le w (least4 a b c d))
+least-above w a b c d i A B C D =
+    above-min w (minF (minF (minF (inf false) a) b) c) d (n3 a b c d)
+    (above-min w (minF (minF (inf false) a) b) c (n2 a b c d) (above-min w (minF (inf false) a) b (n1 a b c d) (above-min w (inf false) a (unfold isNan in tt) i A) B) C) D
+
 -- ---- the most of four
 -- one step of the mirrored fold
 mirrored : (x w y : Float) → x ≡ neg y → maxF x w ≡ neg (minF y (neg w))

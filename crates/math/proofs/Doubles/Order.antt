@@ -193,6 +193,12 @@ lt-le x y z h l = elim (decide (lt x z)) [
   | inr n ↦ absurd (lt-not-le x y h (le-trans y z x l (total-order z x (le-number-r y z l) (le-number-l x y (lt→le-f x y h)) n)))
 ]
 
+pub le-lt : (x y z : Float) → T (le x y) → T (lt y z) → T (lt x z)
+le-lt x y z l h = elim (decide (lt x z)) [
+  | inl t ↦ t
+  | inr n ↦ absurd (lt-not-le y z h (le-trans z x y (total-order z x (le-number-r y z (lt→le-f y z h)) (le-number-l x y l) n) l))
+]
+
 pub lt-self : (x : Float) → T (lt x x) → ⊥
 lt-self x t = lt-not-le x x t (lt→le-f x x t)
 

@@ -1,4 +1,4 @@
--- A value of the format that lies strictly below a fraction's rounded value is no larger than the fraction, and one strictly above it is no smaller.
+-- A value of the format that lies strictly below a fraction's rounded value is smaller than the fraction, and one strictly above it is larger.
 -- By `round`'s order and its fixed points alone: no unit in the last place is measured. Assumes nothing.
 use mathlib.Core.Path.{_≡_, refl, sym, ap, _∙_, subst}
 use mathlib.Core.Logic.{_⊎_, inl, inr}
@@ -52,16 +52,16 @@ anti-right m e (fin false n d) u t = both (n * up d * down e) (m * up e * down d
 
 -- ---- the two laws, above zero
 module _ (f : Format) (m : ℕ) (e : ℤ) (F : T (fits f (fin false m e))) (a c : ℕ) (C : 0 < c) where
-  pub under : T (lt (fin false m e) (round f false a c)) → m * up e * c ≤ a * down e
-  under t = elim (compare-le (m * up e * c) (a * down e)) [
-    | inl h ↦ h
-    | inr h ↦ absurd (anti-left m e (round f false a c) t (subst (λ (x : Float). T (le (round f false a c) x)) (round-own f false m e F) (round-mono f a c (m * up e) (down e) C (down-pos e) (le-of-lt h))))
+  pub under : T (lt (fin false m e) (round f false a c)) → m * up e * c < a * down e
+  under t = elim (compare-le (a * down e) (m * up e * c)) [
+    | inl h ↦ absurd (anti-left m e (round f false a c) t (subst (λ (x : Float). T (le (round f false a c) x)) (round-own f false m e F) (round-mono f a c (m * up e) (down e) C (down-pos e) h)))
+    | inr h ↦ h
   ]
 
-  pub over : T (lt (round f false a c) (fin false m e)) → a * down e ≤ m * up e * c
-  over t = elim (compare-le (a * down e) (m * up e * c)) [
-    | inl h ↦ h
-    | inr h ↦ absurd (anti-right m e (round f false a c) (subst (λ (x : Float). T (le x (round f false a c))) (round-own f false m e F) (round-mono f (m * up e) (down e) a c (down-pos e) C (le-of-lt h))) t)
+  pub over : T (lt (round f false a c) (fin false m e)) → a * down e < m * up e * c
+  over t = elim (compare-le (m * up e * c) (a * down e)) [
+    | inl h ↦ absurd (anti-right m e (round f false a c) (subst (λ (x : Float). T (le x (round f false a c))) (round-own f false m e F) (round-mono f (m * up e) (down e) a c (down-pos e) C h)) t)
+    | inr h ↦ h
   ]
 
 -- ---- the sign passes through `round`

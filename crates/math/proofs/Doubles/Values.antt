@@ -4,18 +4,18 @@ use mathlib.Core.List.{List, [], _∷_}
 use mathlib.Core.Logic.{_⊎_, inl, inr}
 use mathlib.Core.Bool.{Bool, true, false, not, _&&_, _||_, Bool·beq}
 use Prim.Native.Nat.{ℕ, zero, suc, _+_, _*_, _≤_, _<_}
-use native.Mathlib.Nat.{mul-pos, zero-mul}
+use native.Mathlib.Nat.{mul-pos, zero-mul, zero-lt-suc}
 use native.Mathlib.Omega.{arith}
 use lib.IntN.{ℤ, pos}
 use lib.Dec.{T, ltb, eqb, ltb→lt, lt→ltb, eqb→eq}
 use lib.Ieee.{Float, nan, inf, fin, up, down, neg, lt, le, eq, below, level}
-use lib.Ieee.Fits.{down-pos}
+use lib.Ieee.Fits.{up-pos, down-pos}
 use lib.Ieee.Exact.{HasValue}
 use Rattle.exact.specs.Ring.{by-rep, by-eq, read}
 use Rattle.exact.specs.Rational.{ℚ, _+ℚ_, _*ℚ_, -ℚ_, _-ℚ_, 0ℚ, 1ℚ, _÷_, signed, pow2, whole, _≤ℚ_, _<ℚ_, nn-of, not-le→lt, lt→not-le}
 use Rattle.exact.proofs.Field.{ℚring, nn-add, nn-0}
-use Rattle.exact.proofs.Order.{le-by, le-nn, nn-le, le-refl, le-trans, le-antisym, lt→le, le-or-lt, lt-le-trans, neg-mono, neg-lt}
-use Rattle.exact.proofs.Embed.{÷-eq, ÷-le, ÷-le⁻¹, ÷-lt, ÷-lt⁻¹, ÷-sum, ÷-mul, ÷-nn, ÷-none, ÷-zero, signed-neg}
+use Rattle.exact.proofs.Order.{le-by, le-nn, nn-le, le-refl, le-trans, le-antisym, lt→le, le-or-lt, lt-le-trans, neg-mono, neg-lt, neg-0}
+use Rattle.exact.proofs.Embed.{÷-eq, ÷-le, ÷-le⁻¹, ÷-lt, ÷-lt⁻¹, ÷-sum, ÷-mul, ÷-nn, ÷-pos, ÷-none, ÷-zero, signed-neg}
 use Rattle.math.specs.Values.{value}
 use Rattle.math.proofs.Bools.{and-i, and-l, and-r, or-l, or-r, or-split, same-eqb}
 
@@ -56,6 +56,16 @@ value-nonneg m e = ÷-nn (m * up e) (down e)
 pub value-nonpos : (m : ℕ) (e : ℤ) → value (fin true m e) ≤ℚ 0ℚ
 unfolding value
 value-nonpos m e = le-by (nn-le (÷-nn (m * up e) (down e))) (by-rep ℚring (((m * up e) ÷ down e) ∷ []) (search read) (search read) tt)
+
+pub value-above : (m : ℕ) (e : ℤ) → 0ℚ <ℚ value (fin false (suc m) e)
+unfolding value
+value-above m e = ÷-pos (suc m * up e) (down e) (mul-pos (zero-lt-suc m) (up-pos e)) (down-pos e)
+
+pub value-under : (m : ℕ) (e : ℤ) → value (fin true (suc m) e) <ℚ 0ℚ
+value-under m e = subst (λ (z : ℚ). value (fin true (suc m) e) <ℚ z) neg-0 (subst (λ (z : ℚ). z <ℚ -ℚ 0ℚ) (sym (turned m e)) (neg-lt (value-above m e)))
+  where
+    turned : (m : ℕ) (e : ℤ) → value (fin true (suc m) e) ≡ -ℚ value (fin false (suc m) e)
+    turned m e = unfold neg in value-neg (fin false (suc m) e)
 
 -- ---- ±x / c against ±y / d
 module _ (x c y d : ℕ) (C : 0 < c) (D : 0 < d) where

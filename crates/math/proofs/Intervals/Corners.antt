@@ -5,19 +5,16 @@ use mathlib.Core.List.{List, [], _∷_}
 use mathlib.Core.Logic.{_⊎_, inl, inr}
 use mathlib.Core.Bool.{Bool, true, false, not, cond}
 use Prim.Native.Nat.{ℕ, zero, suc, _*_}
-use native.Mathlib.Nat.{mul-pos, zero-lt-suc}
 use lib.IntN.{ℤ, pos}
 use lib.Dec.{T, eqb, eqb·suc-zero}
 use lib.Ieee.{Float, nan, inf, fin, binary64, up, down, round, unlike, mul, neg, eq}
-use lib.Ieee.Fits.{up-pos, down-pos}
 use Rattle.exact.specs.Ring.{by-rep, by-eq, read}
 use Rattle.exact.specs.Rational.{ℚ, _+ℚ_, _*ℚ_, -ℚ_, _-ℚ_, 0ℚ, 1ℚ, _≤ℚ_, _<ℚ_, lt→not-le}
 use Rattle.exact.proofs.Field.{ℚring, nn-mul}
 use Rattle.exact.proofs.Order.{le-by, le-nn, nn-le, le-refl, le-trans, le-antisym, le-or-lt, lt→le, neg-0, neg-lt, cone}
-use Rattle.exact.proofs.Embed.{÷-pos}
 use Rattle.math.specs.Values.{value, Below, Above}
 use Rattle.math.specs.Scalars.{zeroF}
-use Rattle.math.proofs.Doubles.Values.{value-zero, value-neg, value-nonneg, value-nonpos, eq→value, value→eq}
+use Rattle.math.proofs.Doubles.Values.{value-above, value-under, value-zero, value-neg, value-nonneg, value-nonpos, eq→value, value→eq}
 use Rattle.math.proofs.Doubles.Order.{below-neg, above-neg}
 use Rattle.math.proofs.Doubles.Mirror.{neg-neg as neg-neg-f}
 use Rattle.math.proofs.Doubles.Rounded.{neg-round}
@@ -41,17 +38,6 @@ nil-r A D v e h = subst (λ (z : ℚ). z ≤ℚ v) (sym (by-eq ℚring A e (by-r
 
 pos-pos : (x y : ℚ) → 0ℚ ≤ℚ x → 0ℚ ≤ℚ y → 0ℚ ≤ℚ x *ℚ y
 pos-pos x y h k = le-nn (nn-mul x y (nn-le h) (nn-le k))
-
--- ---- the sign of a finite double
-value-above : (m : ℕ) (e : ℤ) → 0ℚ <ℚ value (fin false (suc m) e)
-unfolding value
-value-above m e = ÷-pos (suc m * up e) (down e) (mul-pos (zero-lt-suc m) (up-pos e)) (down-pos e)
-
-value-under : (m : ℕ) (e : ℤ) → value (fin true (suc m) e) <ℚ 0ℚ
-value-under m e = subst (λ (z : ℚ). value (fin true (suc m) e) <ℚ z) neg-0 (subst (λ (z : ℚ). z <ℚ -ℚ 0ℚ) (sym (turned m e)) (neg-lt (value-above m e)))
-  where
-    turned : (m : ℕ) (e : ℤ) → value (fin true (suc m) e) ≡ -ℚ value (fin false (suc m) e)
-    turned m e = unfold neg in value-neg (fin false (suc m) e)
 
 -- a zero of either sign
 pub zero-eq : (s : Bool) (e : ℤ) → T (eq (fin s zero e) zeroF)

@@ -1,4 +1,4 @@
--- The Rust's arithmetic encloses: the record of laws, met. Assumes nothing.
+-- The Rust's sum, difference, product and quotient hold the exact results, strictly inside. Assumes nothing.
 use mathlib.Core.Path.{_≡_, refl, sym, ap, _∙_, subst}
 use mathlib.Core.Logic.{_↔_}
 use mathlib.Core.Bool.{Bool, true, false, not, _&&_, _||_, cond}
@@ -18,9 +18,9 @@ use Rattle.math.specs.Neighbours.{nextUp, nextDown}
 use Rattle.math.specs.declared.scalars.Scalar.{Scalar}
 use Rattle.math.specs.declared.scalars.Divided.{Divided}
 use Rattle.math.specs.declared.scalars.Divided.the-variants.{Value, Failed}
-use Rattle.math.specs.Scalars.{geop, addS, subS, mulS, divS, inverseS, fourFifthsS, ratioOf, zeroF, hasZero, isSame, ZERO, ENTIRE}
+use Rattle.math.specs.Scalars.{addS, subS, mulS, divS, inverseS, fourFifthsS, ratioOf, zeroF, hasZero, isSame, ZERO, ENTIRE}
 use Rattle.math.specs.Values.{value, Below, Above, Holds}
-use Rattle.math.specs.Encloses.{Encloses, isClash}
+use Rattle.math.specs.Encloses.{isClash}
 use Rattle.math.proofs.Bools.{and-i, and-l, and-r, or-l, or-r}
 use Rattle.math.proofs.Doubles.Values.{value-zero, eq→value, le→value, value→le}
 use Rattle.math.proofs.Doubles.Order.{below-neg, above-neg}
@@ -29,23 +29,30 @@ use Rattle.math.proofs.Doubles.Operations.{div-rounds}
 use Rattle.math.proofs.Intervals.Sum.{add-below, add-above}
 use Rattle.math.proofs.Intervals.Corners.{Clear}
 use Rattle.math.proofs.Intervals.Product.{mul-below, mul-above}
-use Rattle.math.proofs.Intervals.Quotient.{inverse-holds, inverse-bounded, not-zero}
+use Rattle.math.proofs.Intervals.Quotient.{inverse-strict, inverse-bounded, not-zero}
+use Rattle.math.proofs.Intervals.Strict.{Strict, strict-holds}
 
-add-holds : (a b : Scalar) (x y : ℚ) → Holds a x → Holds b y → Holds (addS a b) (x +ℚ y)
+add-strict : (a b : Scalar) (x y : ℚ) → Holds a x → Holds b y → Strict (addS a b) (x +ℚ y)
 unfolding addS
-add-holds a b x y h k = record { low = add-below x y (a .lo) (b .lo) (h .low) (k .low); high = add-above x y (a .hi) (b .hi) (h .high) (k .high) }
+add-strict a b x y h k = record { low = add-below x y (a .lo) (b .lo) (h .low) (k .low); high = add-above x y (a .hi) (b .hi) (h .high) (k .high) }
 
-sub-holds : (a b : Scalar) (x y : ℚ) → Holds a x → Holds b y → Holds (subS a b) (x -ℚ y)
+pub add-holds : (a b : Scalar) (x y : ℚ) → Holds a x → Holds b y → Holds (addS a b) (x +ℚ y)
+add-holds a b x y h k = strict-holds (addS a b) (x +ℚ y) (add-strict a b x y h k)
+
+pub sub-strict : (a b : Scalar) (x y : ℚ) → Holds a x → Holds b y → Strict (subS a b) (x -ℚ y)
 unfolding subS sub
-sub-holds a b x y h k = record {
+sub-strict a b x y h k = record {
   low = add-below x (-ℚ y) (a .lo) (neg (b .hi)) (h .low) (above-neg (b .hi) y (k .high));
   high = add-above x (-ℚ y) (a .hi) (neg (b .lo)) (h .high) (below-neg (b .lo) y (k .low));
 }
 
+pub sub-holds : (a b : Scalar) (x y : ℚ) → Holds a x → Holds b y → Holds (subS a b) (x -ℚ y)
+sub-holds a b x y h k = strict-holds (subS a b) (x -ℚ y) (sub-strict a b x y h k)
+
 -- ---- the product
-product-holds : (a b : Scalar) (x y : ℚ) → Clear (a .lo) (a .hi) (b .lo) (b .hi) → Holds a x → Holds b y → Holds (mulS a b) (x *ℚ y)
+product-strict : (a b : Scalar) (x y : ℚ) → Clear (a .lo) (a .hi) (b .lo) (b .hi) → Holds a x → Holds b y → Strict (mulS a b) (x *ℚ y)
 unfolding mulS
-product-holds a b x y u h k = record {
+product-strict a b x y u h k = record {
   low = mul-below x y (a .lo) (a .hi) (b .lo) (b .hi) (h .low) (h .high) (k .low) (k .high) u;
   high = mul-above x y (a .lo) (a .hi) (b .lo) (b .hi) (h .low) (h .high) (k .low) (k .high) u;
 }
@@ -63,8 +70,8 @@ clear a b n = record {
     no true h k = h
     no false h k = k
 
-mul-holds : (a b : Scalar) (x y : ℚ) → T (not (isClash a b)) → Holds a x → Holds b y → Holds (mulS a b) (x *ℚ y)
-mul-holds a b x y n h k = product-holds a b x y (clear a b n) h k
+pub mul-holds : (a b : Scalar) (x y : ℚ) → T (not (isClash a b)) → Holds a x → Holds b y → Holds (mulS a b) (x *ℚ y)
+mul-holds a b x y n h k = strict-holds (mulS a b) (x *ℚ y) (product-strict a b x y (clear a b n) h k)
 
 -- ---- the quotient
 
@@ -79,7 +86,7 @@ at-zeros (fin s m e) (fin t n d) q b a z w =
 
 quotient-clear : (a b : Scalar) (y : ℚ) → Holds b y → hasZero b ≡ false → Clear (a .lo) (a .hi) (inverseS b .lo) (inverseS b .hi)
 quotient-clear a b y k e = record {
-  first = λ p q z w. nothing y (at-zeros (inverseS b .lo) (inverseS b .hi) (invℚ y) (inverse-holds b y k e .low) (inverse-holds b y k e .high) z w) (not-zero b y k e);
+  first = λ p q z w. nothing y (at-zeros (inverseS b .lo) (inverseS b .hi) (invℚ y) (strict-holds (inverseS b) (invℚ y) (inverse-strict b y k e) .low) (strict-holds (inverseS b) (invℚ y) (inverse-strict b y k e) .high) z w) (not-zero b y k e);
   second = λ z w p q. inverse-bounded b y k e p q;
 }
   where
@@ -89,13 +96,18 @@ quotient-clear a b y k e = record {
         zero-times : (y i : ℚ) → i ≡ 0ℚ → y *ℚ i ≡ 0ℚ
         zero-times y i h = by-eq ℚring y h (by-rep ℚring (y ∷ i ∷ []) (search read) (search read) tt)
 
-div-holds : (a b c : Scalar) (x y : ℚ) → divS a b ≡ Value c → Holds a x → Holds b y → Holds c (x *ℚ invℚ y)
+pub div-strict : (a b c : Scalar) (x y : ℚ) → divS a b ≡ Value c → Holds a x → Holds b y → Strict c (x *ℚ invℚ y)
 unfolding divS
-div-holds a b c x y e h k = go (hasZero b) refl e
+div-strict a b c x y e h k = go (hasZero b) refl e
   where
-    go : (t : Bool) → hasZero b ≡ t → cond t Failed (Value (mulS a (inverseS b))) ≡ Value c → Holds c (x *ℚ invℚ y)
+    go : (t : Bool) → hasZero b ≡ t → cond t Failed (Value (mulS a (inverseS b))) ≡ Value c → Strict c (x *ℚ invℚ y)
     go true p q = let z : _≡_ {A = ℕ} 0 1 = cc in absurd (omega arith)
-    go false p q = let z : mulS a (inverseS b) ≡ c = cc in subst (λ (s : Scalar). Holds s (x *ℚ invℚ y)) z (product-holds a (inverseS b) x (invℚ y) (quotient-clear a b y k p) h (inverse-holds b y k p))
+    go false p q =
+        let z : mulS a (inverseS b) ≡ c = cc in
+        subst (λ (s : Scalar). Strict s (x *ℚ invℚ y)) z (product-strict a (inverseS b) x (invℚ y) (quotient-clear a b y k p) h (strict-holds (inverseS b) (invℚ y) (inverse-strict b y k p)))
+
+pub div-holds : (a b c : Scalar) (x y : ℚ) → divS a b ≡ Value c → Holds a x → Holds b y → Holds c (x *ℚ invℚ y)
+div-holds a b c x y e h k = strict-holds c (x *ℚ invℚ y) (div-strict a b c x y e h k)
 
 -- the divisor holds zero exactly where the test says so
 low-zero : (l : Float) → T (le l zeroF) ↔ Below l 0ℚ
@@ -116,7 +128,7 @@ zero-held b = (
   λ h. and-i (le (b .lo) zeroF) (le zeroF (b .hi)) (low-zero (b .lo) .1 (h .low)) (high-zero (b .hi) .1 (h .high)),
 )
 
-div-fails : (a b : Scalar) → divS a b ≡ Failed ↔ Holds b 0ℚ
+pub div-fails : (a b : Scalar) → divS a b ≡ Failed ↔ Holds b 0ℚ
 unfolding divS
 div-fails a b = (λ e. zero-held b .0 (test (hasZero b) e), λ h. ap (λ (t : Bool). cond t Failed (Value (mulS a (inverseS b)))) (is-true (hasZero b) (zero-held b .1 h)))
   where
@@ -136,9 +148,6 @@ ratio-value = ap (λ (z : ℚ). (4 ÷ 1) *ℚ z) (÷-inv 5 1 (omega arith) (omeg
 ratio-rounds : Rounds (ratioOf 4 5) (4 ÷ 5)
 ratio-rounds = subst (λ (r : Float). Rounds r (4 ÷ 5)) (sym ratio-is) (rounds-at _ _ (4 ÷ 5) ratio-value (div-rounds false 1 (pos 2) false 4 (pos 0)))
 
-ratio-holds : Holds fourFifthsS (4 ÷ 5)
+pub ratio-holds : Holds fourFifthsS (4 ÷ 5)
 unfolding fourFifthsS
-ratio-holds = record { low = lows-down (ratioOf 4 5) (4 ÷ 5) (ratio-rounds .held) (ratio-rounds .lows); high = highs-up (ratioOf 4 5) (4 ÷ 5) (ratio-rounds .held) (ratio-rounds .highs) }
-
-pub geop-encloses : Encloses geop
-geop-encloses = record { add-holds = add-holds; sub-holds = sub-holds; mul-holds = mul-holds; div-holds = div-holds; div-fails = div-fails; ratio-holds = ratio-holds }
+ratio-holds = strict-holds _ (4 ÷ 5) (record { low = lows-down (ratioOf 4 5) (4 ÷ 5) (ratio-rounds .held) (ratio-rounds .lows); high = highs-up (ratioOf 4 5) (4 ÷ 5) (ratio-rounds .held) (ratio-rounds .highs) })

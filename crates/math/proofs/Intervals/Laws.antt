@@ -15,7 +15,7 @@ use Rattle.math.specs.declared.scalars.Scalar.{Scalar}
 use Rattle.math.specs.declared.scalars.Divided.the-variants.{Value, Failed}
 use Rattle.math.specs.Scalars.{Arithmetic, ONE, ZERO, ENTIRE, zeroF, oneF, isExactly, inUnit, isSteady, viaDelta, viaWeights, interpolateS, intersectS}
 use Rattle.math.specs.Values.{value, Below, Above, Holds, isProper}
-use Rattle.math.specs.Encloses.{Encloses, Tame, isClash}
+use Rattle.math.specs.Encloses.{Encloses, Tame}
 use Rattle.math.proofs.Bools.{and-l, and-r, pick}
 use Rattle.math.proofs.Doubles.Values.{value-zero}
 use Rattle.math.proofs.Doubles.Order.{le-below, le-above}
@@ -53,7 +53,7 @@ delta-form α x y = by-rep ℚring (α ∷ x ∷ y ∷ []) (search read depth 9)
 
 module _ (ar : Arithmetic) (E : Encloses ar) where
   -- THE LAW of interpolate
-  pub interpolate-holds : (a b t : Scalar) (α x y : ℚ) → Tame ar a b t → Holds t α → Holds a x → Holds b y → Holds (interpolateS ar a b t) (lerp α x y)
+  pub interpolate-holds : (a b t : Scalar) (α x y : ℚ) → Tame ar E a b t → Holds t α → Holds a x → Holds b y → Holds (interpolateS ar a b t) (lerp α x y)
   unfolding interpolateS
   interpolate-holds a b t α x y w T′ A B =
       pick (λ (s : Scalar). Holds s (lerp α x y)) (isSteady a b t) a (intersectS (viaDelta ar a b t) (viaWeights ar a b t))
@@ -78,7 +78,7 @@ module _ (ar : Arithmetic) (E : Encloses ar) where
     pub sub-proper : T (isProper (ar .sub a b))
     sub-proper = let x = proper-holds a A in let y = proper-holds b B in holds-proper _ _ (E .sub-holds a b (x .0) (y .0) (x .1) (y .1))
 
-    pub mul-proper : T (not (isClash a b)) → T (isProper (ar .mul a b))
+    pub mul-proper : T (not (E .exempt a b)) → T (isProper (ar .mul a b))
     mul-proper n = let x = proper-holds a A in let y = proper-holds b B in holds-proper _ _ (E .mul-holds a b (x .0) (y .0) n (x .1) (y .1))
 
     pub div-proper : (c : Scalar) → ar .div a b ≡ Value c → T (isProper c)

@@ -1,4 +1,4 @@
--- The widened least of the four products of two intervals' bounds is a lower bound of x y, for x in the one and y in the other, and the widened greatest an upper bound, unless
+-- The widened least of the four products of two intervals' bounds lies below x y, for x in the one and y in the other, and the widened greatest above, unless
 -- one interval is the whole line and the other is zero. The upper bound is the mirror image of the lower one. Assumes nothing.
 use mathlib.Core.Path.{_≡_, sym, ap, _∙_, subst}
 use mathlib.Core.List.{List, [], _∷_}
@@ -14,16 +14,16 @@ use Rattle.math.specs.Values.{Below, Above}
 use Rattle.math.specs.Scalars.{least4, most4}
 use Rattle.math.proofs.Doubles.Order.{number, below-neg, above-neg}
 use Rattle.math.proofs.Doubles.Mirror.{neg-neg}
-use Rattle.math.proofs.Doubles.Rounding.{down-below, down-neg}
+use Rattle.math.proofs.Doubles.Rounding.{Under, Over, under-neg, down-below, down-neg}
 use Rattle.math.proofs.Doubles.Least.{least-fits, least-a, least-b, least-c, least-d, most-is}
 use Rattle.math.proofs.Intervals.Corners.{Clear, clear-neg, corner, mul-neg}
 
 -- m is no larger than r, if that is a number
-abbrev Under : Float → Float → Type 0
-Under m r = T (number r) → T (le m r)
+abbrev NoMore : Float → Float → Type 0
+NoMore m r = T (number r) → T (le m r)
 
 module _ (x y : ℚ) (a b c d : Float) (A : Below a x) (B : Above b x) (C : Below c y) (D : Above d y) (u : Clear a b c d) where
-  under-all : (m : Float) → T (fits binary64 m) → Under m (mul binary64 a c) → Under m (mul binary64 a d) → Under m (mul binary64 b c) → Under m (mul binary64 b d) → Below (nextDown m) (x *ℚ y)
+  under-all : (m : Float) → T (fits binary64 m) → NoMore m (mul binary64 a c) → NoMore m (mul binary64 a d) → NoMore m (mul binary64 b c) → NoMore m (mul binary64 b d) → Under (nextDown m) (x *ℚ y)
   under-all m F ac ad bc bd = elim (corner x y a b c d A B C D u) [
     | inl k ↦ elim k [ inl l ↦ down-below m _ _ F (ac (l .is-number)) l | inr l ↦ down-below m _ _ F (ad (l .is-number)) l ]
     | inr k ↦ elim k [ inl l ↦ down-below m _ _ F (bc (l .is-number)) l | inr l ↦ down-below m _ _ F (bd (l .is-number)) l ]
@@ -41,7 +41,7 @@ module _ (x y : ℚ) (a b c d : Float) (A : Below a x) (B : Above b x) (C : Belo
   abbrev bd : Float
   bd = mul binary64 b d
 
-  pub mul-below : Below (nextDown (least4 ac ad bc bd)) (x *ℚ y)
+  pub mul-below : Under (nextDown (least4 ac ad bc bd)) (x *ℚ y)
   mul-below =
       under-all (least4 ac ad bc bd) (least-fits ac ad bc bd (mul-fits binary64 a c) (mul-fits binary64 a d) (mul-fits binary64 b c) (mul-fits binary64 b d))
       (least-a ac ad bc bd) (least-b ac ad bc bd) (least-c ac ad bc bd) (least-d ac ad bc bd)
@@ -51,10 +51,10 @@ module _ (x y : ℚ) (a b c d : Float) (A : Below a x) (B : Above b x) (C : Belo
   abbrev least : Float
   least = least4 (neg (mul binary64 a c)) (neg (mul binary64 a d)) (neg (mul binary64 b c)) (neg (mul binary64 b d))
 
-  turned : (z w : Float) → Under least (neg (mul binary64 z w)) → Under least (mul binary64 (neg z) w)
-  turned z w h = subst (λ (r : Float). Under least r) (sym (mul-neg z w)) h
+  turned : (z w : Float) → NoMore least (neg (mul binary64 z w)) → NoMore least (mul binary64 (neg z) w)
+  turned z w h = subst (λ (r : Float). NoMore least r) (sym (mul-neg z w)) h
 
-  negated : Below (nextDown least) (-ℚ x *ℚ y)
+  negated : Under (nextDown least) (-ℚ x *ℚ y)
   negated =
       let na = neg (mul binary64 a c) in
       let nb = neg (mul binary64 a d) in
@@ -67,8 +67,8 @@ module _ (x y : ℚ) (a b c d : Float) (A : Below a x) (B : Above b x) (C : Belo
   up-neg : (m : Float) → neg (nextDown m) ≡ nextUp (neg m)
   up-neg m = ap (λ (z : Float). neg (nextDown z)) (sym (neg-neg m)) ∙ down-neg (neg m)
 
-  pub mul-above : Above (nextUp (most4 (mul binary64 a c) (mul binary64 a d) (mul binary64 b c) (mul binary64 b d))) (x *ℚ y)
+  pub mul-above : Over (nextUp (most4 (mul binary64 a c) (mul binary64 a d) (mul binary64 b c) (mul binary64 b d))) (x *ℚ y)
   mul-above =
-      subst (λ (r : Float). Above (nextUp r) (x *ℚ y)) (sym (most-is (mul binary64 a c) (mul binary64 a d) (mul binary64 b c) (mul binary64 b d)))
-      (subst (λ (r : Float). Above r (x *ℚ y)) (up-neg least)
-      (subst (λ (v : ℚ). Above (neg (nextDown least)) v) (by-rep ℚring (x ∷ y ∷ []) (search read) (search read) tt) (below-neg (nextDown least) (-ℚ x *ℚ y) negated)))
+      subst (λ (r : Float). Over (nextUp r) (x *ℚ y)) (sym (most-is (mul binary64 a c) (mul binary64 a d) (mul binary64 b c) (mul binary64 b d)))
+      (subst (λ (r : Float). Over r (x *ℚ y)) (up-neg least)
+      (subst (λ (v : ℚ). Over (neg (nextDown least)) v) (by-rep ℚring (x ∷ y ∷ []) (search read) (search read) tt) (under-neg (nextDown least) (-ℚ x *ℚ y) negated)))

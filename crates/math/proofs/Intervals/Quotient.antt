@@ -25,6 +25,7 @@ use Rattle.math.proofs.Doubles.Rounding.{Lows, Highs, lows-mono, highs-
 use Rattle.math.proofs.Doubles.Operations.{div-is, div-rounds}
 use Rattle.math.proofs.Doubles.NextLeast.{nextDown-greatest}
 use Rattle.math.proofs.Intervals.Corners.{round-not}
+use Rattle.math.proofs.Intervals.Strict.{Strict}
 
 -- ---- a bound that is not at most zero
 no-zero : (s : Bool) (m : ℕ) (e : ℤ) → (T (le (fin s m e) zeroF) → ⊥) → 0ℚ <ℚ value (fin s m e)
@@ -120,9 +121,9 @@ not-zero x q h e = elim (split-zero x e) [
         eq : (q i : ℚ) → -ℚ q *ℚ i ≡ 1ℚ → q *ℚ -ℚ i ≡ 1ℚ
         eq q i e = by-eq ℚring 1ℚ e (by-rep ℚring (q ∷ i ∷ []) (search read) (search read) tt)
 
-pub inverse-holds : (x : Scalar) (q : ℚ) → Holds x q → hasZero x ≡ false → Holds (inverseS x) (invℚ q)
+pub inverse-strict : (x : Scalar) (q : ℚ) → Holds x q → hasZero x ≡ false → Strict (inverseS x) (invℚ q)
 unfolding inverseS
-inverse-holds x q h e = elim (split-zero x e) [
+inverse-strict x q h e = elim (split-zero x e) [
   | inl n ↦
       let P = above-zero (x .lo) q (h .low) n in
       made (pos-lows q P (x .hi) (h .high)) (pos-highs q P (x .lo) (h .low) n)
@@ -131,11 +132,11 @@ inverse-holds x q h e = elim (split-zero x e) [
       made (neg-lows q P (x .hi) (h .high) n) (neg-highs q P (x .lo) (h .low))
 ]
   where
-    made : Lows (div binary64 oneF (x .hi)) (invℚ q) → Highs (div binary64 oneF (x .lo)) (invℚ q) → Holds (record { lo = nextDown (div binary64 oneF (x .hi)); hi = nextUp (div binary64 oneF (x .lo)) }) (invℚ q)
+    made : Lows (div binary64 oneF (x .hi)) (invℚ q) → Highs (div binary64 oneF (x .lo)) (invℚ q) → Strict (record { lo = nextDown (div binary64 oneF (x .hi)); hi = nextUp (div binary64 oneF (x .lo)) }) (invℚ q)
     made l g = record { low = lows-down (div binary64 oneF (x .hi)) (invℚ q) (div-fits binary64 oneF (x .hi)) l; high = highs-up (div binary64 oneF (x .lo)) (invℚ q) (div-fits binary64 oneF (x .lo)) g }
 
 -- ---- a reciprocal is never the whole line: above zero its lower bound is at least -1, and below zero its upper bound at most 1
-abbrev minusOne : Float
+abbrev pub minusOne : Float
 minusOne = fin true 1 (pos 0)
 
 nonneg-above : (r : Float) → T (nonneg r) → T (lt minusOne r)
@@ -159,7 +160,7 @@ nonneg-inverse (fin s zero e) q P h = absurd (lt→not-le P (subst (λ (z : ℚ)
 nonneg-inverse (fin true (suc n) e) q P h = absurd (lt→not-le P (≤-trans h (value-nonpos (suc n) e)))
 nonneg-inverse (fin false (suc n) e) q P h = subst (λ (r : Float). T (nonneg r)) (sym (div-is false 1 (pos 0) false n e)) (round-nonneg binary64 (1 * 1 * down e) (suc n * up e * 1))
 
-low-inverse : (hi : Float) (q : ℚ) → 0ℚ <ℚ q → Above hi q → T (le minusOne (nextDown (div binary64 oneF hi)))
+pub low-inverse : (hi : Float) (q : ℚ) → 0ℚ <ℚ q → Above hi q → T (le minusOne (nextDown (div binary64 oneF hi)))
 low-inverse hi q P h = nextDown-greatest (div binary64 oneF hi) (div-fits binary64 oneF hi) minusOne (unfold fits in tt) (nonneg-above (div binary64 oneF hi) (nonneg-inverse hi q P h))
 
 no-low : (x : Float) → T (le minusOne x) → x ≡ inf true → ⊥

@@ -1,4 +1,4 @@
--- The widened sum of two lower bounds is a lower bound of the sum, and so above. Assumes nothing.
+-- The widened sum of two lower bounds lies below the sum of what they bound, and so above. Assumes nothing.
 use mathlib.Core.Path.{_≡_, refl}
 use mathlib.Core.Bool.{true, false}
 use lib.Ieee.{Float, nan, inf, fin, binary64, add}
@@ -7,7 +7,7 @@ use Rattle.exact.specs.Rational.{ℚ, _+ℚ_}
 use Rattle.exact.proofs.Order.{add-mono}
 use Rattle.math.specs.Neighbours.{nextUp, nextDown}
 use Rattle.math.specs.Values.{value, Below, Above}
-use Rattle.math.proofs.Doubles.Rounding.{Lows, Highs, lows-mono, highs-mono, lows-inf, highs-inf, lows-down, highs-up}
+use Rattle.math.proofs.Doubles.Rounding.{Under, Over, Lows, Highs, lows-mono, highs-mono, lows-inf, highs-inf, lows-down, highs-up}
 use Rattle.math.proofs.Doubles.Operations.{add-rounds}
 
 module _ (p q : ℚ) where
@@ -37,8 +37,8 @@ module _ (p q : ℚ) where
   add-highs (fin s m e) (inf true) h k = absurd k
   add-highs (fin s m e) (fin t n d) h k = highs-mono (add binary64 (fin s m e) (fin t n d)) (value (fin s m e) +ℚ value (fin t n d)) (p +ℚ q) (add-mono h k) (add-rounds s m e t n d .highs)
 
-  pub add-below : (x y : Float) → Below x p → Below y q → Below (nextDown (add binary64 x y)) (p +ℚ q)
+  pub add-below : (x y : Float) → Below x p → Below y q → Under (nextDown (add binary64 x y)) (p +ℚ q)
   add-below x y h k = lows-down (add binary64 x y) (p +ℚ q) (add-fits binary64 x y) (add-lows x y h k)
 
-  pub add-above : (x y : Float) → Above x p → Above y q → Above (nextUp (add binary64 x y)) (p +ℚ q)
+  pub add-above : (x y : Float) → Above x p → Above y q → Over (nextUp (add binary64 x y)) (p +ℚ q)
   add-above x y h k = highs-up (add binary64 x y) (p +ℚ q) (add-fits binary64 x y) (add-highs x y h k)
