@@ -6,14 +6,14 @@ use lib.IntN.{ℤ, pos}
 use lib.Dec.{T}
 use lib.Ieee.{Float, nan, inf, fin, binary64, lt, le, eq, sub}
 use Rattle.exact.specs.Rational.{ℚ, 0ℚ, 1ℚ, _≤ℚ_, _<ℚ_}
-use Rattle.exact.proofs.Order.{le-refl, le-trans as ≤-trans, lt-le-trans, le-lt-trans}
+use Rattle.exact.proofs.Order.{le-refl, le-antisym, le-trans as ≤-trans, lt-le-trans, le-lt-trans}
 use Rattle.exact.proofs.Embed.{÷-one}
 use Rattle.math.specs.Picks.{minF, maxF}
 use Rattle.math.specs.declared.scalars.Scalar.{Scalar}
-use Rattle.math.specs.Scalars.{sharp, ZERO, ONE, ENTIRE, zeroF, oneF, couldBeEqual, couldBeGreater, couldBeLess, definitelyGreater, definitelyLess, isSubsetOf, isExactly, unionS, intersectS}
+use Rattle.math.specs.Scalars.{sharp, ZERO, ONE, ENTIRE, zeroF, oneF, couldBeEqual, couldBeGreater, couldBeLess, definitelyGreater, definitelyLess, isSame, isSubsetOf, isExactly, unionS, intersectS}
 use Rattle.math.specs.Values.{value, Below, Above, Holds, isProper}
 use Rattle.math.proofs.Bools.{and-i, and-l, and-r, pick}
-use Rattle.math.proofs.Doubles.Values.{value-zero, lt→value, le→value}
+use Rattle.math.proofs.Doubles.Values.{value-zero, lt→value, eq→value}
 use Rattle.math.proofs.Doubles.Order.{number, below-number, above-number, le-below, le-above, meet-le, total-order}
 use Rattle.math.proofs.Doubles.Least.{min-either, max-either, min-left, min-second, max-left, max-second}
 
@@ -71,6 +71,20 @@ module _ (a b : Scalar) (x y : ℚ) (h : Holds a x) (k : Holds b y) where
 -- two that could not be equal have no number in common
 pub could-not-equal : (a b : Scalar) (x : ℚ) → couldBeEqual a b ≡ false → Holds a x → Holds b x → ⊥
 could-not-equal a b x e h k = subst T e (and-i (le (a .lo) (b .hi)) (le (b .lo) (a .hi)) (meet-le (a .lo) (b .hi) x (h .low) (k .high)) (meet-le (b .lo) (a .hi) x (k .low) (h .high)))
+
+-- an interval with the bounds of a sharp one holds its number alone
+pub same-sharp : (a : Scalar) (s : Bool) (m : ℕ) (e : ℤ) (x : ℚ) → T (isSame a (sharp (fin s m e))) → Holds a x → x ≡ value (fin s m e)
+same-sharp a s m e x t h = le-antisym (high (a .hi) (and-r (eq (a .lo) (fin s m e)) (eq (a .hi) (fin s m e)) t) (h .high)) (low (a .lo) (and-l (eq (a .lo) (fin s m e)) (eq (a .hi) (fin s m e)) t) (h .low))
+  where
+    low : (f : Float) → T (eq f (fin s m e)) → Below f x → value (fin s m e) ≤ℚ x
+    low nan t b = absurd b
+    low (inf u) t b = unfold eq in absurd t
+    low (fin u n d) t b = subst (λ (z : ℚ). z ≤ℚ x) (eq→value u n d s m e t) b
+
+    high : (f : Float) → T (eq f (fin s m e)) → Above f x → x ≤ℚ value (fin s m e)
+    high nan t b = absurd b
+    high (inf u) t b = unfold eq in absurd t
+    high (fin u n d) t b = subst (λ (z : ℚ). x ≤ℚ z) (eq→value u n d s m e t) b
 
 pub subset-holds : (a b : Scalar) (x : ℚ) → T (isSubsetOf a b) → Holds a x → Holds b x
 subset-holds a b x t h = record {

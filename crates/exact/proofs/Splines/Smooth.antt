@@ -1,0 +1,240 @@
+-- Continuity: at a knot inside the domain that occurs at most degree times, the span on the left and the span on the right have one value.
+use mathlib.Core.Path.{_≡_, refl, sym, _∙_, ap, subst}
+use mathlib.Core.List.{[], _∷_}
+use mathlib.Core.Logic.{_⊎_, inl, inr, ⊎-elim}
+use Prim.Native.Nat.{ℕ, zero, suc, _+_, _-_, _≤_, _<_}
+use native.Mathlib.Nat.{eq-or-lt-of-le, lt-of-not-le}
+use native.Mathlib.Decide.{decLe}
+use native.Mathlib.Omega.{arith}
+use Rattle.exact.specs.Ring.{by-rep, by-eq, read}
+use Rattle.exact.specs.Rational.{ℚ, _*ℚ_, -ℚ_, _-ℚ_, 1ℚ, invℚ, lerp, ratio, _≤ℚ_, _<ℚ_, lt→not-le}
+use Rattle.exact.specs.Spline.{Traced, round, boor, curve, Sorted, left, right, Shut, Fit, Runs, On}
+use Rattle.exact.specs.Cut.{Thin}
+use Rattle.exact.proofs.Field.{ℚring, *ℚ-comm}
+use Rattle.exact.proofs.Order.{le-refl, le-trans, le-antisym, le-or-lt, lt-le-trans, le-lt-trans, sub-inv}
+use Rattle.exact.proofs.Splines.Boor.{lt-cast}
+use Rattle.exact.proofs.Splines.Drawn.{runs-traced}
+
+-- ---- at a knot that is the parameter itself a round picks one of the two values
+lerp-at-0 : (t i x y : ℚ) → lerp ((t -ℚ t) *ℚ i) x y ≡ x
+unfolding lerp
+lerp-at-0 t i x y = by-rep ℚring (t ∷ i ∷ x ∷ y ∷ []) (search read depth 9) (search read depth 9) tt
+
+lerp-at-1 : (a x y : ℚ) → a ≡ 1ℚ → lerp a x y ≡ y
+unfolding lerp
+lerp-at-1 a x y e = by-eq ℚring (y -ℚ x) e (by-rep ℚring (a ∷ x ∷ y ∷ []) (search read depth 9) (search read depth 9) tt)
+
+pub ratio-start : (t v x y : ℚ) → lerp (ratio t t v) x y ≡ x
+unfolding ratio
+ratio-start t v x y = lerp-at-0 t (invℚ (v -ℚ t)) x y
+
+pub ratio-end : (t v x y : ℚ) → v <ℚ t → lerp (ratio t v t) x y ≡ y
+unfolding ratio
+ratio-end t v x y h = lerp-at-1 ((t -ℚ v) *ℚ invℚ (t -ℚ v)) x y (*ℚ-comm (t -ℚ v) (invℚ (t -ℚ v)) ∙ sub-inv h)
+
+-- ---- the knots m + p + 1 to m + p + s are t
+module _ (u : ℕ → ℚ) (p : ℕ) (c : ℕ → ℚ) (t : ℚ) where
+  abbrev b : ℕ → ℕ → ℚ
+  b = boor u p c (λ _. t)
+
+  pick-left : (r j : ℕ) → u (j + suc r) ≡ t → b (suc r) j ≡ b r j
+  unfolding boor round
+  pick-left r j e = ap (λ (z : ℚ). lerp (ratio t z (u (j + suc p))) (b r j) (b r (suc j))) e ∙ ratio-start t (u (j + suc p)) (b r j) (b r (suc j))
+
+  pick-right : (r j : ℕ) → u (j + suc p) ≡ t → u (j + suc r) <ℚ t → b (suc r) j ≡ b r (suc j)
+  unfolding boor round
+  pick-right r j e h = ap (λ (z : ℚ). lerp (ratio t (u (j + suc r)) z) (b r j) (b r (suc j))) e ∙ ratio-end t (u (j + suc r)) (b r j) (b r (suc j)) h
+
+  -- s rounds in a row
+  stay : (s q r j : ℕ) → s + r ≡ q → ((i : ℕ) → j + r < i → i ≤ j + q → u i ≡ t) → b q j ≡ b r j
+  stay zero q r j e h = ap (λ (z : ℕ). b z j) (eq q r e)
+    where
+      eq : (q r : ℕ) → zero + r ≡ q → q ≡ r
+      eq q r e = omega arith
+  stay (suc s) zero r j e h = absurd (off s r e)
+    where
+      off : (s r : ℕ) → suc s + r ≡ zero → ⊥
+      off s r e = omega arith
+  stay (suc s) (suc q) r j e h = pick-left q j (h (j + suc q) (omega arith) (omega arith)) ∙ stay s q r j (omega arith) (λ i m n. h i m (omega arith))
+
+  move : (s q r j : ℕ) → s + r ≡ q → u (j + q) <ℚ t → ((i : ℕ) → j + p < i → i ≤ j + p + s → u i ≡ t) → b q j ≡ b r (s + j)
+  move zero q r j e k h = (λ i. b (eq q r e i) (eq′ j i))
+    where
+      eq : (q r : ℕ) → zero + r ≡ q → q ≡ r
+      eq q r e = omega arith
+
+      eq′ : (j : ℕ) → j ≡ zero + j
+      eq′ j = omega arith
+  move (suc s) zero r j e k h = absurd (off s r e)
+    where
+      off : (s r : ℕ) → suc s + r ≡ zero → ⊥
+      off s r e = omega arith
+  move (suc s) (suc q) r j e k h =
+      pick-right q j (h (j + suc p) (omega arith) (omega arith)) k
+      ∙ move s q r (suc j) (omega arith) (subst (λ (z : ℕ). u z <ℚ t) (ix j q) k) (λ i m n. h i (omega arith) (omega arith))
+      ∙ ap (b r) (ix′ s j)
+    where
+      ix : (j q : ℕ) → j + suc q ≡ suc j + q
+      ix j q = omega arith
+
+      ix′ : (s j : ℕ) → s + suc j ≡ suc s + j
+      ix′ s j = omega arith
+
+  -- the span of place m ends at t, and that of the place s further on begins there: they have one value
+  pub smooth : (s m : ℕ) → s ≤ p → u (m + p) <ℚ t → ((i : ℕ) → m + p < i → i ≤ s + m + p → u i ≡ t) → curve p u c m t ≡ curve p u c (s + m) t
+  smooth s m h k e = move s p (p - s) m (sum s p h) k (λ i a o. e i a (omega arith))
+      ∙ sym (stay s p (p - s) (s + m) (sum s p h) (λ i a o. e i (far s p m i h a) o))
+    where
+      sum : (s p : ℕ) → s ≤ p → s + (p - s) ≡ p
+      sum s p h = omega arith
+
+      far : (s p m i : ℕ) → s ≤ p → s + m + (p - s) < i → m + p < i
+      far s p m i h a = omega arith
+
+-- ---- a knot strictly inside the domain occurs at most degree times
+module _ (p n : ℕ) (u : ℕ → ℚ) (srt : Sorted u (n + p)) (thin : Thin p n u) (t : ℚ) where
+  agree : (l m : ℕ) → l < m → m + p < n → u (l + p) <ℚ u (suc (l + p)) → t ≤ℚ u (suc (l + p)) → u (m + p) ≤ℚ t → t <ℚ u n → (c : ℕ → ℚ) → curve p u c l t ≡ curve p u c m t
+  agree l m h o w up down tn c = smooth u p c t (m - l) l s≤p l<t (λ i a b. eq i a (omega arith)) ∙ ap (λ (z : ℕ). curve p u c z t) (sum l m h)
+    where
+      sum : (l m : ℕ) → l < m → m - l + l ≡ m
+      sum l m h = omega arith
+
+      eq : (i : ℕ) → l + p < i → i ≤ m + p → u i ≡ t
+      eq i a b = le-antisym (le-trans (srt .up i (m + p) b (omega arith)) down) (le-trans up (srt .up (suc (l + p)) i a (omega arith)))
+
+      l<t : u (l + p) <ℚ t
+      l<t = lt-le-trans w (subst (λ (z : ℚ). z ≤ℚ t) (sym (eq (suc (l + p)) (omega arith) (omega arith))) (le-refl t))
+
+      here : u (suc (l + p)) ≡ t
+      here = eq (suc (l + p)) (omega arith) (omega arith)
+
+      p<t : u p <ℚ t
+      p<t = le-lt-trans (srt .up p (l + p) (omega arith) (omega arith)) l<t
+
+      next : t <ℚ u (suc (l + p) + p)
+      next = lt-cast here refl (thin .apart (suc (l + p)) (omega arith) (lt-cast refl (sym here) p<t) (lt-cast (sym here) refl tn))
+
+      s≤p : m - l ≤ p
+      s≤p = elim (decLe (m - l) p) [
+        | yes k ↦ k
+        | no k ↦ absurd (lt→not-le next (le-trans (srt .up (suc (l + p) + p) (m + p) (ix (lt-of-not-le k)) (omega arith)) down))
+      ]
+        where
+          ix : p < m - l → suc (l + p) + p ≤ m + p
+          ix k = omega arith
+
+  -- the span that ends at t, looked for downwards, and the span that begins at t, looked for upwards
+  record Ends (d : ℕ) : Type 0 where
+    at : ℕ
+    less : at < d
+    below : u (at + p) <ℚ t
+    reach : t ≤ℚ u (suc (at + p))
+
+  find-end : u p <ℚ t → (d : ℕ) → t ≤ℚ u (d + p) → Ends d
+  find-end h zero k = absurd (lt→not-le h (subst (λ (z : ℕ). t ≤ℚ u z) (ix p) k))
+    where
+      ix : (p : ℕ) → zero + p ≡ p
+      ix p = omega arith
+  find-end h (suc d) k = go (find-end h d) (le-or-lt t (u (d + p)))
+    where
+      ix : (d : ℕ) → suc d + p ≡ suc (d + p)
+      ix d = omega arith
+
+      go : (t ≤ℚ u (d + p) → Ends d) → (t ≤ℚ u (d + p)) ⊎ (u (d + p) <ℚ t) → Ends (suc d)
+      go rec (inl m) = let e : Ends d = rec m in record { at = e .at; less = more (e .at) (e .less); below = e .below; reach = e .reach }
+        where
+          more : (a : ℕ) → a < d → a < suc d
+          more a h = omega arith
+      go rec (inr m) = record { at = d; less = omega arith; below = m; reach = subst (λ (z : ℕ). t ≤ℚ u z) (ix d) k }
+
+  record Begins (d : ℕ) : Type 0 where
+    at : ℕ
+    more : d ≤ at
+    fits : at + p < n
+    reach : u (at + p) ≤ℚ t
+    above : t <ℚ u (suc (at + p))
+
+  find-begin : t <ℚ u n → (f d : ℕ) → f + d + p ≡ n → u (d + p) ≤ℚ t → Begins d
+  find-begin h zero d e k = absurd (lt→not-le h (subst (λ (z : ℕ). u z ≤ℚ t) (ix d e) k))
+    where
+      ix : (d : ℕ) → zero + d + p ≡ n → d + p ≡ n
+      ix d e = omega arith
+  find-begin h (suc f) d e k = go (find-begin h f (suc d) (omega arith)) (le-or-lt (u (suc (d + p))) t)
+    where
+      ix : suc (d + p) ≡ suc d + p
+      ix = omega arith
+
+      go : (u (suc d + p) ≤ℚ t → Begins (suc d)) → (u (suc (d + p)) ≤ℚ t) ⊎ (t <ℚ u (suc (d + p))) → Begins d
+      go rec (inl m) = let b : Begins (suc d) = rec (subst (λ (z : ℕ). u z ≤ℚ t) ix m) in record { at = b .at; more = less (b .at) (b .more); fits = b .fits; reach = b .reach; above = b .above }
+        where
+          less : (a : ℕ) → suc d ≤ a → d ≤ a
+          less a h = omega arith
+      go rec (inr m) = record { at = d; more = omega arith; fits = omega arith; reach = k; above = m }
+
+  -- inside the domain a point of the curve is one from the left and one from the right
+  pub from-left : (c : ℕ → ℕ → ℚ) (y : ℕ → ℚ) → u p <ℚ t → t <ℚ u n → On p n u c t y → Runs left p n u c t y
+  unfolding Fit
+  from-left c y h k w = ⊎-elim at-knot (λ (m : u (w .place + p) <ℚ t). record { place = w .place; inside = w .inside; fits = record { from = m; upto = w .fits .upto }; there = w .there }) (le-or-lt t (u (w .place + p)))
+    where
+      at-knot : t ≤ℚ u (w .place + p) → Runs left p n u c t y
+      at-knot m = go (find-end h (w .place) m)
+        where
+          lt : (a b : ℕ) → a < b → b + p < n → a + p < n
+          lt a b h k = omega arith
+
+          go : Ends (w .place) → Runs left p n u c t y
+          go e = record {
+            place = e .at;
+            inside = lt (e .at) (w .place) (e .less) (w .inside);
+            fits = record { from = e .below; upto = e .reach };
+            there = λ a. agree (e .at) (w .place) (e .less) (w .inside) (lt-le-trans (e .below) (e .reach)) (e .reach) (w .fits .from) k (c a) ∙ w .there a;
+          }
+
+  pub from-right : (c : ℕ → ℕ → ℚ) (y : ℕ → ℚ) → t <ℚ u n → On p n u c t y → Runs right p n u c t y
+  unfolding Fit
+  from-right c y k w = ⊎-elim at-knot (λ (m : t <ℚ u (suc (w .place + p))). record { place = w .place; inside = w .inside; fits = record { from = w .fits .from; upto = m }; there = w .there }) (le-or-lt (u (suc (w .place + p))) t)
+    where
+      ix : suc (w .place + p) ≡ suc (w .place) + p
+      ix = omega arith
+
+      fuel : (m : ℕ) → m + p < n → n - (suc m + p) + suc m + p ≡ n
+      fuel m h = omega arith
+
+      go : Begins (suc (w .place)) → Runs right p n u c t y
+      go e = record {
+        place = e .at;
+        inside = e .fits;
+        fits = record { from = e .reach; upto = e .above };
+        there = λ a. sym (agree (w .place) (e .at) (e .more) (e .fits) (w .fits .wide) (w .fits .upto) (e .reach) k (c a)) ∙ w .there a;
+      }
+
+      at-knot : u (suc (w .place + p)) ≤ℚ t → Runs right p n u c t y
+      at-knot m = go (find-begin k (n - (suc (w .place) + p)) (suc (w .place)) (fuel (w .place) (w .inside)) (subst (λ (z : ℕ). u z ≤ℚ t) ix m))
+
+  -- the value at t does not depend on the span
+  after-one : (c : ℕ → ℚ) (l m : ℕ) → l < m → m + p < n → Shut (u (l + p)) (u (suc (l + p))) t → Shut (u (m + p)) (u (suc (m + p))) t → curve p u c l t ≡ curve p u c m t
+  after-one c l m h o v w = agree l m h o (v .wide) (v .upto) (w .from) tn c
+    where
+      tn : t <ℚ u n
+      tn = le-lt-trans (le-trans (v .upto) (srt .up (suc (l + p)) (m + p) (omega arith) (omega arith))) (lt-le-trans (w .wide) (srt .up (suc (m + p)) n (omega arith) (omega arith)))
+
+  pub one-value : (c : ℕ → ℕ → ℚ) (y z : ℕ → ℚ) → On p n u c t y → On p n u c t z → (a : ℕ) → y a ≡ z a
+  unfolding Fit
+  one-value c y z v w a = sym (v .there a) ∙ same ∙ w .there a
+    where
+      same : curve p u (c a) (v .place) t ≡ curve p u (c a) (w .place) t
+      same = elim (decLe (suc (v .place)) (w .place)) [
+        | yes h ↦ after-one (c a) (v .place) (w .place) h (w .inside) (v .fits) (w .fits)
+        | no n ↦ go (eq-or-lt-of-le (le (lt-of-not-le n)))
+      ]
+        where
+          le : w .place < suc (v .place) → w .place ≤ v .place
+          le h = omega arith
+
+          go : (w .place ≡ v .place) ⊎ (w .place < v .place) → curve p u (c a) (v .place) t ≡ curve p u (c a) (w .place) t
+          go (inl e) = ap (λ (m : ℕ). curve p u (c a) m t) (sym e)
+          go (inr h) = sym (after-one (c a) (w .place) (v .place) h (v .inside) (w .fits) (v .fits))
+
+  -- before the domain's end the curve with closed spans is the curve on paper
+  pub on-traced : (c : ℕ → ℕ → ℚ) (y : ℕ → ℚ) → t <ℚ u n → On p n u c t y → Traced p n u c t y
+  on-traced c y k w = runs-traced p n u c t y (from-right c y k w)

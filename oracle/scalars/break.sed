@@ -1,0 +1,33 @@
+# Makes each function of exports.txt wrong, most of them for few operands: `run --break` must see each.
+/fn ours_next_up/,/^}/ s/scalars::next_up(x)/if x == 0.0 { x } else { scalars::next_up(x) }/
+/fn ours_next_down/,/^}/ s/scalars::next_down(x)/if x - x == 0.0 { scalars::next_down(x) } else { x }/
+/fn ours_is_nan/,/^}/ s/scalars::is_nan(x)/x != x \&\& x == x/
+/fn ours_min/,/^}/ s/scalars::min(x, y)/if y < x { y } else { x }/
+/fn ours_max/,/^}/ s/scalars::max(x, y)/if x < y { y } else { x }/
+/fn ours_sqrt/,/^}/ s/math::root::sqrt(x)/if x < 1.0 { x * math::root::sqrt(1.0 \/ x) } else { math::root::sqrt(x) }/
+/fn ours_zero/,/^}/ s/ZERO/ONE/
+/fn ours_one/,/^}/ s/ONE/TWO/
+/fn ours_two/,/^}/ s/TWO/ONE/
+/fn ours_entire/,/^}/ s/Scalar::entire()/Scalar::entire().lower()/
+/fn ours_from_f64/,/^}/ s/Scalar::from_f64(x)/Scalar::from_f64(x \/ 3.0 * 3.0)/
+/fn ours_from_ratio/,/^}/ s/Scalar::from_ratio(num, den)/Scalar::from_f64(1.0).div(Scalar::from_f64(den as f64))/
+/fn ours_to_f64/,/^}/ s/\.to_f64()/.lower().to_f64()/
+/fn ours_is_sharp/,/^}/ s/\.is_sharp()/.width().has_zero()/
+/fn ours_width/,/^}/ s/\.width()/.upper()/
+/fn ours_lower/,/^}/ s/\.lower()/.upper()/
+/fn ours_upper/,/^}/ s/\.upper()/.lower()/
+/fn ours_sharpen/,/^}/ s/\.sharpen()/.lower()/
+/fn ours_add/,/^}/ s/\.add(/.sub(/
+/fn ours_sub/,/^}/ s/\.sub(/.add(/
+/fn ours_mul/,/^}/ s/\.mul(/.union(/
+/fn ours_div/,/^}/ s/put_divided(\(.*\)\.div(\(.*\)), out)/put(\1.mul(\2.inverse()), out);\n    true/
+/fn ours_intersect/,/^}/ s/\.intersect(/.union(/
+/fn ours_union/,/^}/ s/\.union(/.intersect(/
+/fn ours_could_be_equal/,/^}/ s/\.could_be_equal(/.is_subset_of(/
+/fn ours_could_be_greater/,/^}/ s/\.could_be_greater(/.definitely_greater(/
+/fn ours_could_be_less/,/^}/ s/\.could_be_less(/.definitely_less(/
+/fn ours_definitely_greater/,/^}/ s/\.definitely_greater(/.could_be_greater(/
+/fn ours_definitely_less/,/^}/ s/\.definitely_less(/.could_be_less(/
+/fn ours_is_subset_of/,/^}/ s/\.is_subset_of(/.is_exactly(/
+/fn ours_is_exactly/,/^}/ s/\.is_exactly(/.is_subset_of(/
+/fn ours_interpolate/,/^}/ s/{ lo: cl, hi: ch }/{ lo: scalars::max(cl, 0.0), hi: ch }/

@@ -1,0 +1,269 @@
+//! Runs each operation of the crate math and of the Rust on the same operands, and compares what they give.
+//! Usage: compare COUNT [--time]. The script `run` builds it.
+#![allow(dead_code)]
+
+// The Rust as it stands: `run` makes the link target/oracle/scalars/rust to its folder.
+#[path = "../../target/oracle/scalars/rust/geop_error.rs"]
+mod geop_error;
+#[path = "../../target/oracle/scalars/rust/scalars/mod.rs"]
+mod scalars;
+
+mod calls;
+mod operands;
+
+use calls::{Answer, Call, *};
+use operands::{Operands, Takes};
+use std::hint::black_box;
+use std::time::Instant;
+
+const SEED: u64 = 0x9e0b_2024_0517_c0de;
+
+struct Operation {
+    name: &'static str,
+    takes: Takes,
+    ours: Call,
+    rust: Call,
+    compared: u64,
+    differ: u64,
+    signs: u64,
+    first: Vec<String>,
+}
+
+fn operations() -> Vec<Operation> {
+    macro_rules! table {
+        ($($takes:ident $call:ident $name:literal $ours:ident $rust:ident;)*) => {
+            vec![$(Operation {
+                name: $name,
+                takes: Takes::$takes,
+                ours: Call::$call($ours),
+                rust: Call::$call($rust),
+                compared: 0,
+                differ: 0,
+                signs: 0,
+                first: Vec::new(),
+            }),*]
+        };
+    }
+    table! {
+        Nothing S0 "ZERO" ours_zero rust_zero;
+        Nothing S0 "ONE" ours_one rust_one;
+        Nothing S0 "TWO" ours_two rust_two;
+        Nothing S0 "ENTIRE" ours_entire rust_entire;
+        Number F1 "next_up" ours_next_up rust_next_up;
+        Number F1 "next_down" ours_next_down rust_next_down;
+        Number B1 "is_nan" ours_is_nan rust_is_nan;
+        Number S1 "from_f64" ours_from_f64 rust_from_f64;
+        Root F1 "sqrt" ours_sqrt rust_sqrt;
+        Numbers F2 "min" ours_min rust_min;
+        Numbers F2 "max" ours_max rust_max;
+        Ratio R2 "from_ratio" ours_from_ratio rust_from_ratio;
+        Interval F2 "to_f64" ours_to_f64 rust_to_f64;
+        Interval B2 "is_sharp" ours_is_sharp rust_is_sharp;
+        Interval S2 "width" ours_width rust_width;
+        Interval S2 "lower" ours_lower rust_lower;
+        Interval S2 "upper" ours_upper rust_upper;
+        Interval S2 "sharpen" ours_sharpen rust_sharpen;
+        Intervals S4 "add" ours_add rust_add;
+        Intervals S4 "sub" ours_sub rust_sub;
+        Intervals S4 "mul" ours_mul rust_mul;
+        Intervals R4 "div" ours_div rust_div;
+        Intervals S4 "intersect" ours_intersect rust_intersect;
+        Intervals S4 "union" ours_union rust_union;
+        Intervals B4 "could_be_equal" ours_could_be_equal rust_could_be_equal;
+        Intervals B4 "could_be_greater" ours_could_be_greater rust_could_be_greater;
+        Intervals B4 "could_be_less" ours_could_be_less rust_could_be_less;
+        Intervals B4 "definitely_greater" ours_definitely_greater rust_definitely_greater;
+        Intervals B4 "definitely_less" ours_definitely_less rust_definitely_less;
+        Intervals B4 "is_subset_of" ours_is_subset_of rust_is_subset_of;
+        Intervals B4 "is_exactly" ours_is_exactly rust_is_exactly;
+        Alpha S6 "interpolate" ours_interpolate rust_interpolate;
+    }
+}
+
+#[derive(Clone, Copy, PartialEq, PartialOrd)]
+enum Verdict {
+    Same,
+    ZeroSign,
+    Differ,
+}
+
+fn numbers(a: f64, b: f64) -> Verdict {
+    if a.to_bits() == b.to_bits() || (a.is_nan() && b.is_nan()) {
+        Verdict::Same
+    } else if a == 0.0 && b == 0.0 {
+        Verdict::ZeroSign
+    } else {
+        Verdict::Differ
+    }
+}
+
+fn verdict(a: Answer, b: Answer) -> Verdict {
+    match (a, b) {
+        (Answer::Number(a), Answer::Number(b)) => numbers(a, b),
+        (Answer::Interval(a), Answer::Interval(b)) => {
+            let (lo, hi) = (numbers(a[0], b[0]), numbers(a[1], b[1]));
+            if lo > hi { lo } else { hi }
+        }
+        (Answer::Truth(a), Answer::Truth(b)) if a == b => Verdict::Same,
+        (Answer::Failed, Answer::Failed) => Verdict::Same,
+        _ => Verdict::Differ,
+    }
+}
+
+fn hex(v: &[f64]) -> String {
+    v.iter().map(|x| format!("{:016x}", x.to_bits())).collect::<Vec<_>>().join(" ")
+}
+
+fn show(a: Answer) -> String {
+    match a {
+        Answer::Number(x) => hex(&[x]),
+        Answer::Interval(v) => hex(&v),
+        Answer::Truth(b) => b.to_string(),
+        Answer::Failed => "failed".to_string(),
+    }
+}
+
+fn compare(list: &mut [Operation], v: &[f64; 6]) {
+    for o in list {
+        let (ours, rust) = (o.ours.on(v), o.rust.on(v));
+        o.compared += 1;
+        let note = match verdict(ours, rust) {
+            Verdict::Same => continue,
+            Verdict::ZeroSign => {
+                o.signs += 1;
+                if o.signs > 1 {
+                    continue;
+                }
+                " (a zero's sign only)"
+            }
+            Verdict::Differ => {
+                o.differ += 1;
+                if o.differ > 3 {
+                    continue;
+                }
+                ""
+            }
+        };
+        let taken = if o.takes == Takes::Ratio { format!("{}/{}", v[0], v[1]) } else { hex(&v[..o.takes.count()]) };
+        o.first.push(format!("    [{taken}] ours {}, the Rust's {}{note}", show(ours), show(rust)));
+    }
+}
+
+/// All tuples of the edges, then `count` random ones, for the operations that take the same.
+fn run(list: &mut [Operation], takes: Takes, count: u64) {
+    let mut v = [0.0; 6];
+    let n = takes.count();
+    let edges = takes.edges();
+    for i in 0..edges.len().pow(n as u32) {
+        let mut rest = i;
+        for x in &mut v[..n] {
+            *x = edges[rest % edges.len()];
+            rest /= edges.len();
+        }
+        compare(list, &v);
+    }
+    if takes != Takes::Nothing {
+        let mut operands = Operands::new(SEED ^ (takes as u64) << 32);
+        for _ in 0..count {
+            operands.fill(takes, &mut v);
+            compare(list, &v);
+        }
+    }
+}
+
+fn grouped(n: u64) -> String {
+    let digits = n.to_string();
+    let mut out = String::new();
+    for (i, c) in digits.chars().enumerate() {
+        if i > 0 && (digits.len() - i) % 3 == 0 {
+            out.push(',');
+        }
+        out.push(c);
+    }
+    out
+}
+
+/// What min and max make of two zeros of different signs.
+fn zeros() {
+    let sign = |x: f64| if x.is_sign_negative() { "-0" } else { "+0" };
+    println!("of two zeros        min(+0,-0) min(-0,+0) max(+0,-0) max(-0,+0)");
+    let line = |name, a: f64, b: f64, c: f64, d: f64| println!("  {name:<17} {:>10} {:>10} {:>10} {:>10}", sign(a), sign(b), sign(c), sign(d));
+    let (p, m) = (black_box(0.0), black_box(-0.0));
+    line("ours", ours_min(p, m), ours_min(m, p), ours_max(p, m), ours_max(m, p));
+    line("the Rust's", rust_min(p, m), rust_min(m, p), rust_max(p, m), rust_max(m, p));
+    line("  on constants", 0f64.min(-0.0), (-0f64).min(0.0), 0f64.max(-0.0), (-0f64).max(0.0));
+}
+
+/// Nanoseconds for a call, the least of some rounds over the same operands.
+fn nanoseconds(call: Call, operands: &[[f64; 6]]) -> f64 {
+    let call = black_box(call);
+    let rounds = (0..60).map(|_| {
+        let start = Instant::now();
+        for v in operands {
+            black_box(call.on(v));
+        }
+        start.elapsed().as_nanos() as f64 / operands.len() as f64
+    });
+    rounds.fold(f64::INFINITY, f64::min)
+}
+
+fn time(list: &[Operation]) {
+    println!("nanoseconds for a call, through a pointer to an extern \"C\" function on both sides; the least of 60 rounds");
+    println!("{:<20} {:>8} {:>8} {:>8}", "operation", "ours", "Rust", "ratio");
+    let mut operands = Operands::new(SEED);
+    // Ordered intervals of moderate numbers above zero, so that no division fails; alphas from 0 to 1.
+    let tuples: Vec<[f64; 6]> = (0..20_000)
+        .map(|_| {
+            let mut v = [0.0; 6];
+            for x in &mut v {
+                *x = (1 + operands.random.below(1 << 53)) as f64 / (1u64 << 53) as f64;
+            }
+            let mut w = [v[0] * 8.0, v[0] * 8.0 + v[1], v[2] * 8.0, v[2] * 8.0 + v[3], v[4], v[5]];
+            if w[4] > w[5] {
+                w.swap(4, 5);
+            }
+            w
+        })
+        .collect();
+    // The first does nothing but copy: what a call and the loop around it cost.
+    for name in ["lower", "add", "mul", "div", "interpolate", "sqrt"] {
+        let o = list.iter().find(|o| o.name == name).unwrap();
+        let (ours, rust) = (nanoseconds(o.ours, &tuples), nanoseconds(o.rust, &tuples));
+        println!("{name:<20} {ours:>8.2} {rust:>8.2} {:>8.2}", ours / rust);
+    }
+}
+
+fn main() {
+    let words: Vec<String> = std::env::args().skip(1).collect();
+    let count: u64 = words[0].parse().expect("a count");
+    let mut list = operations();
+    println!("seed {SEED:016x}, {} random operands beside the edges", grouped(count));
+    let start = Instant::now();
+    for takes in Takes::ALL {
+        let from = list.iter().position(|o| o.takes == takes).unwrap();
+        let to = list.iter().rposition(|o| o.takes == takes).unwrap();
+        run(&mut list[from..=to], takes, count);
+    }
+    println!("{:<20} {:>14} {:>14} {:>16}", "operation", "operands", "differences", "zero's sign only");
+    for o in &list {
+        println!("{:<20} {:>14} {:>14} {:>16}", o.name, grouped(o.compared), grouped(o.differ), grouped(o.signs));
+        for line in &o.first {
+            println!("{line}");
+        }
+    }
+    println!("{:.0} seconds", start.elapsed().as_secs_f64());
+    zeros();
+    if words.iter().any(|w| w == "--time") {
+        time(&list);
+    }
+    let same: Vec<_> = list.iter().filter(|o| o.differ == 0).map(|o| o.name).collect();
+    if same.is_empty() {
+        println!("every operation differs somewhere");
+    } else if same.len() < list.len() {
+        println!("no difference in: {}", same.join(" "));
+    }
+    let compared: u64 = list.iter().map(|o| o.compared).sum();
+    let differ: u64 = list.iter().map(|o| o.differ).sum();
+    println!("{} compared, {} differ", grouped(compared), grouped(differ));
+    std::process::exit((differ > 0) as i32);
+}
