@@ -1,5 +1,5 @@
 -- Walks over a list from its first element on: what a left fold, a test of all, a count and a search for the first make of what is left, one element at a time.
-use mathlib.Core.Path.{_≡_, refl}
+use mathlib.Core.Path.{_≡_, refl, ap, _∙_}
 use mathlib.Core.Bool.{Bool, true, false, cond, _&&_}
 use mathlib.Core.List.{List, [], _∷_, _++_}
 use Prim.Native.Nat.{ℕ, zero, suc, _+_, _≤_, _<_}
@@ -89,6 +89,14 @@ module _ {A : Type 0} (p : A → Bool) where
       by : (b : Bool) → count p l ≤ length l → cond b 1 0 + count p l ≤ suc (length l)
       by true h = omega arith
       by false h = omega arith
+
+  pub count-snoc : (l : List A) (x : A) → count p (l ++ (x ∷ [])) ≡ cond (p x) 1 0 + count p l
+  unfolding count
+  count-snoc [] x = refl
+  count-snoc (y ∷ l) x = ap (λ (k : ℕ). cond (p y) 1 0 + k) (count-snoc l x) ∙ swap (cond (p y) 1 0) (cond (p x) 1 0) (count p l)
+    where
+      swap : (a b k : ℕ) → a + (b + k) ≡ b + (a + k)
+      swap a b k = omega arith
 
   pub position-le : (l : List A) → position p l ≤ length l
   unfolding position

@@ -1,0 +1,12 @@
+pub mod Base
+pub mod Blend
+pub mod Insert
+pub mod Grow
+pub mod Boehm
+pub mod Triangle
+pub mod Cut
+pub mod Restrict
+pub mod Visit
+pub mod Search
+pub mod Visits
+pub mod Accepted

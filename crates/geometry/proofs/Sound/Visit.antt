@@ -1,0 +1,10 @@
+pub mod Hulls
+pub mod Weights
+pub mod Box
+pub mod Greville
+pub mod Keeps
+pub mod Zeros
+pub mod Clip
+pub mod Within
+pub mod Hatted
+pub mod Door
