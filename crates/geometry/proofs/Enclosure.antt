@@ -1,27 +1,26 @@
 -- DEMAND 3: `enclosure` for every arithmetic that encloses, and `geop-enclosure` for the Rust's. Assumes nothing.
 use mathlib.Core.Path.{_≡_, refl, sym, ap, _∙_, subst}
-use mathlib.Core.Logic.{_⊎_, inl, inr}
+use mathlib.Core.Logic.{inl}
 use mathlib.Core.List.{List, [], _∷_}
-use mathlib.Core.Bool.{Bool, true, false, not, cond, _&&_}
-use mathlib.Core.Option.{Option, none, some}
+use mathlib.Core.Bool.{false}
+use mathlib.Core.Option.{Option, none}
 use Prim.Native.Nat.{ℕ, zero, suc, _+_, _*_, _≤_, _<_}
 use native.Mathlib.Omega.{arith}
 use lib.Dec.{T}
 use lib.IntN.{pos}
 use lib.ListN.{length, getD}
-use lib.Ieee.{Float, nan, inf, fin, binary64, lt, le, eq, fits}
-use Rattle.exact.specs.Rational.{ℚ, _*ℚ_, invℚ, _≤ℚ_}
+use lib.Ieee.{Float, nan, inf, fin, lt, le, eq, fits}
+use Rattle.exact.specs.Rational.{ℚ, _≤ℚ_}
 use Rattle.exact.specs.Spline.{On}
 use Rattle.exact.proofs.Order.{le-refl, lt→le}
 use Rattle.exact.proofs.Splines.Accept.{good-counted}
 use Rattle.exact.proofs.Splines.Drawn.{traced-on}
-use Rattle.lists.specs.Lists.{tab}
 use Rattle.lists.proofs.Tab.{length-tab, getD-tab}
 use Rattle.math.specs.declared.scalars.Scalar.{Scalar}
 use Rattle.math.specs.Scalars.{Arithmetic, geop, absent, zeroF, unionS}
 use Rattle.math.specs.Values.{value, Below, Above, Holds}
 use Rattle.math.specs.Encloses.{Encloses}
-use Rattle.math.proofs.Bools.{and-i, pick}
+use Rattle.math.proofs.Bools.{and-i, pick, taken}
 use Rattle.math.proofs.Doubles.Values.{eq→value}
 use Rattle.math.proofs.Intervals.Tests.{union-left, union-right}
 use Rattle.math.proofs.Intervals.Instance.{geop-encloses}
@@ -29,16 +28,16 @@ use Rattle.geometry.specs.Vector.{Vector, coordinate}
 use Rattle.geometry.specs.NurbCurve.{Piece, knot, point, start, end, domain}
 use Rattle.geometry.specs.Aabb.{couldMeet, aabb, couldOverlap}
 use Rattle.geometry.specs.FatLine.{greville}
-use Rattle.geometry.specs.Subdivide.{Question, Visit, dropped, plain, State, Step, going, over, advance, answered}
+use Rattle.geometry.specs.Subdivide.{Question, dropped, plain, Step, going, over, advance}
 use Rattle.geometry.specs.Contains.{clipped, visit, begun, couldContain}
 use Rattle.geometry.specs.Layout.{scalarAt, pointAt, pointsOf}
 use Rattle.geometry.specs.Call.{Call, curve, boxOf, question, refusal, searched, searchedBy}
-use Rattle.geometry.specs.Enclosure.{ControlValues, PointInBox, Passes, HitAt, Doubles, Accepted, Completes, BoundsHold, NotOutside, BoundsInDomain, Enclosure, PieceOf, Every, OnlyWeights, PiecesKept, Pieces}
+use Rattle.geometry.specs.Enclosure.{HitAt, Doubles, Accepted, Completes, BoundsHold, NotOutside, BoundsInDomain, Enclosure, PieceOf, Every, OnlyWeights, PiecesKept, Pieces}
 use Rattle.geometry.specs.declared.contains.Found.{Found}
 use Rattle.geometry.specs.declared.contains.Found.the-variants.{Nothing, Enclosed, Spent, Refused}
-use Rattle.geometry.proofs.Sound.Base.{values, Known, Knots, Inside, Carries}
-use Rattle.geometry.proofs.Sound.Blend.{le-known, eq-known}
-use Rattle.geometry.proofs.Sound.Search.{Right, Hit, Fine, Kept, Ready, Stands, stands, answers, lives, answers-hit}
+use Rattle.geometry.proofs.Sound.Base.{values, Known, Knots, Carries}
+use Rattle.geometry.proofs.Sound.Known.{le-known, eq-known}
+use Rattle.geometry.proofs.Sound.Search.{Right, Hit, Fine, Kept, Stands, stands, answers, lives, answers-hit}
 use Rattle.geometry.proofs.Sound.Visits.{Lies, Inner, inner-union, within-inner, Ok, visit-fine, visit-kept}
 use Rattle.geometry.proofs.Sound.Visit.Within.{domain-within}
 use Rattle.geometry.proofs.Sound.Visit.Door.{Bounded, door}
@@ -176,10 +175,9 @@ module _ (c : Call) (d : Doubles c) (acc : Accepted c) where
 
     hit : 1 ≤ c .degree → (t : ℚ) → HitAt c t → Hit (λ s. Holds s t) (couldContain ar (question c) (curve c))
     unfolding couldContain
-    hit one t h = pick (Hit (λ s. Holds s t)) (couldMeet ar (c .dim) p (curve c .points) (boxOf c)) _ (Nothing 0)
-        (λ _. answers-hit (visit ar q) (c .nodes) (Inner a b) (Ok (c .dim) p n a b) (inner-union a b) (visit-fine ar E q n a b) At Has lefts rights kept (advance (visit ar q) (c .nodes) (c .nodes) (begun (curve c)))
+    hit one t h = taken (Hit (λ s. Holds s t)) (couldMeet ar (c .dim) p (curve c .points) (boxOf c)) _ (Nothing 0) meets
+        (answers-hit (visit ar q) (c .nodes) (Inner a b) (Ok (c .dim) p n a b) (inner-union a b) (visit-fine ar E q n a b) At Has lefts rights kept (advance (visit ar q) (c .nodes) (c .nodes) (begun (curve c)))
         (lives (visit ar q) (c .nodes) (Inner a b) (Ok (c .dim) p n a b) (inner-union a b) (visit-fine ar E q n a b) At Has lefts rights kept (c .nodes) (begun (curve c)) (record { pieces = (whole-ok one, tt); inside = tt }) (inl (inl (carries t h)))))
-        (λ m. absurd (neither (couldMeet ar (c .dim) p (curve c .points) (boxOf c)) m meets))
       where
         At : Scalar → Type 0
         At s = Holds s t
@@ -201,10 +199,6 @@ module _ (c : Call) (d : Doubles c) (acc : Accepted c) where
 
         meets : T (couldMeet ar (c .dim) (c .degree) (curve c .points) (boxOf c))
         meets = let w = whole-ok one in door ar E (c .dim) p (curve c) (w .knots) (w .weights) t (h .passes .last) (carries t h) (boxOf c) long (h .place) (box-holds t h) (h .passes .quotients) box-bounded
-
-        neither : (z : Bool) → T (not z) → T z → ⊥
-        neither true m y = m
-        neither false m y = y
 
     -- ---- what the answers say
     bounds-right : (r : Found) → Right (Inner (value (start (c .degree) (curve c))) (value (end (curve c)))) r → BoundsInDomain (curve c) (c .degree) r

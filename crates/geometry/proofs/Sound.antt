@@ -1,7 +1,9 @@
 pub mod Base
+pub mod Known
 pub mod Blend
 pub mod Insert
 pub mod Grow
+pub mod Parts
 pub mod Boehm
 pub mod Triangle
 pub mod Cut

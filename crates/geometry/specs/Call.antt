@@ -1,18 +1,18 @@
 -- What the caller lends, the refusals 1 to 10 in their order, and what a call gives and leaves. Definitions only.
 use Prim.Native.Nat.{ℕ, zero, suc, _+_, _*_, max}
-use mathlib.Core.Bool.{Bool, true, false, cond, _&&_, _||_}
+use mathlib.Core.Bool.{Bool, true, cond, _&&_, _||_}
 use mathlib.Core.List.{List, [], _∷_}
 use lib.ListN.{length, getD}
 use lib.Dec.{leb, eqb}
-use lib.IntN.{pos}
-use lib.Ieee.{Float, nan, fin, lt, le, eq}
-use Rattle.lists.specs.Lists.{tab, all, count, cleared}
+use lib.Ieee.{Float, nan, lt, le, eq}
+use Rattle.lists.specs.Lists.{all, count, cleared}
 use Rattle.math.specs.declared.scalars.Scalar.{Scalar}
 use Rattle.math.specs.Scalars.{Arithmetic, zeroF}
+use Rattle.math.specs.Encloses.{isModerate}
 use Rattle.geometry.specs.NurbCurve.{Piece, weighted}
 use Rattle.geometry.specs.Subdivide.{Question}
 use Rattle.geometry.specs.Contains.{couldContain}
-use Rattle.geometry.specs.Layout.{scalarAt, pointsOf, slotWords}
+use Rattle.geometry.specs.Layout.{scalarsOf, pointsOf, slotWords}
 use Rattle.geometry.specs.declared.contains.Found.{Found}
 use Rattle.geometry.specs.declared.contains.Found.the-variants.{Refused}
 
@@ -35,7 +35,7 @@ curve c = record { knots = c .knots; points = pointsOf (suc (c .dim)) (c .count)
 
 -- The box that is lent.
 abbrev pub boxOf : Call → List Scalar
-boxOf c = tab (c .dim) (λ k. scalarAt (c .box) k)
+boxOf c = scalarsOf (c .dim) (c .box)
 
 -- What is asked of the curve.
 abbrev pub question : Call → Question
@@ -62,9 +62,9 @@ lengthsFit c =
     && eqb (length (c .points)) (2 * suc (c .dim) * c .count)
     && eqb (length (c .box)) (2 * c .dim)
 
--- A number, and at most 2 ^ 100 in size.
-unfoldable pub usable : Float → Bool
-usable x = le (fin true 1 (pos 100)) x && le x (fin false 1 (pos 100))
+-- A number, and at most 2 ^ 100 in size: what the laws of `Encloses` ask of a knot.
+abbrev pub usable : Float → Bool
+usable = isModerate
 
 -- 5: every number is usable, and the resolution is not below 0.
 unfoldable pub numbersUsable : Call → Bool
@@ -77,7 +77,7 @@ ordered x = le (x .lo) (x .hi)
 
 -- 6: no lo is above its hi.
 unfoldable pub boundsOrdered : Call → Bool
-boundsOrdered c = all ordered (tab (suc (c .dim) * c .count) (λ j. scalarAt (c .points) j)) && all ordered (boxOf c)
+boundsOrdered c = all ordered (scalarsOf (suc (c .dim) * c .count) (c .points)) && all ordered (boxOf c)
 
 -- 7: every weight's lo is above 0.
 unfoldable pub weightsAbove : Call → Bool

@@ -1,5 +1,5 @@
 -- Demand 3 of document 01, in its words: what an exact hit is, and where the bounds of a result lie. Definitions only.
-use Prim.Native.Nat.{ℕ, zero, suc, _+_, _*_, _≤_, _<_}
+use Prim.Native.Nat.{ℕ, suc, _+_, _*_, _≤_, _<_}
 use mathlib.Core.Path.{_≡_}
 use mathlib.Core.Bool.{_&&_}
 use mathlib.Core.List.{List, [], _∷_}
@@ -9,7 +9,6 @@ use lib.Ieee.{Float, nan, binary64, le, fits}
 use Rattle.exact.specs.Rational.{ℚ, _*ℚ_, invℚ}
 use Rattle.exact.specs.Spline.{Traced}
 use Rattle.exact.specs.Cut.{Counted}
-use Rattle.math.specs.declared.scalars.Scalar.{Scalar}
 use Rattle.math.specs.Scalars.{Arithmetic}
 use Rattle.math.specs.Values.{value, Holds}
 use Rattle.geometry.specs.NurbCurve.{Piece, knot, start, end, weighted}

@@ -6,4 +6,5 @@ pub mod Loop
 pub mod Rows
 pub mod Insert
 pub mod Fold
+pub mod Each
 pub mod Ring

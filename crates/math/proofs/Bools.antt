@@ -16,6 +16,10 @@ pub decide : (b : Bool) → T b ⊎ T (not b)
 decide true = inl tt
 decide false = inr tt
 
+pub never : (b : Bool) → T (not b) → T b → ⊥
+never true n t = n
+never false n t = t
+
 pub compare-le : (a b : ℕ) → (a ≤ b) ⊎ (b < a)
 compare-le a b = go (leb a b) (leb→le a b) (nleb→lt a b)
   where
@@ -68,3 +72,8 @@ pick-no t a b e = sym (ap (λ (s : Bool). cond s a b) e)
 pub pick : {X : Type 0} (P : X → Type 0) (t : Bool) (x y : X) → (T t → P x) → (T (not t) → P y) → P (cond t x y)
 pick P true x y h k = h tt
 pick P false x y h k = k tt
+
+-- what holds of the first arm, where its test passed
+pub taken : {X : Type 0} (P : X → Type 0) (t : Bool) (x y : X) → T t → P x → P (cond t x y)
+taken P true x y t h = h
+taken P false x y t h = absurd t

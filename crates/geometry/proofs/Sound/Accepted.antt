@@ -9,26 +9,22 @@ use lib.Dec.{T, leb, eqb, leb→le, eqb→eq}
 use lib.ListN.{length, getD}
 use lib.Ieee.Bits.{is-true}
 use lib.Ieee.{Float, nan, binary64, lt, le, eq, fits}
-use Rattle.exact.specs.Rational.{ℚ, _≤ℚ_, _<ℚ_, lt→not-le}
+use Rattle.exact.specs.Rational.{ℚ, _<ℚ_, lt→not-le}
 use Rattle.exact.specs.Spline.{Sorted}
-use Rattle.exact.specs.Cut.{Counted, Good, eqℚ, tally, choose}
-use Rattle.exact.proofs.Order.{lt→le}
+use Rattle.exact.specs.Cut.{Good, eqℚ, tally, choose}
 use Rattle.exact.proofs.Splines.Boor.{le-of-eq}
 use Rattle.exact.proofs.Splines.On.{sorted-steps}
 use Rattle.exact.proofs.Splines.Accept.{counted-good}
-use Rattle.exact.proofs.Splines.Count.{eq-dec, eqℚ-yes, eqℚ-no}
+use Rattle.exact.proofs.Splines.Count.{eq-dec, eqℚ-no}
 use Rattle.lists.specs.Lists.{all, count}
 use Rattle.lists.proofs.Fold.{all-getD}
 use Rattle.math.specs.Scalars.{zeroF}
-use Rattle.math.specs.Values.{value}
-use Rattle.math.specs.Encloses.{isModerate}
 use Rattle.math.proofs.Bools.{and-l, and-r, and-i, or-l, or-r, or-split}
 use Rattle.geometry.specs.NurbCurve.{knot, weighted}
-use Rattle.geometry.specs.Call.{Call, curve, dimFits, degreeFits, countFits, lengthsFit, usable, numbersUsable, boundsOrdered, weightsAbove, rising, seldom, sound, knotsSound, nodesFit, areaFits, checks, firstFailed, refusal}
+use Rattle.geometry.specs.Call.{Call, curve, degreeFits, countFits, lengthsFit, usable, numbersUsable, weightsAbove, rising, seldom, sound, knotsSound, checks, firstFailed, refusal}
 use Rattle.geometry.specs.Enclosure.{Doubles, Every}
-use Rattle.geometry.proofs.Sound.Base.{values, Known, Knots}
-use Rattle.geometry.proofs.Sound.Blend.{eq-known, known-eq, lt-known}
-use Rattle.geometry.proofs.Sound.Insert.{lt-value, le-value}
+use Rattle.geometry.proofs.Sound.Base.{values, Known}
+use Rattle.geometry.proofs.Sound.Known.{lt-known, eq-known, known-eq, lt-value, le-value}
 use Rattle.geometry.proofs.Sound.Boehm.{counted}
 
 -- ---- the checks, one by one
@@ -141,7 +137,6 @@ pub record Checked (c : Call) : Type 0 where
   pub sound-knots : T (sound (c .degree) (c .count) (c .knots))
 
 usables : (l : List Float) → ((i : ℕ) → i < length l → T (fits binary64 (getD l i nan))) → T (all usable l) → (i : ℕ) → i < length l → Known (getD l i nan)
-unfolding usable
 usables l f u i h = record { double = f i h; moderate = subst T (sym (all-getD usable l i nan (is-true _ u) h)) tt }
 
 pub checked : (c : Call) → Doubles c → refusal c ≡ 0 → Checked c

@@ -1,5 +1,5 @@
 -- What a piece of a search is, and what it means that a piece holds a parameter: the invariant of the search. Assumes nothing.
-use mathlib.Core.Path.{_≡_, refl, sym, ap, _∙_, subst}
+use mathlib.Core.Path.{_≡_, refl, subst}
 use mathlib.Core.List.{List, [], _∷_}
 use Prim.Native.Nat.{ℕ, zero, suc, _+_, _≤_, _<_}
 use native.Mathlib.Nat.{lt-of-not-le}
@@ -7,8 +7,7 @@ use native.Mathlib.Decide.{decLe}
 use native.Mathlib.Omega.{arith}
 use lib.ListN.{length, getD}
 use lib.Dec.{T}
-use lib.IntN.{ℤ}
-use lib.Ieee.{Float, nan, fin, binary64, fits}
+use lib.Ieee.{Float, binary64, fits}
 use Rattle.exact.specs.Rational.{ℚ}
 use Rattle.exact.specs.Spline.{On}
 use Rattle.exact.specs.Cut.{Good}
@@ -16,7 +15,7 @@ use Rattle.math.specs.Scalars.{absent}
 use Rattle.math.specs.Values.{value, Holds}
 use Rattle.math.specs.Encloses.{isModerate}
 use Rattle.geometry.specs.Vector.{Vector, coordinate}
-use Rattle.geometry.specs.NurbCurve.{Piece, knot, point, weighted}
+use Rattle.geometry.specs.NurbCurve.{Piece, knot, point}
 
 -- the numbers of the knots
 abbrev pub values : List Float → ℕ → ℚ

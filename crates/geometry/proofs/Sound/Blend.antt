@@ -1,69 +1,34 @@
 -- The blend of two points at the place of t between two knots holds every exact point at that place. Assumes nothing.
-use mathlib.Core.Path.{_≡_, refl, sym, ap, ap₂, _∙_, subst}
-use mathlib.Core.List.{List, [], _∷_, zipWith}
-use mathlib.Core.Bool.{Bool, true, false, not, cond}
-use Prim.Native.Nat.{ℕ, zero, suc, _+_, _<_}
-use native.Mathlib.Omega.{arith}
-use lib.IntN.{ℤ, pos}
+use mathlib.Core.Path.{_≡_, refl, sym, ap, _∙_, subst}
+use mathlib.Core.List.{List, [], _∷_}
+use mathlib.Core.Bool.{Bool, true, false, cond}
+use Prim.Native.Nat.{ℕ, _+_}
+use lib.IntN.{pos}
 use lib.Dec.{T}
-use lib.ListN.{length, getD}
-use lib.Ieee.{Float, fin, binary64, lt, le, eq, fits}
+use lib.Ieee.{Float, eq}
 use Rattle.exact.specs.Ring.{by-rep, by-eq, read}
-use Rattle.exact.specs.Rational.{ℚ, _+ℚ_, _*ℚ_, -ℚ_, _-ℚ_, 0ℚ, 1ℚ, invℚ, lerp, ratio, _≤ℚ_, _<ℚ_, lt→not-le, not-le→lt}
+use Rattle.exact.specs.Rational.{ℚ, -ℚ_, _-ℚ_, 0ℚ, 1ℚ, lerp, ratio, _≤ℚ_, _<ℚ_, lt→not-le, not-le→lt}
 use Rattle.exact.proofs.Field.{ℚring}
 use Rattle.exact.proofs.Order.{le-refl, le-antisym}
 use Rattle.exact.proofs.Embed.{÷-one}
 use Rattle.exact.proofs.Splines.Smooth.{ratio-start}
+use Rattle.lists.proofs.Each.{getD-zip}
 use Rattle.math.specs.declared.scalars.Scalar.{Scalar}
 use Rattle.math.specs.declared.scalars.Divided.{Divided}
 use Rattle.math.specs.declared.scalars.Divided.the-variants.{Value, Failed}
-use Rattle.math.specs.Scalars.{Arithmetic, sharp, absent, ZERO, ONE, zeroF, oneF, isSame, valueOr, interpolateS}
+use Rattle.math.specs.Scalars.{Arithmetic, sharp, absent, ZERO, ONE, oneF, isSame, valueOr, interpolateS}
 use Rattle.math.specs.Values.{value, Holds}
-use Rattle.math.specs.Encloses.{Encloses, Between, Tame, isModerate}
-use Rattle.math.proofs.Bools.{pick}
-use Rattle.math.proofs.Doubles.Values.{value-zero, value→lt, value→le, eq→value, value→eq}
-use Rattle.math.proofs.Intervals.Sizes.{Finite, moderate}
+use Rattle.math.specs.Encloses.{Encloses, Between, Tame}
+use Rattle.math.proofs.Bools.{pick, taken}
+use Rattle.math.proofs.Doubles.Values.{value-zero}
+use Rattle.math.proofs.Intervals.Sizes.{moderate}
 use Rattle.math.proofs.Intervals.Tests.{same-sharp}
 use Rattle.math.proofs.Intervals.Laws.{interpolate-holds}
 use Rattle.geometry.specs.Vector.{Vector, coordinate, interpolateV}
 use Rattle.geometry.specs.NurbCurve.{knot}
 use Rattle.geometry.specs.KnotInsertion.{alpha, blend}
 use Rattle.geometry.proofs.Sound.Base.{Known, present}
-
-pub getD-zip : {A B C : Type 0} (g : A → B → C) (a : List A) (b : List B) (k : ℕ) (d : A) (e : B) (f : C) → k < length a → k < length b → getD (zipWith g a b) k f ≡ g (getD a k d) (getD b k e)
-unfolding zipWith
-getD-zip g [] b k d e f h l = absurd (omega arith)
-getD-zip g (x ∷ a) [] k d e f h l = absurd (omega arith)
-getD-zip g (x ∷ a) (y ∷ b) zero d e f h l = refl
-getD-zip g (x ∷ a) (y ∷ b) (suc k) d e f h l = getD-zip g a b k d e f (omega arith) (omega arith)
-
--- ---- comparisons of known doubles
-pub sharp-known : (x : Float) → Known x → Holds (sharp x) (value x)
-sharp-known x k = let f = moderate x (k .moderate) in subst (λ (z : Float). Holds (sharp z) (value z)) (sym (f .is)) (record { low = le-refl (value (fin (f .s) (f .m) (f .e))); high = le-refl (value (fin (f .s) (f .m) (f .e))) })
-
-pub lt-known : (x y : Float) → Known x → Known y → value x <ℚ value y → T (lt x y)
-lt-known x y k l h =
-    let f = moderate x (k .moderate) in
-    let g = moderate y (l .moderate) in
-    subst (λ (z : Float). T (lt z y)) (sym (f .is)) (subst (λ (z : Float). T (lt (fin (f .s) (f .m) (f .e)) z)) (sym (g .is)) (value→lt (f .s) (f .m) (f .e) (g .s) (g .m) (g .e) (subst (λ (z : Float). value z <ℚ value (fin (g .s) (g .m) (g .e))) (f .is) (subst (λ (z : Float). value x <ℚ value z) (g .is) h))))
-
-pub le-known : (x y : Float) → Known x → Known y → value x ≤ℚ value y → T (le x y)
-le-known x y k l h =
-    let f = moderate x (k .moderate) in
-    let g = moderate y (l .moderate) in
-    subst (λ (z : Float). T (le z y)) (sym (f .is)) (subst (λ (z : Float). T (le (fin (f .s) (f .m) (f .e)) z)) (sym (g .is)) (value→le (f .s) (f .m) (f .e) (g .s) (g .m) (g .e) (subst (λ (z : Float). value z ≤ℚ value (fin (g .s) (g .m) (g .e))) (f .is) (subst (λ (z : Float). value x ≤ℚ value z) (g .is) h))))
-
-pub eq-known : (x y : Float) → Known x → Known y → T (eq x y) → value x ≡ value y
-eq-known x y k l h =
-    let f = moderate x (k .moderate) in
-    let g = moderate y (l .moderate) in
-    ap value (f .is) ∙ eq→value (f .s) (f .m) (f .e) (g .s) (g .m) (g .e) (subst (λ (z : Float). T (eq z (fin (g .s) (g .m) (g .e)))) (f .is) (subst (λ (z : Float). T (eq x z)) (g .is) h)) ∙ sym (ap value (g .is))
-
-pub known-eq : (x y : Float) → Known x → Known y → value x ≡ value y → T (eq x y)
-known-eq x y k l h =
-    let f = moderate x (k .moderate) in
-    let g = moderate y (l .moderate) in
-    subst (λ (z : Float). T (eq z y)) (sym (f .is)) (subst (λ (z : Float). T (eq (fin (f .s) (f .m) (f .e)) z)) (sym (g .is)) (value→eq (f .s) (f .m) (f .e) (g .s) (g .m) (g .e) (sym (ap value (f .is)) ∙ h ∙ ap value (g .is))))
+use Rattle.geometry.proofs.Sound.Known.{sharp-known, lt-known, eq-known, known-eq}
 
 -- ---- the ends of lerp
 lerp-0 : (ρ x y : ℚ) → ρ ≡ 0ℚ → lerp ρ x y ≡ x
@@ -151,11 +116,7 @@ module _ (ar : Arithmetic) (E : Encloses ar) where
       b = knot ks (i + p)
 
       first : Holds (coordinate (blend ar ZERO A B) k) X
-      first = unfold blend in (pick (λ (v : Vector). Holds (coordinate v k) X) (isSame ZERO ZERO) A (cond (isSame ZERO ONE) B (interpolateV ar A B ZERO)) (λ _. h) (λ n. absurd (neither (isSame ZERO ZERO) n zero-same)))
-        where
-          neither : (z : Bool) → T (not z) → T z → ⊥
-          neither true n y = n
-          neither false n y = y
+      first = unfold blend in (taken (λ (v : Vector). Holds (coordinate v k) X) (isSame ZERO ZERO) A (cond (isSame ZERO ONE) B (interpolateV ar A B ZERO)) zero-same h)
 
       go : (x y : Bool) → eq a t ≡ x → eq b t ≡ y → Holds (coordinate (blend ar (cond x ZERO (cond y ONE (valueOr (ar .div (ar .sub (sharp t) (sharp a)) (ar .sub (sharp b) (sharp a))) ONE))) A B) k) (lerp (ratio (value t) (value a) (value b)) X Y)
       go true y e g = subst (λ (q : ℚ). Holds (coordinate (blend ar ZERO A B) k) q) (sym (ap (λ (z : ℚ). lerp (ratio (value t) z (value b)) X Y) (eq-known a t ka kt (subst T (sym e) tt)) ∙ ratio-start (value t) (value b) X Y)) first

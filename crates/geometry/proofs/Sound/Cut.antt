@@ -26,8 +26,9 @@ use Rattle.geometry.specs.Vector.{Vector, coordinate}
 use Rattle.geometry.specs.NurbCurve.{Piece, knot}
 use Rattle.geometry.specs.KnotInsertion.{triangle, sides, bezierKnots, isBezier, multiplicity, bezierCut, cutBy, fullCut, leftOf, rightOf}
 use Rattle.geometry.proofs.Sound.Base.{values, Known, Knots, Inside}
-use Rattle.geometry.proofs.Sound.Blend.{eq-known}
-use Rattle.geometry.proofs.Sound.Boehm.{Parts, Keeps, boehm-parts, boehm-keeps}
+use Rattle.geometry.proofs.Sound.Known.{eq-known}
+use Rattle.geometry.proofs.Sound.Parts.{Parts, Keeps}
+use Rattle.geometry.proofs.Sound.Boehm.{boehm-parts, boehm-keeps}
 use Rattle.geometry.proofs.Sound.Triangle.{near-holds, far-holds, length-sides, length-triangle, left-two, right-two, two-bezier, two-part}
 
 -- THE CUT BY THE TRIANGLE, of a Bezier span from knot p to knot p + 1

@@ -1,11 +1,11 @@
 -- Inserting x again and again: the knots stay known and in order, and the points hold control values of the same curve. Assumes nothing.
-use mathlib.Core.Path.{_≡_, refl, sym, ap, ap₂, _∙_, subst}
+use mathlib.Core.Path.{_≡_, refl, sym, ap, _∙_, subst}
 use mathlib.Core.List.{List}
-use Prim.Native.Nat.{ℕ, zero, suc, _+_, _-_, _≤_, _<_}
+use Prim.Native.Nat.{ℕ, zero, suc, _+_, _-_, _<_}
 use native.Mathlib.Omega.{arith}
 use lib.ListN.{length}
 use lib.Ieee.{Float}
-use Rattle.exact.specs.Rational.{ℚ, _≤ℚ_, _<ℚ_}
+use Rattle.exact.specs.Rational.{ℚ, _<ℚ_}
 use Rattle.exact.specs.Insertion.{knots, ctrls}
 use Rattle.exact.specs.Cut.{Good, Group, Raised}
 use Rattle.exact.proofs.Order.{lt→le}
@@ -17,7 +17,7 @@ use Rattle.math.specs.Values.{value}
 use Rattle.math.specs.Encloses.{Encloses}
 use Rattle.geometry.specs.Vector.{Vector}
 use Rattle.geometry.specs.NurbCurve.{Piece, knot}
-use Rattle.geometry.specs.KnotInsertion.{insertionSpan, highest, insertOnce, insertTimes, knotsWith, pointsWith}
+use Rattle.geometry.specs.KnotInsertion.{insertionSpan, highest, insertOnce, insertTimes, knotsWith}
 use Rattle.geometry.proofs.Sound.Base.{values, Known, Knots, Inside}
 use Rattle.geometry.proofs.Sound.Insert.{Falls, falls, values-with, known-with, length-knots, length-points, once-inside}
 

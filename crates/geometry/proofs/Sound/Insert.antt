@@ -1,57 +1,34 @@
 -- One insertion of t: the span that is found holds t, the new knots are the old ones with t among them, and the new points hold the new exact control values. Assumes nothing.
 use mathlib.Core.Path.{_≡_, refl, sym, ap, ap₂, _∙_, subst}
-use mathlib.Core.List.{List, [], _∷_, _++_, append-assoc}
-use mathlib.Core.Logic.{_⊎_, inl, inr}
-use mathlib.Core.Bool.{Bool, true, false, not, _&&_, cond}
+use mathlib.Core.List.{List, [], _∷_, _++_}
+use mathlib.Core.Logic.{inl, inr}
+use mathlib.Core.Bool.{Bool, true, false, not, cond}
 use Prim.Native.Nat.{ℕ, zero, suc, pred, _+_, _-_, _≤_, _<_}
 use native.Mathlib.Nat.{lt-of-not-le}
 use native.Mathlib.Decide.{decLe}
 use native.Mathlib.Omega.{arith}
 use lib.Dec.{T}
-use lib.ListN.{length, getD, take, drop, length-append, length-take, length-drop, List·getD-append}
+use lib.ListN.{length, getD, take, drop, length-append, length-drop, List·getD-append}
 use lib.Seq.{getD-take, getD-drop, getD-append-add, length-take-le}
-use lib.Ieee.{Float, nan, lt, le}
-use Rattle.exact.specs.Rational.{ℚ, lerp, ratio, _≤ℚ_, _<ℚ_, lt→not-le, not-le→lt}
+use lib.Ieee.{Float, nan, lt}
+use Rattle.exact.specs.Rational.{ℚ, lerp, ratio, _≤ℚ_, _<ℚ_, lt→not-le}
 use Rattle.exact.specs.Spline.{Sorted, round}
 use Rattle.exact.specs.Insertion.{pick, knots, ctrls}
-use Rattle.exact.proofs.Order.{le-refl, le-trans, lt→le, lt-le-trans, le-or-lt}
-use Rattle.exact.proofs.Splines.Insert.{pick-yes, pick-no}
+use Rattle.exact.proofs.Order.{le-trans, lt-le-trans}
 use Rattle.lists.specs.Lists.{tab}
 use Rattle.lists.proofs.Tab.{length-tab, getD-tab}
 use Rattle.math.specs.Scalars.{Arithmetic}
 use Rattle.math.specs.Values.{value, Holds}
 use Rattle.math.specs.Encloses.{Encloses}
-use Rattle.math.proofs.Bools.{and-l, and-r, and-i, decide}
-use Rattle.math.proofs.Doubles.Order.{lt-not-le}
+use Rattle.math.proofs.Bools.{and-l, and-i, decide}
 use Rattle.geometry.specs.Vector.{Vector, coordinate}
-use Rattle.geometry.specs.NurbCurve.{Piece, knot, point}
-use Rattle.geometry.specs.KnotInsertion.{holdsAt, highest, alpha, blend, knotsWith, pointsWith, insertOnce}
+use Rattle.geometry.specs.NurbCurve.{knot, point}
+use Rattle.geometry.specs.KnotInsertion.{holdsAt, highest, alpha, blend, knotsWith, pointsWith}
 use Rattle.geometry.proofs.Sound.Base.{values, Known, Inside}
-use Rattle.geometry.proofs.Sound.Blend.{lt-known, le-known, blend-holds}
+use Rattle.geometry.proofs.Sound.Known.{lt-known, not-lt-known, lt-value}
+use Rattle.geometry.proofs.Sound.Blend.{blend-holds}
 
 -- ---- the span
-pub not-lt-known : (x y : Float) → Known x → Known y → T (not (lt x y)) → value y ≤ℚ value x
-not-lt-known x y k l n = elim (le-or-lt (value y) (value x)) [
-  | inl h ↦ h
-  | inr h ↦ absurd (neither (lt x y) n (lt-known x y k l h))
-]
-  where
-    neither : (b : Bool) → T (not b) → T b → ⊥
-    neither true n t = n
-    neither false n t = t
-
-pub le-value : (x y : Float) → Known x → Known y → T (le x y) → value x ≤ℚ value y
-le-value x y k l t = elim (le-or-lt (value x) (value y)) [
-  | inl h ↦ h
-  | inr h ↦ absurd (lt-not-le y x (lt-known y x l k h) t)
-]
-
-pub lt-value : (x y : Float) → Known x → Known y → T (lt x y) → value x <ℚ value y
-lt-value x y k l t = elim (le-or-lt (value y) (value x)) [
-  | inr h ↦ h
-  | inl h ↦ absurd (lt-not-le x y t (le-known y x l k h))
-]
-
 pub record Falls (ks : List Float) (p : ℕ) (t : Float) (d k : ℕ) : Type 0 where
   pub from : p ≤ k
   pub upto : k < p + d

@@ -1,29 +1,28 @@
 -- A piece that is cut down to a hat holds what the piece held in that hat, and of two halves one does. Both are accepted again. Assumes nothing.
-use mathlib.Core.Path.{_≡_, refl, sym, ap, _∙_, subst}
+use mathlib.Core.Path.{sym, subst}
 use mathlib.Core.Logic.{_⊎_, inl, inr}
-use mathlib.Core.List.{List, [], _∷_}
-use mathlib.Core.Bool.{Bool, true, false, cond, _&&_}
-use Prim.Native.Nat.{ℕ, suc, _+_, _≤_, _<_}
+use mathlib.Core.List.{List}
+use mathlib.Core.Bool.{Bool, true, false}
+use Prim.Native.Nat.{ℕ, _≤_}
 use native.Mathlib.Omega.{arith}
 use lib.Dec.{T}
 use lib.ListN.{length}
 use lib.Ieee.{Float, binary64, lt, fits}
 use lib.Ieee.Fits.{div-fits}
 use Rattle.exact.specs.Rational.{ℚ, 0ℚ, _≤ℚ_, _<ℚ_}
-use Rattle.exact.specs.Spline.{On}
 use Rattle.exact.proofs.Order.{le-refl, le-trans, lt→le, le-or-lt}
 use Rattle.math.specs.declared.scalars.Scalar.{Scalar}
 use Rattle.math.specs.Scalars.{Arithmetic, twoF, middle}
-use Rattle.math.specs.Values.{value, Below, Above, Holds}
-use Rattle.math.specs.Encloses.{Encloses, Between}
+use Rattle.math.specs.Values.{value, Holds}
+use Rattle.math.specs.Encloses.{Encloses}
 use Rattle.math.proofs.Bools.{and-l, and-r}
 use Rattle.math.proofs.Intervals.Sizes.{moderate, between-moderate}
 use Rattle.geometry.specs.NurbCurve.{Piece, knot, start, end, inDomain, midParameter}
 use Rattle.geometry.specs.KnotInsertion.{fullCut, leftOf, rightOf}
-use Rattle.geometry.specs.Split.{Halves, uncut, both, splitBy, split, splitMid, Restricted, fromBy, upToBy, restrict}
-use Rattle.geometry.proofs.Sound.Base.{values, Known, Knots, Inside, Carries}
-use Rattle.geometry.proofs.Sound.Insert.{lt-value}
-use Rattle.geometry.proofs.Sound.Boehm.{Part, Parts, Keeps}
+use Rattle.geometry.specs.Split.{Halves, uncut, both, splitBy, split, fromBy, upToBy, restrict}
+use Rattle.geometry.proofs.Sound.Base.{values, Known, Knots, Carries}
+use Rattle.geometry.proofs.Sound.Known.{lt-value, low-value, high-value}
+use Rattle.geometry.proofs.Sound.Parts.{Parts, Keeps}
 use Rattle.geometry.proofs.Sound.Cut.{cut-parts, cut-keeps}
 
 -- ---- an accepted piece of another: no more points, and no parameter that the other has not
@@ -80,13 +79,6 @@ strict p c x k f t = record { known = kx; from = lt-value a x ka kx at; upto = l
 
     kx : Known x
     kx = record { double = f; moderate = between-moderate a x b (record { double-a = ka .double; double-t = f; double-b = kb .double; moderate-a = ka .moderate; moderate-b = kb .moderate; from = at; upto = tb }) }
-
--- the bounds of an interval that holds t
-low-value : (x : Float) (t : ℚ) → Known x → Below x t → value x ≤ℚ t
-low-value x t k h = let f = moderate x (k .moderate) in subst (λ (z : Float). value z ≤ℚ t) (sym (f .is)) (subst (λ (z : Float). Below z t) (f .is) h)
-
-high-value : (x : Float) (t : ℚ) → Known x → Above x t → t ≤ℚ value x
-high-value x t k h = let f = moderate x (k .moderate) in subst (λ (z : Float). t ≤ℚ value z) (sym (f .is)) (subst (λ (z : Float). Above z t) (f .is) h)
 
 -- mid_parameter is a double
 pub mid-fits : (ar : Arithmetic) (a b : Float) → T (fits binary64 (midParameter ar a b))

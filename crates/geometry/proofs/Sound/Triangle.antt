@@ -1,17 +1,18 @@
 -- The triangle that cuts a Bezier span: its sides hold the control values of the two parts, and the knots beside them are the parts' own. Assumes nothing.
 use mathlib.Core.Path.{_≡_, refl, sym, ap, ap₂, _∙_, subst}
-use mathlib.Core.List.{List, [], _∷_, _++_, map, reverse, reverse-cons, zipWith}
+use mathlib.Core.List.{List, [], _∷_, _++_, map, reverse}
 use Prim.Native.Nat.{ℕ, zero, suc, _+_, _-_, _≤_, _<_}
 use native.Mathlib.Nat.{lt-of-not-le}
 use native.Mathlib.Decide.{decLe}
 use native.Mathlib.Omega.{arith}
 use lib.ListN.{length, getD, take, drop, replicate, length-append, length-drop, length-map, length-replicate, length-reverse, getD-replicate, List·getD-append}
-use lib.Seq.{getD-take, getD-drop, getD-append-add, getD-at, length-take-le}
+use lib.Seq.{getD-take, getD-drop, getD-append-add, length-take-le}
 use lib.Ieee.{Float, nan}
 use Rattle.exact.specs.Rational.{ℚ, lerp, ratio, _<ℚ_}
 use Rattle.exact.specs.Cut.{Good}
 use Rattle.exact.specs.Bezier.{Bezier, tri, near-side, far-side}
 use Rattle.exact.proofs.Splines.Bezier.{bezier-good}
+use Rattle.lists.proofs.Each.{getD-map, getD-reverse, getD-zip, length-zip}
 use Rattle.lists.specs.Lists.{lastD}
 use Rattle.math.specs.declared.scalars.Scalar.{Scalar}
 use Rattle.math.specs.declared.scalars.Divided.the-variants.{Value}
@@ -22,38 +23,8 @@ use Rattle.geometry.specs.Vector.{Vector, coordinate, interpolateV}
 use Rattle.geometry.specs.NurbCurve.{knot, point}
 use Rattle.geometry.specs.KnotInsertion.{level, triangle, sides, bezierKnots}
 use Rattle.geometry.proofs.Sound.Base.{values, Known, Inside}
-use Rattle.geometry.proofs.Sound.Blend.{getD-zip, between-holds}
-use Rattle.geometry.proofs.Sound.Boehm.{Part}
-
--- ---- lists
-length-zip : {A B C : Type 0} (g : A → B → C) (a : List A) (b : List B) → length b ≤ length a → length (zipWith g a b) ≡ length b
-unfolding zipWith
-length-zip g [] [] h = refl
-length-zip g [] (y ∷ b) h = absurd (omega arith)
-length-zip g (x ∷ a) [] h = refl
-length-zip g (x ∷ a) (y ∷ b) h = ap suc (length-zip g a b (omega arith))
-
-getD-map : {A B : Type 0} (f : A → B) (l : List A) (i : ℕ) (d : A) (e : B) → i < length l → getD (map f l) i e ≡ f (getD l i d)
-getD-map f [] i d e h = absurd (omega arith)
-getD-map f (x ∷ l) zero d e h = refl
-getD-map f (x ∷ l) (suc i) d e h = getD-map f l i d e (omega arith)
-
-getD-reverse : {A : Type 0} (l : List A) (i : ℕ) (d : A) → i < length l → getD (reverse l) i d ≡ getD l (length l - suc i) d
-getD-reverse [] i d h = absurd (omega arith)
-getD-reverse {A} (x ∷ l) i d h = ap (λ (k : List A). getD k i d) (reverse-cons x l) ∙ go (decLe (suc i) (length l)) (getD-reverse l i d)
-  where
-    go : Dec (i < length l) → (i < length l → getD (reverse l) i d ≡ getD l (length l - suc i) d) → getD (reverse l ++ (x ∷ [])) i d ≡ getD (x ∷ l) (suc (length l) - suc i) d
-    go (yes m) r = List·getD-append (reverse l) (x ∷ []) d i (subst (λ (k : ℕ). i < k) (sym (length-reverse l)) m) ∙ r m ∙ ap (λ (k : ℕ). getD (x ∷ l) k d) ix
-      where
-        ix : suc (length l - suc i) ≡ suc (length l) - suc i
-        ix = omega arith
-    go (no m) r = getD-at (reverse l) x [] d i (length-reverse l ∙ ix₁ (lt-of-not-le m)) ∙ ap (λ (k : ℕ). getD (x ∷ l) k d) (ix₂ (lt-of-not-le m))
-      where
-        ix₁ : length l < suc i → length l ≡ i
-        ix₁ o = omega arith
-
-        ix₂ : length l < suc i → zero ≡ suc (length l) - suc i
-        ix₂ o = omega arith
+use Rattle.geometry.proofs.Sound.Blend.{between-holds}
+use Rattle.geometry.proofs.Sound.Parts.{Part}
 
 -- ---- rows of the triangle
 module _ (ar : Arithmetic) (α : Scalar) where

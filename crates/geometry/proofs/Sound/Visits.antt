@@ -1,10 +1,10 @@
 -- A visit makes accepted pieces of an accepted piece, and reports inside its domain; and it loses no hit. Assumes nothing.
-use mathlib.Core.Path.{_≡_, refl, sym, ap, _∙_, subst}
-use mathlib.Core.Logic.{_⊎_, inl, inr}
-use mathlib.Core.List.{List, [], _∷_}
-use mathlib.Core.Bool.{Bool, true, false, not, cond, _&&_}
+use mathlib.Core.Path.{_≡_, refl, sym, subst}
+use mathlib.Core.Logic.{_⊎_}
+use mathlib.Core.List.{List}
+use mathlib.Core.Bool.{true, false, _&&_}
 use mathlib.Core.Option.{Option, none, some}
-use Prim.Native.Nat.{ℕ, zero, suc, _≤_, _<_}
+use Prim.Native.Nat.{ℕ, suc, _≤_, _<_}
 use native.Mathlib.Omega.{arith}
 use lib.Dec.{T}
 use lib.ListN.{length, getD}
@@ -15,20 +15,20 @@ use Rattle.exact.proofs.Order.{le-trans}
 use Rattle.math.specs.declared.scalars.Scalar.{Scalar}
 use Rattle.math.specs.Scalars.{Arithmetic, absent, unionS}
 use Rattle.math.specs.Values.{value, Holds}
-use Rattle.math.specs.Encloses.{Encloses, isModerate}
-use Rattle.math.proofs.Bools.{and-l, and-r, and-i, pick}
+use Rattle.math.specs.Encloses.{Encloses}
+use Rattle.math.proofs.Bools.{and-l, and-r, and-i, pick, taken}
 use Rattle.math.proofs.Doubles.Order.{le-trans as before}
 use Rattle.math.proofs.Doubles.Least.{min-either, max-either}
 use Rattle.geometry.specs.NurbCurve.{Piece, start, end, domain, weighted, midParameter}
-use Rattle.geometry.specs.Split.{Halves, uncut, both, split, splitMid, Restricted, restrict}
+use Rattle.geometry.specs.Split.{Halves, uncut, both, splitMid, Restricted, restrict}
 use Rattle.geometry.specs.Aabb.{aabb, couldOverlap}
 use Rattle.geometry.specs.FatLine.{greville, restricts, halves, extent}
-use Rattle.geometry.specs.Subdivide.{Question, Visit, dropped, reported, restricted, halved, badWeight}
+use Rattle.geometry.specs.Subdivide.{Question, dropped, restricted, halved, badWeight}
 use Rattle.geometry.specs.Contains.{clip, carried, handOn, handBoth, shrink, clipped, visit}
 use Rattle.geometry.specs.declared.fat_line.Hat.{Hat}
 use Rattle.geometry.specs.declared.fat_line.Hat.the-variants.{Over, Missing}
 use Rattle.geometry.proofs.Sound.Base.{values, Known, Knots, Carries}
-use Rattle.geometry.proofs.Sound.Insert.{le-value}
+use Rattle.geometry.proofs.Sound.Known.{le-value}
 use Rattle.geometry.proofs.Sound.Restrict.{Sub, Both, restrict-sub, restrict-keeps, split-sub, split-keeps, mid-fits}
 use Rattle.geometry.proofs.Sound.Search.{Fine, Kept}
 use Rattle.geometry.proofs.Sound.Visit.Box.{box-overlaps}
@@ -162,11 +162,7 @@ module _ (ar : Arithmetic) (E : Encloses ar) (q : Question) (N : ℕ) (a b : ℚ
 
     pub visit-kept : (c : Piece) → Ok (q .dim) (q .degree) N a b c → Carries (suc (q .dim)) (q .degree) t v c → Kept (λ s. Holds s t) (Carries (suc (q .dim)) (q .degree) t v) (visit ar q c)
     unfolding visit
-    visit-kept c k h = pick (Kept At Has) (couldOverlap (aabb ar dim (c .points)) (q .box)) _ dropped (λ _. clipped-kept c k h) (λ m. absurd (neither (couldOverlap (aabb ar dim (c .points)) (q .box)) m overlaps))
+    visit-kept c k h = taken (Kept At Has) (couldOverlap (aabb ar dim (c .points)) (q .box)) _ dropped overlaps (clipped-kept c k h)
       where
         overlaps : T (couldOverlap (aabb ar (q .dim) (c .points)) (q .box))
         overlaps = box-overlaps ar E dim p c (k .knots) (k .weights) t v h (q .box) long x bx vx
-
-        neither : (z : Bool) → T (not z) → T z → ⊥
-        neither true m y = m
-        neither false m y = y

@@ -7,6 +7,7 @@ use lib.Dec.{T}
 use lib.ListN.{length, getD, length-map}
 use Rattle.exact.specs.Rational.{ℚ, _*ℚ_, 0ℚ, invℚ, _<ℚ_}
 use Rattle.exact.proofs.Splines.Visit.{on-box}
+use Rattle.lists.proofs.Each.{getD-map}
 use Rattle.lists.specs.Lists.{tab}
 use Rattle.lists.proofs.Tab.{length-tab, getD-tab}
 use Rattle.math.specs.declared.scalars.Scalar.{Scalar}
@@ -18,7 +19,7 @@ use Rattle.geometry.specs.Vector.{Vector, coordinate}
 use Rattle.geometry.specs.NurbCurve.{Piece, point, weighted}
 use Rattle.geometry.specs.Aabb.{unions, place, aabb, couldOverlap}
 use Rattle.geometry.proofs.Sound.Base.{values, Knots, Carries}
-use Rattle.geometry.proofs.Sound.Visit.Hulls.{could-equal, unions-between, getD-map}
+use Rattle.geometry.proofs.Sound.Visit.Hulls.{could-equal, unions-between}
 use Rattle.geometry.proofs.Sound.Visit.Weights.{heavy-at, heavy-pos, place-holds}
 
 -- two boxes with a common point overlap

@@ -9,6 +9,7 @@ use lib.ListN.{length, getD, length-map}
 use Rattle.exact.specs.Rational.{ℚ, _*ℚ_, _-ℚ_, 0ℚ, invℚ, _<ℚ_}
 use Rattle.exact.specs.Hull.{In, ξ}
 use Rattle.exact.proofs.Splines.Visit.{on-domain, on-range, on-band, on-line}
+use Rattle.lists.proofs.Each.{getD-map}
 use Rattle.math.specs.declared.scalars.Scalar.{Scalar}
 use Rattle.math.specs.Scalars.{Arithmetic, absent, couldBeEqual, intersectS}
 use Rattle.math.specs.Values.{Holds}
@@ -21,8 +22,8 @@ use Rattle.geometry.specs.Contains.{axis, narrowed, clip}
 use Rattle.geometry.specs.declared.fat_line.Hat.{Hat}
 use Rattle.geometry.specs.declared.fat_line.Hat.the-variants.{Over, Missing}
 use Rattle.geometry.proofs.Sound.Base.{values, Knots, Inside, Carries}
-use Rattle.geometry.proofs.Sound.Blend.{sharp-known}
-use Rattle.geometry.proofs.Sound.Visit.Hulls.{holds-between, could-equal, getD-map}
+use Rattle.geometry.proofs.Sound.Known.{sharp-known}
+use Rattle.geometry.proofs.Sound.Visit.Hulls.{holds-between, could-equal}
 use Rattle.geometry.proofs.Sound.Visit.Weights.{heavy-at, less-holds}
 use Rattle.geometry.proofs.Sound.Visit.Box.{weight-pos}
 use Rattle.geometry.proofs.Sound.Visit.Greville.{Abscissae, greville-holds}

@@ -6,8 +6,7 @@ use Prim.Native.Nat.{ℕ, zero, suc, _+_, _≤_, _<_}
 use native.Mathlib.Omega.{arith}
 use lib.Dec.{T, eqb, eqb→eq}
 use lib.ListN.{length, getD}
-use lib.Ieee.{Float}
-use Rattle.exact.specs.Rational.{ℚ, _+ℚ_, _*ℚ_, _-ℚ_, 0ℚ, 1ℚ, invℚ, _≤ℚ_, _<ℚ_}
+use Rattle.exact.specs.Rational.{ℚ, _+ℚ_, _*ℚ_, _-ℚ_, 0ℚ, 1ℚ, invℚ, _<ℚ_}
 use Rattle.exact.specs.Spline.{On}
 use Rattle.exact.specs.Hull.{In, β}
 use Rattle.exact.proofs.Splines.Visit.{straight, β-in, confine}
@@ -15,10 +14,9 @@ use Rattle.math.specs.declared.scalars.Scalar.{Scalar}
 use Rattle.math.specs.declared.scalars.Divided.{Divided}
 use Rattle.math.specs.declared.scalars.Divided.the-variants.{Value, Failed}
 use Rattle.math.specs.Scalars.{Arithmetic, sharp, absent, ZERO, ONE, couldBeEqual, unionS, intersectS}
-use Rattle.math.specs.Values.{value, Below, Above, Holds}
+use Rattle.math.specs.Values.{value, Holds}
 use Rattle.math.specs.Encloses.{Encloses}
 use Rattle.math.proofs.Bools.{and-i, and-l, and-r, pick}
-use Rattle.math.proofs.Intervals.Sizes.{moderate}
 use Rattle.math.proofs.Intervals.Tests.{union-left, union-right, intersect-holds, zero-holds, one-holds}
 use Rattle.geometry.specs.Vector.{Vector}
 use Rattle.geometry.specs.NurbCurve.{Piece, point, weighted}
@@ -26,7 +24,7 @@ use Rattle.geometry.specs.Aabb.{place, aabb, couldOverlap, alongBy, alon
 use Rattle.geometry.specs.declared.fat_line.Hat.{Hat}
 use Rattle.geometry.specs.declared.fat_line.Hat.the-variants.{Over, Missing}
 use Rattle.geometry.proofs.Sound.Base.{values, Known, Knots, Carries}
-use Rattle.geometry.proofs.Sound.Blend.{sharp-known}
+use Rattle.geometry.proofs.Sound.Known.{sharp-known, low-value, high-value}
 use Rattle.geometry.proofs.Sound.Visit.Hulls.{holds-between, could-equal, two-ends}
 use Rattle.geometry.proofs.Sound.Visit.Weights.{heavy-at, place-holds}
 use Rattle.geometry.proofs.Sound.Visit.Box.{weight-pos, box-overlaps}
@@ -36,12 +34,6 @@ use Rattle.geometry.proofs.Sound.Visit.Zeros.{divisor}
 pub record Bounded (s : Scalar) : Type 0 where
   pub from : Known (s .lo)
   pub upto : Known (s .hi)
-
-low-value : (x : Float) (q : ℚ) → Known x → Below x q → value x ≤ℚ q
-low-value x q k = subst (λ (z : Float). Below z q → value z ≤ℚ q) (sym (moderate x (k .moderate) .is)) (λ b. b)
-
-high-value : (x : Float) (q : ℚ) → Known x → Above x q → q ≤ℚ value x
-high-value x q k = subst (λ (z : Float). Above z q → q ≤ℚ value z) (sym (moderate x (k .moderate) .is)) (λ b. b)
 
 pub bounded-in : (e : Scalar) (q : ℚ) → Bounded e → Holds e q → In (value (e .lo)) (value (e .hi)) q
 bounded-in e q k h = record { from = low-value (e .lo) q (k .from) (h .low); upto = high-value (e .hi) q (k .upto) (h .high) }

@@ -32,7 +32,7 @@ use Rattle.math.proofs.Intervals.Tests.{sharp-holds, zero-holds}
 use Rattle.geometry.specs.NurbCurve.{knot}
 use Rattle.geometry.specs.FatLine.{window, abscissa, greville}
 use Rattle.geometry.proofs.Sound.Base.{values, Knots}
-use Rattle.geometry.proofs.Sound.Blend.{sharp-known}
+use Rattle.geometry.proofs.Sound.Known.{sharp-known}
 
 -- ---- the degree as a double
 valued : (x : Float) (s : Bool) (a c : ℕ) → HasValue x s a c → Holds (sharp x) (value x)

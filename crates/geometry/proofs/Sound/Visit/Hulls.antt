@@ -1,7 +1,7 @@
 -- An interval holds what lies between two of its numbers, and the union of some intervals holds what lies between the least and the greatest of theirs. Assumes nothing.
-use mathlib.Core.Path.{_≡_, refl, sym, subst}
+use mathlib.Core.Path.{_≡_, sym, subst}
 use mathlib.Core.Logic.{_⊎_, inl, inr, ⊎-elim}
-use mathlib.Core.List.{List, [], _∷_, map}
+use mathlib.Core.List.{List, [], _∷_}
 use Prim.Native.Nat.{ℕ, zero, suc, _-_, _≤_, _<_}
 use native.Mathlib.Nat.{lt-of-not-le}
 use native.Mathlib.Decide.{decLe}
@@ -116,9 +116,3 @@ unions-holds (a ∷ l) (suc i) x k h = met a l i x (omega arith) h
 pub unions-between : (l : List Scalar) (n : ℕ) (f : ℕ → ℚ) (q : ℚ) → length l ≡ n → 1 ≤ n → ((i : ℕ) → i < n → Holds (getD l i absent) (f i))
     → ((a b : ℚ) → ((i : ℕ) → i < n → In a b (f i)) → In a b q) → Holds (unions l) q
 unions-between l n f q e o h k = by-ends (unions l) n f q o (λ i m. unions-holds l i (f i) (subst (λ (z : ℕ). i < z) (sym e) m) (h i m)) k
-
--- ---- an element of a list of results
-pub getD-map : {A B : Type 0} (g : A → B) (l : List A) (i : ℕ) (d : A) (e : B) → i < length l → getD (map g l) i e ≡ g (getD l i d)
-getD-map g [] i d e h = absurd (omega arith)
-getD-map g (x ∷ l) zero d e h = refl
-getD-map g (x ∷ l) (suc i) d e h = getD-map g l i d e (omega arith)

@@ -29,7 +29,7 @@ use Rattle.geometry.specs.Contains.{axis, narrowed, clip}
 use Rattle.geometry.specs.declared.fat_line.Hat.{Hat}
 use Rattle.geometry.specs.declared.fat_line.Hat.the-variants.{Over, Missing}
 use Rattle.geometry.proofs.Sound.Base.{Known, Knots}
-use Rattle.geometry.proofs.Sound.Blend.{le-known}
+use Rattle.geometry.proofs.Sound.Known.{le-known}
 use Rattle.geometry.proofs.Sound.Visit.Keeps.{Kept, kept-if, clip-keeps, Doubles, zeros-doubles}
 
 -- a test that failed did not pass

@@ -1,8 +1,8 @@
 -- The fat line loses no zero: where the spline of a control polygon is zero at t, the zeros of the polygon's intervals are found and hold t. Assumes nothing.
-use mathlib.Core.Path.{_≡_, refl, sym, ap, _∙_, subst}
+use mathlib.Core.Path.{_≡_, refl, sym, _∙_, subst}
 use mathlib.Core.List.{List, [], _∷_, zipWith}
 use mathlib.Core.Bool.{Bool, true, false, cond}
-use Prim.Native.Nat.{ℕ, zero, suc, _-_, _≤_, _<_}
+use Prim.Native.Nat.{ℕ, zero, _-_, _≤_, _<_}
 use native.Mathlib.Omega.{arith}
 use lib.Dec.{T}
 use lib.ListN.{length, getD}
@@ -11,6 +11,7 @@ use Rattle.exact.specs.Rational.{ℚ, _+ℚ_, _*ℚ_, -ℚ_, _-ℚ_, 0ℚ, inv�
 use Rattle.exact.specs.Hull.{In}
 use Rattle.exact.proofs.Field.{ℚring, *ℚ-inv}
 use Rattle.exact.proofs.Splines.Hull.{solve}
+use Rattle.lists.proofs.Each.{getD-zip, length-zip}
 use Rattle.lists.specs.Lists.{lastD}
 use Rattle.math.specs.declared.scalars.Scalar.{Scalar}
 use Rattle.math.specs.declared.scalars.Divided.{Divided}
@@ -23,7 +24,6 @@ use Rattle.geometry.specs.Aabb.{unions}
 use Rattle.geometry.specs.FatLine.{offset, crossing, zerosBy, fatLineZeros}
 use Rattle.geometry.specs.declared.fat_line.Hat.{Hat}
 use Rattle.geometry.specs.declared.fat_line.Hat.the-variants.{Over, Missing}
-use Rattle.geometry.proofs.Sound.Blend.{getD-zip}
 use Rattle.geometry.proofs.Sound.Visit.Keeps.{Kept, kept-if, kept-or}
 use Rattle.geometry.proofs.Sound.Visit.Hulls.{could-equal, unions-holds, unions-between, two-ends}
 
@@ -51,12 +51,6 @@ pub record Crosses (n : ℕ) (x d : ℕ → ℚ) (t : ℚ) : Type 0 where
 pub record Sane (z : Scalar) : Type 0 where
   pub number : ℚ
   pub holds : Holds z number
-
-length-zip : {A B C : Type 0} (g : A → B → C) (a : List A) (b : List B) → length a ≡ length b → length (zipWith g a b) ≡ length a
-unfolding zipWith
-length-zip g [] b e = refl
-length-zip g (x ∷ a) [] e = absurd (omega arith)
-length-zip g (x ∷ a) (y ∷ b) e = ap suc (length-zip g a b (omega arith))
 
 cancels : (x : ℚ) → x +ℚ -ℚ x ≡ 0ℚ
 cancels x = by-rep ℚring (x ∷ []) (search read) (search read) tt
@@ -114,7 +108,7 @@ module _ (ar : Arithmetic) (E : Encloses ar) where
       offsets = zipWith (λ u y. offset ar s ξ₀ d₀ u y) ξs ds
 
       offsets-long : length offsets ≡ n
-      offsets-long = length-zip (λ u y. offset ar s ξ₀ d₀ u y) ξs ds (lξ ∙ sym ld) ∙ lξ
+      offsets-long = length-zip (λ u y. offset ar s ξ₀ d₀ u y) ξs ds (omega (arith, lξ, ld)) ∙ ld
 
       offset-holds : (i : ℕ) → i < n → Holds (getD offsets i absent) (d i -ℚ (d zero +ℚ σ *ℚ (x i -ℚ x zero)))
       offset-holds i l =
