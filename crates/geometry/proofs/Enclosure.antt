@@ -82,7 +82,9 @@ points-long c = length-tab (c .count) (λ i. pointAt (suc (c .dim)) (c .points) 
 -- interval k of point i
 interval : (c : Call) (k i : ℕ) → k < suc (c .dim) → i < c .count → coordinate (point (curve c .points) i) k ≡ scalarAt (c .points) (suc (c .dim) * i + k)
 unfolding pointsOf pointAt
-interval c k i kd ic = ap (λ (v : Vector). coordinate v k) (getD-tab (c .count) (λ i. pointAt (suc (c .dim)) (c .points) i) i [] ic) ∙ getD-tab (suc (c .dim)) (λ k. scalarAt (c .points) (suc (c .dim) * i + k)) k absent kd
+interval c k i kd ic =
+    ap (λ (v : Vector). coordinate v k) (getD-tab (c .count) (λ i. pointAt (suc (c .dim)) (c .points) i) i [] ic)
+    ∙ getD-tab (suc (c .dim)) (λ k. scalarAt (c .points) (suc (c .dim) * i + k)) k absent kd
 
 side : (c : Call) (k : ℕ) → k < c .dim → getD (boxOf c) k absent ≡ scalarAt (c .box) k
 side c k h = getD-tab (c .dim) (λ k. scalarAt (c .box) k) k absent h
@@ -142,7 +144,8 @@ module _ (c : Call) (d : Doubles c) (acc : Accepted c) where
     q = question c
 
     -- degree 0: every piece is the curve, and it is dropped or reported whole
-    flat : c .degree ≡ 0 → Fine (Inner (value (start (c .degree) (curve c))) (value (end (curve c)))) (λ s. s ≡ curve c) (clipped ar (question c) (curve c) (greville ar (c .degree) (length (curve c .points)) (c .knots)))
+    flat : c .degree ≡ 0
+        → Fine (Inner (value (start (c .degree) (curve c))) (value (end (curve c)))) (λ s. s ≡ curve c) (clipped ar (question c) (curve c) (greville ar (c .degree) (length (curve c .points)) (c .knots)))
     unfolding clipped
     flat z = subst (λ (g : Option (List Scalar)). Fine (Inner a b) (λ s. s ≡ curve c) (clipped ar q (curve c) g)) (sym (none-of z))
         (within-inner a b (start p (curve c)) (end (curve c)) (domain (start p (curve c)) (end (curve c))) first final (le-refl a) (le-refl b) (domain-within (start p (curve c)) (end (curve c)) first final ordered))
@@ -151,7 +154,9 @@ module _ (c : Call) (d : Doubles c) (acc : Accepted c) where
         none-of e = ap (λ (m : ℕ). greville ar m (length (curve c .points)) (c .knots)) e ∙ (unfold greville in refl)
 
         ordered : T (le (start (c .degree) (curve c)) (end (curve c)))
-        ordered = le-known (start p (curve c)) (end (curve c)) first final (subst (λ (x : Float). value (start p (curve c)) ≤ℚ value x) (sym last-is) (lt→le (wide p n (c .knots) (ch .long) (ch .room) (ch .known) (ch .sound-knots))))
+        ordered =
+            le-known (start p (curve c)) (end (curve c)) first final
+            (subst (λ (x : Float). value (start p (curve c)) ≤ℚ value x) (sym last-is) (lt→le (wide p n (c .knots) (ch .long) (ch .room) (ch .known) (ch .sound-knots))))
 
     flat-fine : c .degree ≡ 0 → (s : Piece) → s ≡ curve c → Fine (Inner (value (start (c .degree) (curve c))) (value (end (curve c)))) (λ s. s ≡ curve c) (visit ar (question c) s)
     unfolding visit
@@ -231,7 +236,9 @@ module _ (c : Call) (d : Doubles c) (acc : Accepted c) where
     only-weights (Refused m v) h = h
 
     pieces : 1 ≤ c .degree → (k : ℕ) → PiecesKept c (advance (visit ar (question c)) (c .nodes) k (begun (curve c)))
-    pieces one k = go (advance (visit ar q) (c .nodes) k (begun (curve c))) (stands (visit ar q) (c .nodes) (Inner a b) Good (inner-union a b) (visit-fine ar E q n a b) k (begun (curve c)) (record { pieces = (whole-ok one, tt); inside = tt }))
+    pieces one k =
+        go (advance (visit ar q) (c .nodes) k (begun (curve c)))
+        (stands (visit ar q) (c .nodes) (Inner a b) Good (inner-union a b) (visit-fine ar E q n a b) k (begun (curve c)) (record { pieces = (whole-ok one, tt); inside = tt }))
       where
         Good : Piece → Type 0
         Good s = Ok (c .dim) (c .degree) (c .count) (value (start (c .degree) (curve c))) (value (end (curve c))) s

@@ -82,7 +82,8 @@ module _ (p n : ℕ) (ks : List Float) (long : length ks ≡ suc (n + p)) (room 
 
   end-rare : (i : ℕ) → i < length ks → T (eq (knot ks i) (getD ks p nan) || eq (knot ks i) (getD ks n nan)) → tally (values ks) (values ks i) (suc (n + p)) ≤ suc p
   unfolding seldom
-  end-rare i h e = subst (λ (k : ℕ). k ≤ suc p) (counted ks (knot ks i) (known i h) known ∙ ap (tally (values ks) (values ks i)) long) (go (eq (knot ks i) a || eq (knot ks i) b) e (rare i h))
+  end-rare i h e =
+      subst (λ (k : ℕ). k ≤ suc p) (counted ks (knot ks i) (known i h) known ∙ ap (tally (values ks) (values ks i)) long) (go (eq (knot ks i) a || eq (knot ks i) b) e (rare i h))
     where
       times : ℕ
       times = count (λ v. eq v (knot ks i)) ks
@@ -93,7 +94,9 @@ module _ (p n : ℕ) (ks : List Float) (long : length ks ≡ suc (n + p)) (room 
 
   inner-rare : 1 ≤ p → (i : ℕ) → i < length ks → values ks p <ℚ values ks i → values ks i <ℚ values ks n → tally (values ks) (values ks i) (suc (n + p)) ≤ p
   unfolding seldom
-  inner-rare one i h ai ib = subst (λ (k : ℕ). k ≤ p) (counted ks (knot ks i) (known i h) known ∙ ap (tally (values ks) (values ks i)) long) (go (eq (knot ks i) a || eq (knot ks i) b) none-of (lt a (knot ks i) && lt (knot ks i) b) between (rare i h))
+  inner-rare one i h ai ib =
+      subst (λ (k : ℕ). k ≤ p) (counted ks (knot ks i) (known i h) known ∙ ap (tally (values ks) (values ks i)) long)
+      (go (eq (knot ks i) a || eq (knot ks i) b) none-of (lt a (knot ks i) && lt (knot ks i) b) between (rare i h))
     where
       times : ℕ
       times = count (λ v. eq v (knot ks i)) ks

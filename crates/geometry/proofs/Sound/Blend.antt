@@ -68,9 +68,12 @@ module _ (ar : Arithmetic) (E : Encloses ar) where
 
     pub fraction-holds : Holds f (ratio (value t) (value a) (value b))
     unfolding ratio
-    fraction-holds = E .div-holds (ar .sub (sharp t) (sharp a)) (ar .sub (sharp b) (sharp a)) f _ _ e (E .sub-holds _ _ _ _ (sharp-known t kt) (sharp-known a ka)) (E .sub-holds _ _ _ _ (sharp-known b kb) (sharp-known a ka))
+    fraction-holds =
+        E .div-holds (ar .sub (sharp t) (sharp a)) (ar .sub (sharp b) (sharp a)) f _ _ e (E .sub-holds _ _ _ _ (sharp-known t kt) (sharp-known a ka))
+        (E .sub-holds _ _ _ _ (sharp-known b kb) (sharp-known a ka))
 
-    pub between-holds : (A B : Vector) (k : ℕ) (X Y : ℚ) → Holds (coordinate A k) X → Holds (coordinate B k) Y → Holds (coordinate (interpolateV ar A B f) k) (lerp (ratio (value t) (value a) (value b)) X Y)
+    pub between-holds : (A B : Vector) (k : ℕ) (X Y : ℚ) → Holds (coordinate A k) X → Holds (coordinate B k) Y
+        → Holds (coordinate (interpolateV ar A B f) k) (lerp (ratio (value t) (value a) (value b)) X Y)
     unfolding interpolateV
     between-holds A B k X Y h l =
         subst (λ (s : Scalar). Holds s (lerp (ratio (value t) (value a) (value b)) X Y)) (sym (getD-zip (λ x y. interpolateS ar x y f) A B k absent absent absent (present A k X h) (present B k Y l)))
@@ -82,7 +85,8 @@ module _ (ar : Arithmetic) (E : Encloses ar) where
         tame : Tame ar E (coordinate A k) (coordinate B k) f
         tame = record { delta = E .alpha-clear a t b f _ w e; first = E .rest-clear a t b f _ w e; second = E .alpha-clear a t b f _ w e }
 
-    at-fraction : (A B : Vector) (k : ℕ) (X Y : ℚ) → Holds (coordinate A k) X → Holds (coordinate B k) Y → Holds (coordinate (blend ar f A B) k) (lerp (ratio (value t) (value a) (value b)) X Y)
+    at-fraction : (A B : Vector) (k : ℕ) (X Y : ℚ) → Holds (coordinate A k) X → Holds (coordinate B k) Y
+        → Holds (coordinate (blend ar f A B) k) (lerp (ratio (value t) (value a) (value b)) X Y)
     unfolding blend
     at-fraction A B k X Y h l =
         pick (λ (v : Vector). Holds (coordinate v k) (lerp (ratio (value t) (value a) (value b)) X Y)) (isSame f ZERO) A (cond (isSame f ONE) B (interpolateV ar A B f))
@@ -118,13 +122,19 @@ module _ (ar : Arithmetic) (E : Encloses ar) where
       first : Holds (coordinate (blend ar ZERO A B) k) X
       first = unfold blend in (taken (λ (v : Vector). Holds (coordinate v k) X) (isSame ZERO ZERO) A (cond (isSame ZERO ONE) B (interpolateV ar A B ZERO)) zero-same h)
 
-      go : (x y : Bool) → eq a t ≡ x → eq b t ≡ y → Holds (coordinate (blend ar (cond x ZERO (cond y ONE (valueOr (ar .div (ar .sub (sharp t) (sharp a)) (ar .sub (sharp b) (sharp a))) ONE))) A B) k) (lerp (ratio (value t) (value a) (value b)) X Y)
-      go true y e g = subst (λ (q : ℚ). Holds (coordinate (blend ar ZERO A B) k) q) (sym (ap (λ (z : ℚ). lerp (ratio (value t) z (value b)) X Y) (eq-known a t ka kt (subst T (sym e) tt)) ∙ ratio-start (value t) (value b) X Y)) first
+      go : (x y : Bool) → eq a t ≡ x → eq b t ≡ y
+          → Holds (coordinate (blend ar (cond x ZERO (cond y ONE (valueOr (ar .div (ar .sub (sharp t) (sharp a)) (ar .sub (sharp b) (sharp a))) ONE))) A B) k) (lerp (ratio (value t) (value a) (value b)) X Y)
+      go true y e g =
+          subst (λ (q : ℚ). Holds (coordinate (blend ar ZERO A B) k) q)
+          (sym (ap (λ (z : ℚ). lerp (ratio (value t) z (value b)) X Y) (eq-known a t ka kt (subst T (sym e) tt)) ∙ ratio-start (value t) (value b) X Y)) first
       go false true e g = absurd (lt→not-le tb (subst (λ (z : ℚ). z ≤ℚ value t) (sym (eq-known b t kb kt (subst T (sym g) tt))) (le-refl (value t))))
       go false false e g = inner (succeeds a t b (row a t b ka kt kb strict tb) (ar .sub (sharp t) (sharp a)))
         where
           strict : value a <ℚ value t
           strict = not-le→lt (λ m. subst T e (known-eq a t ka kt (le-antisym at m)))
 
-          inner : (f : Scalar) × (ar .div (ar .sub (sharp t) (sharp a)) (ar .sub (sharp b) (sharp a)) ≡ Value f) → Holds (coordinate (blend ar (valueOr (ar .div (ar .sub (sharp t) (sharp a)) (ar .sub (sharp b) (sharp a))) ONE) A B) k) (lerp (ratio (value t) (value a) (value b)) X Y)
-          inner r = subst (λ (z : Scalar). Holds (coordinate (blend ar z A B) k) (lerp (ratio (value t) (value a) (value b)) X Y)) (sym (ap (λ (z : Divided). valueOr z ONE) (r .1) ∙ value-of (r .0) ONE)) (at-fraction a t b ka kt kb strict tb (r .0) (r .1) A B k X Y h l)
+          inner : (f : Scalar) × (ar .div (ar .sub (sharp t) (sharp a)) (ar .sub (sharp b) (sharp a)) ≡ Value f)
+              → Holds (coordinate (blend ar (valueOr (ar .div (ar .sub (sharp t) (sharp a)) (ar .sub (sharp b) (sharp a))) ONE) A B) k) (lerp (ratio (value t) (value a) (value b)) X Y)
+          inner r =
+              subst (λ (z : Scalar). Holds (coordinate (blend ar z A B) k) (lerp (ratio (value t) (value a) (value b)) X Y))
+              (sym (ap (λ (z : Divided). valueOr z ONE) (r .1) ∙ value-of (r .0) ONE)) (at-fraction a t b ka kt kb strict tb (r .0) (r .1) A B k X Y h l)

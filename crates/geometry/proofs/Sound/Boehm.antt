@@ -71,7 +71,9 @@ module _ (ks : List Float) (x : Float) (kx : Known x) (known : (i : ℕ) → i <
       lower (no h) = absurd (clash (lt-of-not-le h))
         where
           clash : j < m → ⊥
-          clash l = lt→not-le (g .below j l) (subst (λ (z : ℚ). z ≤ℚ values ks j) (eq-known (knot ks j) x (known j (omega arith)) kx (subst T (sym (position-passes (λ u. eq u x) ks nan (omega arith))) tt)) (le-refl (values ks j)))
+          clash l =
+              lt→not-le (g .below j l)
+              (subst (λ (z : ℚ). z ≤ℚ values ks j) (eq-known (knot ks j) x (known j (omega arith)) kx (subst T (sym (position-passes (λ u. eq u x) ks nan (omega arith))) tt)) (le-refl (values ks j)))
 
 -- THE CUT BY INSERTION
 module _ (ar : Arithmetic) (E : Encloses ar) (D p : ℕ) (x : Float) (c : Piece) (C : ℕ → ℕ → ℚ) (K : Knots p (length (c .points)) (c .knots)) (I : Inside D (c .points) C) (kx : Known x)
@@ -93,7 +95,9 @@ module _ (ar : Arithmetic) (E : Encloses ar) (D p : ℕ) (x : Float) (c : Piece)
   found = go (group-find (length (c .points) + p) (values (c .knots)) (value x) (K .good .sorted))
     where
       go : Grouped (length (c .points) + p) (values (c .knots)) (value x) → Found (suc p - multiplicity x (c .knots))
-      go g = subst Found (sym missing) (record { m = g .m; s = g .s; grown = r; whole = se; at = placed _ x kx (r .known) (length (insertTimes ar p x e c .points) + p) (g .m) (g .s + e) (r .long) (r .raised .group) (omega (arith, se)) (omega (arith, m<n′ D p (length (c .points)) (values (c .knots)) C x (g .m) (g .s) e (insertTimes ar p x e c) (K .good) r se px xn)) })
+      go g =
+          subst Found (sym missing)
+          (record { m = g .m; s = g .s; grown = r; whole = se; at = placed _ x kx (r .known) (length (insertTimes ar p x e c .points) + p) (g .m) (g .s + e) (r .long) (r .raised .group) (omega (arith, se)) (omega (arith, m<n′ D p (length (c .points)) (values (c .knots)) C x (g .m) (g .s) e (insertTimes ar p x e c) (K .good) r se px xn)) })
         where
           thin : g .s ≤ p
           thin = group-thin p (length (c .points)) (values (c .knots)) (value x) (g .m) (g .s) (K .good) (g .group) px xn
@@ -105,20 +109,30 @@ module _ (ar : Arithmetic) (E : Encloses ar) (D p : ℕ) (x : Float) (c : Piece)
           se = omega (arith, thin)
 
           missing : suc p - multiplicity x (c .knots) ≡ suc p - g .s
-          missing = ap (λ (z : ℕ). suc p - z) (counted (c .knots) x kx (K .known) ∙ ap (tally (values (c .knots)) (value x)) (K .long) ∙ tally-group (length (c .points) + p) (values (c .knots)) (value x) (g .m) (g .s) (g .group) (g .fits))
+          missing =
+              ap (λ (z : ℕ). suc p - z)
+              (counted (c .knots) x kx (K .known) ∙ ap (tally (values (c .knots)) (value x)) (K .long) ∙ tally-group (length (c .points) + p) (values (c .knots)) (value x) (g .m) (g .s) (g .group) (g .fits))
 
           r : Grown D p (length (c .points)) (values (c .knots)) C x (g .m) (g .s) (suc p - g .s) (insertTimes ar p x (suc p - g .s) c)
-          r = subst (λ (z : ℕ). Grown D p (length (c .points)) (values (c .knots)) C x (g .m) (g .s) z (insertTimes ar p x (suc p - g .s) c)) (zero-add (suc p - g .s)) (grown-times ar E D p (length (c .points)) (values (c .knots)) C x (g .m) (g .s) (K .good) kx px xn (suc p - g .s) zero c (grown-none D p c C x (g .m) (g .s) K I (g .group)))
+          r =
+              subst (λ (z : ℕ). Grown D p (length (c .points)) (values (c .knots)) C x (g .m) (g .s) z (insertTimes ar p x (suc p - g .s) c)) (zero-add (suc p - g .s))
+              (grown-times ar E D p (length (c .points)) (values (c .knots)) C x (g .m) (g .s) (K .good) kx px xn (suc p - g .s) zero c (grown-none D p c C x (g .m) (g .s) K I (g .group)))
 
   abbrev full : Piece
   full = insertTimes ar p x (suc p - multiplicity x (c .knots)) c
 
   pub boehm-parts : Parts p (length (c .points)) (values (c .knots) p) (value x) (values (c .knots) (length (c .points))) (leftOf p (boehmCut ar p x c)) (rightOf (boehmCut ar p x c))
   unfolding boehmCut
-  boehm-parts = subst (λ (z : ℕ). Parts p n (u p) (value x) (u n) (record { knots = take (z + suc p) (full .knots); points = take z (full .points) }) (record { knots = drop z (full .knots); points = drop z (full .points) })) (sym (found .at))
+  boehm-parts =
+      subst
+      (λ (z : ℕ). Parts p n (u p) (value x) (u n) (record { knots = take (z + suc p) (full .knots); points = take z (full .points) }) (record { knots = drop z (full .knots); points = drop z (full .points) }))
+      (sym (found .at))
       (severed D p n u C x (found .m) (found .s) (suc p - multiplicity x (c .knots)) full (K .good) (found .grown) (found .whole) px xn)
 
   pub boehm-keeps : (t : ℚ) (v : ℕ → ℚ) → On p (length (c .points)) (values (c .knots)) C t v → Keeps D p t v (value x) (leftOf p (boehmCut ar p x c)) (rightOf (boehmCut ar p x c))
   unfolding boehmCut
-  boehm-keeps t v o = subst (λ (z : ℕ). Keeps D p t v (value x) (record { knots = take (z + suc p) (full .knots); points = take z (full .points) }) (record { knots = drop z (full .knots); points = drop z (full .points) })) (sym (found .at))
+  boehm-keeps t v o =
+      subst
+      (λ (z : ℕ). Keeps D p t v (value x) (record { knots = take (z + suc p) (full .knots); points = take z (full .points) }) (record { knots = drop z (full .knots); points = drop z (full .points) }))
+      (sym (found .at))
       (severed-keeps D p n u C x (found .m) (found .s) (suc p - multiplicity x (c .knots)) full (K .good) (found .grown) (found .whole) px xn t v o)

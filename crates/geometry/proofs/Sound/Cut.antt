@@ -115,13 +115,19 @@ module _ (p n : ℕ) (ks : List Float) (long : length ks ≡ suc (n + p)) (known
   near i h = eq-known (knot ks i) (knot ks 0) (known i (omega arith)) (known 0 (omega arith)) (subst T (ap (λ (u : Float). eq u (knot ks 0)) (getD-take (suc p) ks i nan (omega arith))) each)
     where
       each : T (eq (getD (take (suc p) ks) i nan) (knot ks 0))
-      each = subst T (sym (all-getD (λ u. eq u (knot ks 0)) (take (suc p) ks) i nan (is-true first (and-r (eqb n (suc p)) first (and-l (eqb n (suc p) && first) second passed))) (omega (arith, length-take-le (suc p) ks (omega arith))))) tt
+      each =
+          subst T
+          (sym (all-getD (λ u. eq u (knot ks 0)) (take (suc p) ks) i nan (is-true first (and-r (eqb n (suc p)) first (and-l (eqb n (suc p) && first) second passed))) (omega (arith, length-take-le (suc p) ks (omega arith))))) tt
 
   far : (j : ℕ) → j ≤ p → values ks (suc p + j) ≡ values ks (suc p)
-  far j h = eq-known (knot ks (suc p + j)) (knot ks (suc p)) (known (suc p + j) (omega (arith, bezier-count))) (known (suc p) (omega (arith, bezier-count))) (subst T (ap (λ (u : Float). eq u (knot ks (suc p))) (getD-drop (suc p) ks j nan)) each)
+  far j h =
+      eq-known (knot ks (suc p + j)) (knot ks (suc p)) (known (suc p + j) (omega (arith, bezier-count))) (known (suc p) (omega (arith, bezier-count)))
+      (subst T (ap (λ (u : Float). eq u (knot ks (suc p))) (getD-drop (suc p) ks j nan)) each)
     where
       each : T (eq (getD (drop (suc p) ks) j nan) (knot ks (suc p)))
-      each = subst T (sym (all-getD (λ u. eq u (knot ks (suc p))) (drop (suc p) ks) j nan (is-true second (and-r (eqb n (suc p) && first) second passed)) (omega (arith, length-drop (suc p) ks, bezier-count)))) tt
+      each =
+          subst T
+          (sym (all-getD (λ u. eq u (knot ks (suc p))) (drop (suc p) ks) j nan (is-true second (and-r (eqb n (suc p) && first) second passed)) (omega (arith, length-drop (suc p) ks, bezier-count)))) tt
 
   pub bezier-span : Bezier p (values ks) (values ks p) (values ks (suc p))
   bezier-span = record { start = λ i h. near i h ∙ sym (near p (omega arith)); stop = λ i h l. ap (values ks) (ix i h) ∙ far (i - suc p) (omega arith) }
@@ -150,7 +156,8 @@ module _ (ar : Arithmetic) (E : Encloses ar) (D p : ℕ) (x : Float) (c : Piece)
     xb = subst (λ (z : ℕ). value x <ℚ u z) full xn
 
     triangle-parts : (α : Scalar) → along ≡ Value α → Parts p n (u p) (value x) (u n) (leftOf p (bezierCut ar p x α c)) (rightOf (bezierCut ar p x α c))
-    triangle-parts α e = subst (λ (z : ℕ). Parts p n (u p) (value x) (u z) (leftOf p (bezierCut ar p x α c)) (rightOf (bezierCut ar p x α c))) (sym full) (bezier-parts ar E D p x c C K I kx full px xb α e)
+    triangle-parts α e =
+        subst (λ (z : ℕ). Parts p n (u p) (value x) (u z) (leftOf p (bezierCut ar p x α c)) (rightOf (bezierCut ar p x α c))) (sym full) (bezier-parts ar E D p x c C K I kx full px xb α e)
 
     triangle-keeps : (α : Scalar) → along ≡ Value α → (t : ℚ) (v : ℕ → ℚ) → On p n u C t v → Keeps D p t v (value x) (leftOf p (bezierCut ar p x α c)) (rightOf (bezierCut ar p x α c))
     triangle-keeps α e = bezier-keeps ar E D p x c C K I kx full px xb α e (bezier-span p n (c .knots) (K .long) (K .known) single)
@@ -161,7 +168,8 @@ module _ (ar : Arithmetic) (E : Encloses ar) (D p : ℕ) (x : Float) (c : Piece)
   parts-by true Failed single e = boehm-parts ar E D p x c C K I kx px xn
   parts-by false r single e = boehm-parts ar E D p x c C K I kx px xn
 
-  keeps-by : (z : Bool) (r : Divided) → (T z → T (isBezier p n (c .knots))) → along ≡ r → (t : ℚ) (v : ℕ → ℚ) → On p n u C t v → Keeps D p t v (value x) (leftOf p (cutBy ar p x c z r)) (rightOf (cutBy ar p x c z r))
+  keeps-by : (z : Bool) (r : Divided) → (T z → T (isBezier p n (c .knots))) → along ≡ r → (t : ℚ) (v : ℕ → ℚ) → On p n u C t v
+      → Keeps D p t v (value x) (leftOf p (cutBy ar p x c z r)) (rightOf (cutBy ar p x c z r))
   unfolding cutBy
   keeps-by true (Value α) single e = triangle-keeps (single tt) α e
   keeps-by true Failed single e = boehm-keeps ar E D p x c C K I kx px xn

@@ -29,7 +29,8 @@ pub record Grown (D p n : ℕ) (u : ℕ → ℚ) (C : ℕ → ℕ → ℚ) (x : 
   pub long : length (c .knots) ≡ suc (length (c .points) + p)
   pub known : (i : ℕ) → i < length (c .knots) → Known (knot (c .knots) i)
 
-pub grown-none : (D p : ℕ) (c : Piece) (C : ℕ → ℕ → ℚ) (x : Float) (m s : ℕ) → Knots p (length (c .points)) (c .knots) → Inside D (c .points) C → Group (length (c .points) + p) (values (c .knots)) (value x) m s
+pub grown-none : (D p : ℕ) (c : Piece) (C : ℕ → ℕ → ℚ) (x : Float) (m s : ℕ) → Knots p (length (c .points)) (c .knots) → Inside D (c .points) C
+    → Group (length (c .points) + p) (values (c .knots)) (value x) m s
     → Grown D p (length (c .points)) (values (c .knots)) C x m s zero c
 grown-none D p c C x m s K I g = record { exact = C; inside = I; raised = raised-zero p (length (c .points)) (values (c .knots)) C (value x) m s (K .good .sorted) g; long = K .long; known = K .known }
 
@@ -40,7 +41,9 @@ module _ (ar : Arithmetic) (E : Encloses ar) (D p n : ℕ) (u : ℕ → ℚ) (C 
   grown-once e c r = record {
     exact = λ a. ctrls p (values ks) (r .exact a) (value x) k;
     inside = once-inside ar E D p k x ks ps (r .exact) (f .from) kn (r .long) kx (r .known) (r .raised .sorted) (f .after) (f .before) (r .inside);
-    raised = subst (λ (z : ℕ). Raised p n u C (value x) m s (suc e) z (values (knotsWith k x ks)) (λ a. ctrls p (values ks) (r .exact a) (value x) k)) (sym (length-points ar p k x ks ps (f .from) kn))
+    raised =
+        subst (λ (z : ℕ). Raised p n u C (value x) m s (suc e) z (values (knotsWith k x ks)) (λ a. ctrls p (values ks) (r .exact a) (value x) k))
+        (sym (length-points ar p k x ks ps (f .from) kn))
         (subst (λ (z : ℕ → ℚ). Raised p n u C (value x) m s (suc e) (suc (length ps)) z (λ a. ctrls p (values ks) (r .exact a) (value x) k)) (sym same)
         (raised-insert p n u C (value x) m s e (length ps) (values ks) (r .exact) k (r .raised) (omega (arith, kn)) (f .after) (f .before)));
     long = omega (arith, length-knots k x ks kl, r .long, length-points ar p k x ks ps (f .from) kn);
@@ -87,7 +90,9 @@ module _ (ar : Arithmetic) (E : Encloses ar) (D p n : ℕ) (u : ℕ → ℚ) (C 
     where
       ix : (e : ℕ) → e ≡ e + zero
       ix e = omega arith
-  grown-times (suc j) e c r = subst (λ (z : ℕ). Grown D p n u C x m s z (insertTimes ar p x j (insertOnce ar p (insertionSpan p (length (c .points)) (c .knots) x) x c))) (ix e j) (grown-times j (suc e) _ (grown-once e c r))
+  grown-times (suc j) e c r =
+      subst (λ (z : ℕ). Grown D p n u C x m s z (insertTimes ar p x j (insertOnce ar p (insertionSpan p (length (c .points)) (c .knots) x) x c))) (ix e j)
+      (grown-times j (suc e) _ (grown-once e c r))
     where
       ix : (e j : ℕ) → suc e + j ≡ e + suc j
       ix e j = omega arith

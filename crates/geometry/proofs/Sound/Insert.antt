@@ -36,7 +36,8 @@ pub record Falls (ks : List Float) (p : ℕ) (t : Float) (d k : ℕ) : Type 0 wh
   pub before : value t <ℚ value (knot ks (suc k))
 
 -- the span that `highest` finds, among known knots, holds t
-pub falls : (ks : List Float) (p : ℕ) (t : Float) (d : ℕ) → Known t → ((i : ℕ) → i ≤ p + d → Known (knot ks i)) → value (knot ks p) ≤ℚ value t → value t <ℚ value (knot ks (p + d)) → Falls ks p t d (highest ks t p d)
+pub falls : (ks : List Float) (p : ℕ) (t : Float) (d : ℕ) → Known t → ((i : ℕ) → i ≤ p + d → Known (knot ks i)) → value (knot ks p) ≤ℚ value t → value t <ℚ value (knot ks (p + d))
+    → Falls ks p t d (highest ks t p d)
 unfolding highest
 falls ks p t zero kt kn a b = absurd (lt→not-le (subst (λ (z : ℕ). value t <ℚ value (knot ks z)) (ix p) b) a)
   where
@@ -78,7 +79,8 @@ falls ks p t (suc d) kt kn a b = go (falls ks p t d kt (λ i h. kn i (omega arit
 module _ (k : ℕ) (t : Float) (ks : List Float) (h : k < length ks) where
   pub knot-low : (i : ℕ) → i ≤ k → knot (knotsWith k t ks) i ≡ knot ks i
   unfolding knotsWith
-  knot-low i l = List·getD-append (take (suc k) ks) (t ∷ drop (suc k) ks) nan i (subst (λ (z : ℕ). i < z) (sym (length-take-le (suc k) ks h)) (omega arith)) ∙ getD-take (suc k) ks i nan (omega arith)
+  knot-low i l =
+      List·getD-append (take (suc k) ks) (t ∷ drop (suc k) ks) nan i (subst (λ (z : ℕ). i < z) (sym (length-take-le (suc k) ks h)) (omega arith)) ∙ getD-take (suc k) ks i nan (omega arith)
 
   behind : (j : ℕ) → knot (knotsWith k t ks) (suc k + j) ≡ getD (t ∷ drop (suc k) ks) j nan
   unfolding knotsWith
@@ -135,7 +137,8 @@ module _ (k : ℕ) (t : Float) (ks : List Float) (h : k < length ks) where
         where
           eq : i ≤ suc k → k < i → i ≡ suc k
           eq b a = omega arith
-      go (no a) (no b) = subst Known (sym (ap (knot (knotsWith k t ks)) (eq (lt-of-not-le b)) ∙ knot-high (pred i) (lt (lt-of-not-le b)))) (kn (pred i) (omega (arith, length-knots, lt-of-not-le b)))
+      go (no a) (no b) =
+          subst Known (sym (ap (knot (knotsWith k t ks)) (eq (lt-of-not-le b)) ∙ knot-high (pred i) (lt (lt-of-not-le b)))) (kn (pred i) (omega (arith, length-knots, lt-of-not-le b)))
         where
           eq : suc k < i → i ≡ suc (pred i)
           eq b = omega arith
@@ -153,7 +156,8 @@ module _ (ar : Arithmetic) (p k : ℕ) (t : Float) (ks : List Float) (ps : List 
 
   pub length-points : length (pointsWith ar p k t ks ps) ≡ suc (length ps)
   unfolding pointsWith
-  length-points = length-append (take (suc k - p) ps) (tab p mixed ++ drop k ps) ∙ ap₂ _+_ first (length-append (tab p mixed) (drop k ps) ∙ ap₂ _+_ (length-tab p mixed) (length-drop k ps)) ∙ nat
+  length-points =
+      length-append (take (suc k - p) ps) (tab p mixed ++ drop k ps) ∙ ap₂ _+_ first (length-append (tab p mixed) (drop k ps) ∙ ap₂ _+_ (length-tab p mixed) (length-drop k ps)) ∙ nat
     where
       nat : suc k - p + (p + (length ps - k)) ≡ suc (length ps)
       nat = omega arith
@@ -231,7 +235,8 @@ module _ (ar : Arithmetic) (E : Encloses ar) (D p k : ℕ) (t : Float) (ks : Lis
           → Holds (coordinate (point (pointsWith ar p k t ks ps) i) a) (pick x (C a i) (pick y (round (values ks) p 1 (value t) (C a) (pred i)) (C a (pred i))))
       go a aD i l (yes x) y = subst (λ (v : Vector). Holds (coordinate v a) (C a i)) (sym (point-low ar p k t ks ps pk kn i x)) (I .at a i aD (omega arith))
       go a aD i l (no x) (yes y) = mid-holds a I aD i (lt-of-not-le x) y
-      go a aD i l (no x) (no y) = subst (λ (v : Vector). Holds (coordinate v a) (C a (pred i))) (sym (point-high ar p k t ks ps pk kn i (lt-of-not-le y))) (I .at a (pred i) aD (small (lt-of-not-le y)))
+      go a aD i l (no x) (no y) =
+          subst (λ (v : Vector). Holds (coordinate v a) (C a (pred i))) (sym (point-high ar p k t ks ps pk kn i (lt-of-not-le y))) (I .at a (pred i) aD (small (lt-of-not-le y)))
         where
           small : k < i → pred i < length ps
           small m = omega arith

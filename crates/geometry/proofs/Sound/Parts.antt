@@ -123,7 +123,8 @@ module _ (D p n : ℕ) (u : ℕ → ℚ) (C : ℕ → ℕ → ℚ) (x : Float) (
   pub severed : Parts p n (u p) (value x) (u n) (record { knots = take (m + suc p) (z .knots); points = take m (z .points) }) (record { knots = drop m (z .knots); points = drop m (z .points) })
   severed = record { one = left-part; two = right-part }
 
-  pub severed-keeps : (t : ℚ) (v : ℕ → ℚ) → On p n u C t v → Keeps D p t v (value x) (record { knots = take (m + suc p) (z .knots); points = take m (z .points) }) (record { knots = drop m (z .knots); points = drop m (z .points) })
+  pub severed-keeps : (t : ℚ) (v : ℕ → ℚ) → On p n u C t v
+      → Keeps D p t v (value x) (record { knots = take (m + suc p) (z .knots); points = take m (z .points) }) (record { knots = drop m (z .knots); points = drop m (z .points) })
   severed-keeps t v o = record {
     left = λ tx. record {
       exact = r .exact;

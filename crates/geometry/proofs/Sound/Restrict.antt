@@ -87,7 +87,8 @@ mid-fits ar a b = div-fits binary64 _ twoF
 
 module _ (ar : Arithmetic) (E : Encloses ar) (p : ℕ) where
   -- ---- one cut
-  parts : (c : Piece) (x : Float) → Knots p (length (c .points)) (c .knots) → Strict p c x → Parts p (length (c .points)) (values (c .knots) p) (value x) (values (c .knots) (length (c .points))) (leftOf p (fullCut ar p x c)) (rightOf (fullCut ar p x c))
+  parts : (c : Piece) (x : Float) → Knots p (length (c .points)) (c .knots) → Strict p c x
+      → Parts p (length (c .points)) (values (c .knots) p) (value x) (values (c .knots) (length (c .points))) (leftOf p (fullCut ar p x c)) (rightOf (fullCut ar p x c))
   parts c x k s = cut-parts ar E 0 p x c (λ _ _. 0ℚ) k (record { at = λ a i h. absurd (omega arith) }) (s .known) (s .from) (s .upto)
 
   pub left-sub : (c : Piece) (x : Float) → Knots p (length (c .points)) (c .knots) → Strict p c x → Sub p c (leftOf p (fullCut ar p x c))
@@ -106,7 +107,8 @@ module _ (ar : Arithmetic) (E : Encloses ar) (p : ℕ) where
     upto = subst (λ (z : ℚ). z ≤ℚ values (c .knots) (length (c .points))) (sym (h .upto)) (le-refl (values (c .knots) (length (c .points))));
   }
 
-  keeps : (D : ℕ) (t : ℚ) (v : ℕ → ℚ) (c : Piece) (x : Float) → Knots p (length (c .points)) (c .knots) → Strict p c x → Carries D p t v c → Keeps D p t v (value x) (leftOf p (fullCut ar p x c)) (rightOf (fullCut ar p x c))
+  keeps : (D : ℕ) (t : ℚ) (v : ℕ → ℚ) (c : Piece) (x : Float) → Knots p (length (c .points)) (c .knots) → Strict p c x → Carries D p t v c
+      → Keeps D p t v (value x) (leftOf p (fullCut ar p x c)) (rightOf (fullCut ar p x c))
   keeps D t v c x k s h = cut-keeps ar E D p x c (h .exact) k (h .inside) (s .known) (s .from) (s .upto) t v (h .on)
 
   -- ---- an end that is cut only where it lies strictly inside
@@ -142,17 +144,20 @@ module _ (ar : Arithmetic) (E : Encloses ar) (p : ℕ) where
 
   -- ---- what they hold
   module _ (D : ℕ) (t : ℚ) (v : ℕ → ℚ) where
-    from-keeps : (c : Piece) (x : Float) → Knots p (length (c .points)) (c .knots) → (b : Bool) → (T b → Strict p c x) → (T b → value x ≤ℚ t) → Carries D p t v c → Carries D p t v (fromBy ar p x c b .piece)
+    from-keeps : (c : Piece) (x : Float) → Knots p (length (c .points)) (c .knots) → (b : Bool) → (T b → Strict p c x) → (T b → value x ≤ℚ t) → Carries D p t v c
+        → Carries D p t v (fromBy ar p x c b .piece)
     unfolding fromBy
     from-keeps c x k true s l h = keeps D t v c x k (s tt) h .right (l tt)
     from-keeps c x k false s l h = h
 
-    upto-keeps : (c : Piece) (x : Float) → Knots p (length (c .points)) (c .knots) → (b : Bool) → (T b → Strict p c x) → (T b → t ≤ℚ value x) → Carries D p t v c → Carries D p t v (upToBy ar p x c b .piece)
+    upto-keeps : (c : Piece) (x : Float) → Knots p (length (c .points)) (c .knots) → (b : Bool) → (T b → Strict p c x) → (T b → t ≤ℚ value x) → Carries D p t v c
+        → Carries D p t v (upToBy ar p x c b .piece)
     unfolding upToBy
     upto-keeps c x k true s l h = keeps D t v c x k (s tt) h .left (l tt)
     upto-keeps c x k false s l h = h
 
-    pub restrict-keeps : (c : Piece) (h : Scalar) → Knots p (length (c .points)) (c .knots) → T (fits binary64 (h .lo)) → T (fits binary64 (h .hi)) → Holds h t → Carries D p t v c → Carries D p t v (restrict ar p (h .lo) (h .hi) c .piece)
+    pub restrict-keeps : (c : Piece) (h : Scalar) → Knots p (length (c .points)) (c .knots) → T (fits binary64 (h .lo)) → T (fits binary64 (h .hi)) → Holds h t → Carries D p t v c
+        → Carries D p t v (restrict ar p (h .lo) (h .hi) c .piece)
     unfolding restrict
     restrict-keeps c h k f g at w = upto-keeps a (h .hi) (z .knots) (inDomain (start p a) (end a) (h .hi)) s (λ b. high-value (h .hi) t (s b .known) (at .high))
         (from-keeps c (h .lo) k (inDomain (start p c) (end c) (h .lo)) r (λ b. low-value (h .lo) t (r b .known) (at .low)) w)
@@ -169,7 +174,8 @@ module _ (ar : Arithmetic) (E : Encloses ar) (p : ℕ) where
         s : T (inDomain (start p a) (end a) (h .hi)) → Strict p a (h .hi)
         s = strict p a (h .hi) (z .knots) g
 
-    pub split-keeps : (c : Piece) (x : Float) → Knots p (length (c .points)) (c .knots) → T (fits binary64 x) → Carries D p t v c → Both (λ l r. Carries D p t v l ⊎ Carries D p t v r) (split ar p x c)
+    pub split-keeps : (c : Piece) (x : Float) → Knots p (length (c .points)) (c .knots) → T (fits binary64 x) → Carries D p t v c
+        → Both (λ l r. Carries D p t v l ⊎ Carries D p t v r) (split ar p x c)
     unfolding split splitBy
     split-keeps c x k f w = go (inDomain (start p c) (end c) x) (strict p c x k f)
       where

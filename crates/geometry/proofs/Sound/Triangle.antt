@@ -54,7 +54,8 @@ length-sides rows = length-append (map (λ row. getD row 0 []) rows) (reverse (m
 
 side-near : (rows : List (List Vector)) (i : ℕ) → i < length rows → point (sides rows) i ≡ point (getD rows i []) 0
 unfolding sides
-side-near rows i h = List·getD-append (map (λ row. getD row 0 []) rows) (reverse (map (λ row. lastD row []) rows)) [] i (subst (λ (k : ℕ). i < k) (sym (length-map rows (λ row. getD row 0 []))) h)
+side-near rows i h =
+    List·getD-append (map (λ row. getD row 0 []) rows) (reverse (map (λ row. lastD row []) rows)) [] i (subst (λ (k : ℕ). i < k) (sym (length-map rows (λ row. getD row 0 []))) h)
     ∙ getD-map (λ row. getD row 0 []) rows i [] [] h
 
 side-far : (rows : List (List Vector)) (i : ℕ) → i < length rows → point (sides rows) (length rows + i) ≡ lastD (getD rows (length rows - suc i) []) []
@@ -117,7 +118,9 @@ module _ (ar : Arithmetic) (E : Encloses ar) (D : ℕ) (C : ℕ → ℕ → ℚ)
     row-at i h = row-cast (omega arith) refl (row-of (suc p) zero (suc p) i points (row-cast refl full (row-first points I)) (omega arith) (omega arith))
 
     pub near-holds : (k i : ℕ) → k < D → i ≤ p → Holds (coordinate (point (sides (triangle ar α (suc p) points)) i) k) (near-side (ratio (value x) (value a) (value b)) (C k) i)
-    near-holds k i kD h = subst (λ (q : Vector). Holds (coordinate q k) (near-side ρ (C k) i)) (sym (side-near rows i (omega (arith, length-triangle ar α (suc p) points)))) (row-at i h .holds k zero kD (omega arith))
+    near-holds k i kD h =
+        subst (λ (q : Vector). Holds (coordinate q k) (near-side ρ (C k) i)) (sym (side-near rows i (omega (arith, length-triangle ar α (suc p) points))))
+        (row-at i h .holds k zero kD (omega arith))
 
     pub far-holds : (k i : ℕ) → k < D → i ≤ p → Holds (coordinate (point (sides (triangle ar α (suc p) points)) (suc p + i)) k) (far-side (ratio (value x) (value a) (value b)) p (C k) i)
     far-holds k i kD h = subst (λ (q : Vector). Holds (coordinate q k) (far-side ρ p (C k) i)) (sym there) (row-at (p - i) (omega arith) .holds k i kD (omega arith))
@@ -132,7 +135,8 @@ module _ (ar : Arithmetic) (E : Encloses ar) (D : ℕ) (C : ℕ → ℕ → ℚ)
         back = omega (arith, L)
 
         there : point (sides (triangle ar α (suc p) points)) (suc p + i) ≡ point (getD (triangle ar α (suc p) points) (p - i) []) i
-        there = ap (λ (z : ℕ). point (sides rows) (z + i)) (sym L) ∙ side-far rows i (omega (arith, L)) ∙ ap (λ (z : ℕ). lastD (getD rows z []) []) back ∙ ap (point (getD rows (p - i) [])) ix
+        there =
+            ap (λ (z : ℕ). point (sides rows) (z + i)) (sym L) ∙ side-far rows i (omega (arith, L)) ∙ ap (λ (z : ℕ). lastD (getD rows z []) []) back ∙ ap (point (getD rows (p - i) [])) ix
 
 -- ---- the knots: a, x and b, p + 1 times each
 module _ (p : ℕ) (a x b : Float) where
@@ -143,14 +147,20 @@ module _ (p : ℕ) (a x b : Float) where
 
   knot-a : (i : ℕ) → i ≤ p → knot (bezierKnots p a x b) i ≡ a
   unfolding bezierKnots
-  knot-a i h = List·getD-append (replicate (suc p) a) (replicate (suc p) x ++ replicate (suc p) b) nan i (subst (λ (z : ℕ). i < z) (sym (length-replicate (suc p) a)) (omega arith)) ∙ getD-replicate (suc p) i a nan (omega arith)
+  knot-a i h =
+      List·getD-append (replicate (suc p) a) (replicate (suc p) x ++ replicate (suc p) b) nan i (subst (λ (z : ℕ). i < z) (sym (length-replicate (suc p) a)) (omega arith))
+      ∙ getD-replicate (suc p) i a nan (omega arith)
 
   behind-a : (j : ℕ) → knot (bezierKnots p a x b) (suc p + j) ≡ getD (replicate (suc p) x ++ replicate (suc p) b) j nan
   unfolding bezierKnots
-  behind-a j = ap (λ (z : ℕ). getD (replicate (suc p) a ++ (replicate (suc p) x ++ replicate (suc p) b)) (z + j) nan) (sym (length-replicate (suc p) a)) ∙ getD-append-add (replicate (suc p) a) (replicate (suc p) x ++ replicate (suc p) b) j nan
+  behind-a j =
+      ap (λ (z : ℕ). getD (replicate (suc p) a ++ (replicate (suc p) x ++ replicate (suc p) b)) (z + j) nan) (sym (length-replicate (suc p) a))
+      ∙ getD-append-add (replicate (suc p) a) (replicate (suc p) x ++ replicate (suc p) b) j nan
 
   knot-x : (i : ℕ) → i ≤ p → knot (bezierKnots p a x b) (suc p + i) ≡ x
-  knot-x i h = behind-a i ∙ List·getD-append (replicate (suc p) x) (replicate (suc p) b) nan i (subst (λ (z : ℕ). i < z) (sym (length-replicate (suc p) x)) (omega arith)) ∙ getD-replicate (suc p) i x nan (omega arith)
+  knot-x i h =
+      behind-a i ∙ List·getD-append (replicate (suc p) x) (replicate (suc p) b) nan i (subst (λ (z : ℕ). i < z) (sym (length-replicate (suc p) x)) (omega arith))
+      ∙ getD-replicate (suc p) i x nan (omega arith)
 
   knot-b : (i : ℕ) → i ≤ p → knot (bezierKnots p a x b) (suc p + (suc p + i)) ≡ b
   knot-b i h = behind-a (suc p + i) ∙ ap (λ (z : ℕ). getD (replicate (suc p) x ++ replicate (suc p) b) (z + i) nan) (sym (length-replicate (suc p) x))

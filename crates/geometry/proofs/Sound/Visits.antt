@@ -90,13 +90,15 @@ module _ (ar : Arithmetic) (E : Encloses ar) (q : Question) (N : ℕ) (a b : ℚ
   unfolding handOn
   on-fine c r h s = pick (Fine (Inner a b) Good) (weighted dim (r .piece .points)) (restricted (r .cuts) (r .piece)) badWeight (λ w. sub-ok dim p N a b c (r .piece) h s w) (λ _. tt)
 
-  both-fine : (c : Piece) (hat : Scalar) (s : Halves) → Ok (q .dim) (q .degree) N a b c → Inner a b hat → Both (λ l r. Sub (q .degree) c l × Sub (q .degree) c r) s → Fine (Inner a b) (Ok (q .dim) (q .degree) N a b) (handBoth (q .dim) hat s)
+  both-fine : (c : Piece) (hat : Scalar) (s : Halves) → Ok (q .dim) (q .degree) N a b c → Inner a b hat → Both (λ l r. Sub (q .degree) c l × Sub (q .degree) c r) s
+      → Fine (Inner a b) (Ok (q .dim) (q .degree) N a b) (handBoth (q .dim) hat s)
   unfolding handBoth
   both-fine c hat uncut h i s = i
   both-fine c hat (both l r) h i s = pick (Fine (Inner a b) Good) (weighted dim (l .points) && weighted dim (r .points)) (halved l r) badWeight
       (λ w. (sub-ok dim p N a b c l h (s .0) (and-l (weighted dim (l .points)) (weighted dim (r .points)) w), sub-ok dim p N a b c r h (s .1) (and-r (weighted dim (l .points)) (weighted dim (r .points)) w))) (λ _. tt)
 
-  shrink-fine : (c : Piece) (h : Hat) → Ok (q .dim) (q .degree) N a b c → ((hat : Scalar) → h ≡ Over hat → Within (start (q .degree) c) (end c) hat) → Fine (Inner a b) (Ok (q .dim) (q .degree) N a b) (shrink ar q c h)
+  shrink-fine : (c : Piece) (h : Hat) → Ok (q .dim) (q .degree) N a b c → ((hat : Scalar) → h ≡ Over hat → Within (start (q .degree) c) (end c) hat)
+      → Fine (Inner a b) (Ok (q .dim) (q .degree) N a b) (shrink ar q c h)
   unfolding shrink
   shrink-fine c Missing k w = tt
   shrink-fine c (Over hat) k w = pick (Fine (Inner a b) Good) (restricts ar (start p c) (end c) hat (extent dim (c .points)) (carried dim (q .box) (c .points))) _ _
@@ -116,7 +118,9 @@ module _ (ar : Arithmetic) (E : Encloses ar) (q : Question) (N : ℕ) (a b : ℚ
   -- THE VISIT MAKES ACCEPTED PIECES
   clipped-fine : (c : Piece) (g : Option (List Scalar)) → Ok (q .dim) (q .degree) N a b c → Fine (Inner a b) (Ok (q .dim) (q .degree) N a b) (clipped ar q c g)
   unfolding clipped
-  clipped-fine c none k = within-inner a b (start p c) (end c) (domain (start p c) (end c)) (start-known p c (k .knots)) (end-known p c (k .knots)) (k .from) (k .upto) (domain-within (start p c) (end c) (start-known p c (k .knots)) (end-known p c (k .knots)) (start-end p c (k .knots)))
+  clipped-fine c none k =
+      within-inner a b (start p c) (end c) (domain (start p c) (end c)) (start-known p c (k .knots)) (end-known p c (k .knots)) (k .from) (k .upto)
+      (domain-within (start p c) (end c) (start-known p c (k .knots)) (end-known p c (k .knots)) (start-end p c (k .knots)))
   clipped-fine c (some ξ) k = shrink-fine c (clip ar dim (c .points) ξ (domain (start p c) (end c)) 0 (q .box)) k (λ hat e. clip-within p c (k .knots) ar E dim ξ (q .box) hat e)
 
   pub visit-fine : (c : Piece) → Ok (q .dim) (q .degree) N a b c → Fine (Inner a b) (Ok (q .dim) (q .degree) N a b) (visit ar q c)
@@ -136,12 +140,14 @@ module _ (ar : Arithmetic) (E : Encloses ar) (q : Question) (N : ℕ) (a b : ℚ
     unfolding handOn
     on-kept r h = pick (Kept At Has) (weighted dim (r .piece .points)) (restricted (r .cuts) (r .piece)) badWeight (λ _. h) (λ _. tt)
 
-    both-kept : (hat : Scalar) (s : Halves) → Holds hat t → Both (λ l r. Carries (suc (q .dim)) (q .degree) t v l ⊎ Carries (suc (q .dim)) (q .degree) t v r) s → Kept (λ s. Holds s t) (Carries (suc (q .dim)) (q .degree) t v) (handBoth (q .dim) hat s)
+    both-kept : (hat : Scalar) (s : Halves) → Holds hat t → Both (λ l r. Carries (suc (q .dim)) (q .degree) t v l ⊎ Carries (suc (q .dim)) (q .degree) t v r) s
+        → Kept (λ s. Holds s t) (Carries (suc (q .dim)) (q .degree) t v) (handBoth (q .dim) hat s)
     unfolding handBoth
     both-kept hat uncut h s = h
     both-kept hat (both l r) h s = pick (Kept At Has) (weighted dim (l .points) && weighted dim (r .points)) (halved l r) badWeight (λ _. s) (λ _. tt)
 
-    shrink-kept : (c : Piece) (hat : Scalar) → Ok (q .dim) (q .degree) N a b c → Carries (suc (q .dim)) (q .degree) t v c → Within (start (q .degree) c) (end c) hat → Holds hat t → Kept (λ s. Holds s t) (Carries (suc (q .dim)) (q .degree) t v) (shrink ar q c (Over hat))
+    shrink-kept : (c : Piece) (hat : Scalar) → Ok (q .dim) (q .degree) N a b c → Carries (suc (q .dim)) (q .degree) t v c → Within (start (q .degree) c) (end c) hat → Holds hat t
+        → Kept (λ s. Holds s t) (Carries (suc (q .dim)) (q .degree) t v) (shrink ar q c (Over hat))
     unfolding shrink
     shrink-kept c hat k h w at = pick (Kept At Has) (restricts ar (start p c) (end c) hat (extent dim (c .points)) (carried dim (q .box) (c .points))) _ _
         (λ _. on-kept (restrict ar p (hat .lo) (hat .hi) c) (restrict-keeps ar E p (suc dim) t v c hat (k .knots) (w .double-lo) (w .double-hi) at h))
@@ -150,9 +156,12 @@ module _ (ar : Arithmetic) (E : Encloses ar) (q : Question) (N : ℕ) (a b : ℚ
         halved-keeps : Both (λ l r. Carries (suc (q .dim)) (q .degree) t v l ⊎ Carries (suc (q .dim)) (q .degree) t v r) (splitMid ar (q .degree) c)
         halved-keeps = unfold splitMid in split-keeps ar E p (suc dim) t v c (midParameter ar (start p c) (end c)) (k .knots) (mid-fits ar (start p c) (end c)) h
 
-    clipped-kept : (c : Piece) → Ok (q .dim) (q .degree) N a b c → Carries (suc (q .dim)) (q .degree) t v c → Kept (λ s. Holds s t) (Carries (suc (q .dim)) (q .degree) t v) (clipped ar q c (greville ar (q .degree) (length (c .points)) (c .knots)))
+    clipped-kept : (c : Piece) → Ok (q .dim) (q .degree) N a b c → Carries (suc (q .dim)) (q .degree) t v c
+        → Kept (λ s. Holds s t) (Carries (suc (q .dim)) (q .degree) t v) (clipped ar q c (greville ar (q .degree) (length (c .points)) (c .knots)))
     unfolding clipped
-    clipped-kept c k h = subst (λ (g : Option (List Scalar)). Kept At Has (clipped ar q c g)) (sym (g .1)) (subst (λ (z : Hat). Kept At Has (shrink ar q c z)) (sym (f .1)) (shrink-kept c (f .0) k h (clip-within p c (k .knots) ar E dim (g .0) (q .box) (f .0) (f .1)) (f .2)))
+    clipped-kept c k h =
+        subst (λ (g : Option (List Scalar)). Kept At Has (clipped ar q c g)) (sym (g .1))
+        (subst (λ (z : Hat). Kept At Has (shrink ar q c z)) (sym (f .1)) (shrink-kept c (f .0) k h (clip-within p c (k .knots) ar E dim (g .0) (q .box) (f .0) (f .1)) (f .2)))
       where
         g : (ξs : List Scalar) × (greville ar (q .degree) (length (c .points)) (c .knots) ≡ some ξs) × Abscissae (q .degree) (length (c .points)) (c .knots) ξs
         g = greville-found ar E p (length (c .points)) (c .knots) 1≤p p≤7 (k .knots)

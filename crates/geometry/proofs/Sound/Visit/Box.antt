@@ -23,7 +23,8 @@ use Rattle.geometry.proofs.Sound.Visit.Hulls.{could-equal, unions-betwe
 use Rattle.geometry.proofs.Sound.Visit.Weights.{heavy-at, heavy-pos, place-holds}
 
 -- two boxes with a common point overlap
-pub overlap : (xs ys : List Scalar) (q : ℕ → ℚ) → length xs ≡ length ys → ((k : ℕ) → k < length xs → Holds (getD xs k absent) (q k)) → ((k : ℕ) → k < length xs → Holds (getD ys k absent) (q k))
+pub overlap : (xs ys : List Scalar) (q : ℕ → ℚ) → length xs ≡ length ys → ((k : ℕ) → k < length xs → Holds (getD xs k absent) (q k))
+    → ((k : ℕ) → k < length xs → Holds (getD ys k absent) (q k))
     → T (couldOverlap xs ys)
 unfolding couldOverlap
 overlap [] ys q e f g = tt

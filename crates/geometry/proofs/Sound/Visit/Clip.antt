@@ -52,7 +52,8 @@ narrowed-found hat (Over z) t h f = passes (couldBeEqual z hat) (Over (intersect
 
 module _ (ar : Arithmetic) (dim : ℕ) (ps : List Vector) (ξs : List Scalar) (t : ℚ) (q : ℕ → ℚ)
     (f : (k : ℕ) (e : Scalar) → k < dim → Holds e (q k) → Found (fatLineZeros ar ξs (axis ar dim k e ps)) t) where
-  steps : (es : List Scalar) (k : ℕ) (hat : Scalar) → k + length es ≤ dim → ((j : ℕ) → j < length es → Holds (getD es j absent) (q (k + j))) → Holds hat t → Found (clip ar dim ps ξs hat k es) t
+  steps : (es : List Scalar) (k : ℕ) (hat : Scalar) → k + length es ≤ dim → ((j : ℕ) → j < length es → Holds (getD es j absent) (q (k + j))) → Holds hat t
+      → Found (clip ar dim ps ξs hat k es) t
   unfolding clip
   steps [] k hat l b h = h
   steps (e ∷ es) k hat l b h =
@@ -77,7 +78,9 @@ module _ (ar : Arithmetic) (E : Encloses ar) (dim p : ℕ) (c : Piece) (K : Knot
   -- the domain holds t
   pub domain-holds : Holds (domain (start p c) (end c)) t
   unfolding domain
-  domain-holds = holds-between _ (values (c .knots) p) t (values (c .knots) n) (union-left _ _ _ (sharp-known (start p c) (K .known p (omega (arith, K .long))))) (union-right _ _ _ (sharp-known (end c) (K .known n (omega (arith, K .long))))) (inside .from) (inside .upto)
+  domain-holds =
+      holds-between _ (values (c .knots) p) t (values (c .knots) n) (union-left _ _ _ (sharp-known (start p c) (K .known p (omega (arith, K .long)))))
+      (union-right _ _ _ (sharp-known (end c) (K .known n (omega (arith, K .long))))) (inside .from) (inside .upto)
     where
       inside : In (values (c .knots) p) (values (c .knots) (length (c .points))) t
       inside = on-domain p n (values (c .knots)) (K .good .sorted) (h .exact) t v (h .on)
@@ -107,7 +110,9 @@ module _ (ar : Arithmetic) (E : Encloses ar) (dim p : ℕ) (c : Piece) (K : Knot
       A = greville-holds ar E p n (c .knots) ξs 1≤p p≤7 K eg
 
       zeros : (k : ℕ) (e : Scalar) → k < dim → Holds e (q k) → Found (fatLineZeros ar ξs (axis ar dim k e (c .points))) t
-      zeros k e kd he = zeros-found ar E n (omega (arith, K .good .room)) ξs (axis ar dim k e (c .points)) (A .long) (axis-long ar E dim (c .points) w (h .exact) (h .inside) k kd e (q k) he) (ξ p (values (c .knots))) (diff 1≤p k (q k) (vq k kd)) (A .at)
+      zeros k e kd he =
+          zeros-found ar E n (omega (arith, K .good .room)) ξs (axis ar dim k e (c .points)) (A .long) (axis-long ar E dim (c .points) w (h .exact) (h .inside) k kd e (q k) he)
+          (ξ p (values (c .knots))) (diff 1≤p k (q k) (vq k kd)) (A .at)
           (axis-holds ar E dim (c .points) w (h .exact) (h .inside) k kd e (q k) he) t (crosses 1≤p k (q k) (vq k kd))
 
       at : (j : ℕ) → j < length box → Holds (getD box j absent) (q (0 + j))

@@ -66,7 +66,8 @@ module _ (ar : Arithmetic) (E : Encloses ar) where
 
   -- ---- all axes
   module _ (dim : ℕ) (a b : Vector) (x : ℚ) (q : ℕ → ℚ) (f : (k : ℕ) (e : Scalar) → k < dim → Bounded e → Holds e (q k) → Allows (along ar e (place ar dim k a) (place ar dim k b)) x) where
-    walk : (es : List Scalar) (k : ℕ) (range : Scalar) → k + length es ≤ dim → ((j : ℕ) → j < length es → Bounded (getD es j absent)) → ((j : ℕ) → j < length es → Holds (getD es j absent) (q (k + j)))
+    walk : (es : List Scalar) (k : ℕ) (range : Scalar) → k + length es ≤ dim → ((j : ℕ) → j < length es → Bounded (getD es j absent))
+        → ((j : ℕ) → j < length es → Holds (getD es j absent) (q (k + j)))
         → Holds range x → T (meets ar dim a b range k es)
     unfolding meets
     walk [] k range l ke he h = tt
@@ -108,7 +109,9 @@ module _ (ar : Arithmetic) (E : Encloses ar) (dim p : ℕ) (c : Piece) (K : Knot
     pos i l = weight-pos ar E dim p c K w t v h i (omega arith)
 
     spot : (k i : ℕ) → k < dim → i < 2 → Holds (place ar dim k (point (c .points) i)) (h .exact k i *ℚ invℚ (h .exact dim i))
-    spot k i kd l = place-holds ar E dim k (point (c .points) i) _ _ (heavy-at dim (c .points) w i (omega arith)) (h .inside .at k i (omega arith) (omega arith)) (h .inside .at dim i (omega arith) (omega arith))
+    spot k i kd l =
+        place-holds ar E dim k (point (c .points) i) _ _ (heavy-at dim (c .points) w i (omega arith)) (h .inside .at k i (omega arith) (omega arith))
+        (h .inside .at dim i (omega arith) (omega arith))
 
     share : In 0ℚ 1ℚ (β (values (c .knots)) (h .exact) t dim)
     share = β-in u C t v on dim (pos 0 (omega arith)) (pos 1 (omega arith))

@@ -110,7 +110,9 @@ module _ (ar : Arithmetic) (E : Encloses ar) where
         each m b = let b′ = subst (λ (z : ℕ). m < z) size b in subst (λ (f : Float). Holds (sharp f) (values ks (suc i + m))) (sym (getD-part ks (suc i) p m nan b′)) (sharp-known (knot ks (suc i + m)) (K .known (suc i + m) (omega arith)))
 
         total : Holds (foldl (λ s u. ar .add s (sharp u)) ZERO (window p ks i)) (0ℚ +ℚ sum (values ks) p (suc i))
-        total = subst (λ (z : ℕ). Holds (foldl (λ s u. ar .add s (sharp u)) ZERO (window p ks i)) (0ℚ +ℚ sum (values ks) z (suc i))) size (sum-holds (window p ks i) ZERO 0ℚ (values ks) (suc i) zero-holds each)
+        total =
+            subst (λ (z : ℕ). Holds (foldl (λ s u. ar .add s (sharp u)) ZERO (window p ks i)) (0ℚ +ℚ sum (values ks) z (suc i))) size
+            (sum-holds (window p ks i) ZERO 0ℚ (values ks) (suc i) zero-holds each)
 
     means : Abscissae p n ks (tab n (λ i. abscissa ar p (window p ks i)))
     means = record {

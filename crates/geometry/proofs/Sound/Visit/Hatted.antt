@@ -57,7 +57,8 @@ within a b hat h = record {
 
 -- the first hat, which degree 0 reports
 pub domain-hatted : (a b : Float) → Known a → Known b → T (le a b) → Hatted a b (domain a b)
-domain-hatted a b ka kb o = ordered a b (domain a b) (domain-within a b ka kb o) (unfold domain unionS in le-trans (minF a b) a (maxF a b) (min-left a b (le-number-l a b o)) (max-left a b (le-number-l a b o)))
+domain-hatted a b ka kb o =
+    ordered a b (domain a b) (domain-within a b ka kb o) (unfold domain unionS in le-trans (minF a b) a (maxF a b) (min-left a b (le-number-l a b o)) (max-left a b (le-number-l a b o)))
 
 -- ---- one step
 intersect-hatted : (a b : Float) (hat z : Scalar) → Hatted a b hat → Doubles z → Sane z → T (couldBeEqual z hat) → Hatted a b (intersectS hat z)
@@ -74,7 +75,8 @@ narrowed-hatted a b hat Missing h d s = tt
 narrowed-hatted a b hat (Over z) h d s = kept-if (Hatted a b) (couldBeEqual z hat) (intersectS hat z) (λ t. intersect-hatted a b hat z h d s t)
 
 -- THE CLIP: C and q are any numbers that the points and the box hold
-pub clip-hatted : (ar : Arithmetic) (E : Encloses ar) (dim p : ℕ) (c : Piece) (K : Knots p (length (c .points)) (c .knots)) (w : T (weighted dim (c .points))) (C : ℕ → ℕ → ℚ) → Inside (suc dim) (c .points) C
+pub clip-hatted : (ar : Arithmetic) (E : Encloses ar) (dim p : ℕ) (c : Piece) (K : Knots p (length (c .points)) (c .knots)) (w : T (weighted dim (c .points))) (C : ℕ → ℕ → ℚ)
+    → Inside (suc dim) (c .points) C
     → 1 ≤ p → p ≤ 7 → (ξs : List Scalar) → greville ar p (length (c .points)) (c .knots) ≡ some ξs
     → (box : List Scalar) → length box ≡ dim → (q : ℕ → ℚ) → ((k : ℕ) → k < dim → Holds (getD box k absent) (q k))
     → (hat : Scalar) → clip ar dim (c .points) ξs (domain (start p c) (end c)) 0 box ≡ Over hat → Hatted (start p c) (end c) hat

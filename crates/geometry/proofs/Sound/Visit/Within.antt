@@ -55,7 +55,9 @@ sub-above (inf false) (fin t n d) h = unfold lt in absurd h
 sub-above (fin s m e) nan h = unfold lt in absurd h
 sub-above (fin s m e) (inf true) h = unfold lt in absurd h
 sub-above (fin s m e) (inf false) h = unfold sub add neg le in tt
-sub-above (fin s m e) (fin t n d) h = rounds-ge _ _ (sub-rounds t n d s m e) false 0 (pos 0) (unfold fits in tt) (subst (λ (z : ℚ). z ≤ℚ value (fin t n d) -ℚ value (fin s m e)) (sym (value-zero false (pos 0))) (minus _ _ (lt→value s m e t n d h)))
+sub-above (fin s m e) (fin t n d) h =
+    rounds-ge _ _ (sub-rounds t n d s m e) false 0 (pos 0) (unfold fits in tt)
+    (subst (λ (z : ℚ). z ≤ℚ value (fin t n d) -ℚ value (fin s m e)) (sym (value-zero false (pos 0))) (minus _ _ (lt→value s m e t n d h)))
 
 sub-below : (x y : Float) → T (lt x y) → T (le (sub binary64 x y) zeroF)
 sub-below nan y h = unfold lt in absurd h
@@ -68,7 +70,9 @@ sub-below (inf false) (fin t n d) h = unfold lt in absurd h
 sub-below (fin s m e) nan h = unfold lt in absurd h
 sub-below (fin s m e) (inf true) h = unfold lt in absurd h
 sub-below (fin s m e) (inf false) h = unfold sub add neg le in tt
-sub-below (fin s m e) (fin t n d) h = rounds-le _ _ (sub-rounds s m e t n d) false 0 (pos 0) (unfold fits in tt) (subst (λ (z : ℚ). value (fin s m e) -ℚ value (fin t n d) ≤ℚ z) (sym (value-zero false (pos 0))) (minus′ _ _ (lt→value s m e t n d h)))
+sub-below (fin s m e) (fin t n d) h =
+    rounds-le _ _ (sub-rounds s m e t n d) false 0 (pos 0) (unfold fits in tt)
+    (subst (λ (z : ℚ). value (fin s m e) -ℚ value (fin t n d) ≤ℚ z) (sym (value-zero false (pos 0))) (minus′ _ _ (lt→value s m e t n d h)))
 
 -- ---- both bounds of the hat lie from a to b, and are doubles
 pub record Within (a b : Float) (hat : Scalar) : Type 0 where
@@ -183,7 +187,8 @@ module _ (p : ℕ) (c : Piece) (K : Knots p (length (c .points)) (c .knots)) whe
   start-end = le-known (start p c) (end c) start-known end-known (lt→le (K .good .span))
 
   -- THE CLIP, for any points, abscissae and box
-  pub clip-within : (ar : Arithmetic) → Encloses ar → (dim : ℕ) (ξs box : List Scalar) (hat : Scalar) → clip ar dim (c .points) ξs (domain (start p c) (end c)) 0 box ≡ Over hat → Within (start p c) (end c) hat
+  pub clip-within : (ar : Arithmetic) → Encloses ar → (dim : ℕ) (ξs box : List Scalar) (hat : Scalar) → clip ar dim (c .points) ξs (domain (start p c) (end c)) 0 box ≡ Over hat
+      → Within (start p c) (end c) hat
   clip-within ar E dim ξs box hat e = subst (Kept (Within (start p c) (end c))) e
       (clip-keeps ar dim (c .points) ξs (Within (start p c) (end c)) (λ _ _. Unit {0}) (λ k e g _ h. narrowed-within (start p c) (end c) g _ h (zeros-doubles ar E ξs (axis ar dim k e (c .points))))
       box 0 (domain (start p c) (end c)) (λ _ _. tt) (domain-within (start p c) (end c) start-known end-known start-end))

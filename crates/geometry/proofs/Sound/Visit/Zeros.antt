@@ -45,7 +45,8 @@ passes false h t y f = absurd y
 pub record Crosses (n : ℕ) (x d : ℕ → ℚ) (t : ℚ) : Type 0 where
   pub range : (a b : ℚ) → ((i : ℕ) → i < n → In a b (d i)) → In a b 0ℚ
   pub band : (s lo hi : ℚ) → ((i : ℕ) → i < n → In lo hi (d i -ℚ (d zero +ℚ s *ℚ (x i -ℚ x zero)))) → In lo hi (-ℚ (d zero +ℚ s *ℚ (t -ℚ x zero)))
-  pub line : (s a b : ℚ) → ¬ (x (n - 1) -ℚ x zero ≡ 0ℚ) → s ≡ (d (n - 1) -ℚ d zero) *ℚ invℚ (x (n - 1) -ℚ x zero) → In a b (d zero) → In a b (d (n - 1)) → In a b (d zero +ℚ s *ℚ (t -ℚ x zero))
+  pub line : (s a b : ℚ) → ¬ (x (n - 1) -ℚ x zero ≡ 0ℚ) → s ≡ (d (n - 1) -ℚ d zero) *ℚ invℚ (x (n - 1) -ℚ x zero) → In a b (d zero) → In a b (d (n - 1))
+      → In a b (d zero +ℚ s *ℚ (t -ℚ x zero))
 
 -- an interval that holds some number
 pub record Sane (z : Scalar) : Type 0 where
