@@ -5,3 +5,5 @@ pub mod Pause
 pub mod Counts
 pub mod Sound
 pub mod Enclosure
+pub mod Kernels
+pub mod Memory

@@ -3,10 +3,10 @@ use Prim.Native.Nat.{ℕ, zero, suc}
 use mathlib.Core.Bool.{Bool, cond, _&&_, _||_}
 use mathlib.Core.List.{List, [], _∷_, map, zipWith}
 use mathlib.Core.Option.{Option, none, some}
-use lib.ListN.{getD}
+use lib.ListN.{getD, replicate}
 use lib.IntN.{pos}
 use lib.Ieee.{Float, binary64, add, sub, mul, div, lt, ofInt}
-use Rattle.lists.specs.Lists.{part, tab, lastD, foldl}
+use Rattle.lists.specs.Lists.{part, put, tab, lastD, foldl}
 use Rattle.math.specs.declared.scalars.Scalar.{Scalar}
 use Rattle.math.specs.declared.scalars.Divided.{Divided}
 use Rattle.math.specs.declared.scalars.Divided.the-variants.{Value, Failed}
@@ -16,8 +16,11 @@ use Rattle.math.specs.Scalars.{Arithmetic, zeroF, sharp, absent, ZERO, ENTIRE, 
 use Rattle.geometry.specs.Vector.{Vector, coordinate}
 use Rattle.geometry.specs.NurbCurve.{domain, inDomain}
 use Rattle.geometry.specs.Aabb.{unions}
+use Rattle.geometry.specs.Layout.{flat}
 use Rattle.geometry.specs.declared.fat_line.Hat.{Hat}
 use Rattle.geometry.specs.declared.fat_line.Hat.the-variants.{Over, Missing}
+use Rattle.geometry.specs.declared.fat_line.Abscissae.{Abscissae}
+use Rattle.geometry.specs.declared.fat_line.Greville.the-variants.{Some, None}
 
 -- ---- greville_abscissae
 
@@ -33,6 +36,11 @@ abscissa ar p knots = valueOr (ar .div (foldl (λ s u. ar .add s (sharp u)) ZERO
 unfoldable pub greville : Arithmetic → ℕ → ℕ → List Float → Option (List Scalar)
 greville ar zero count knots = none
 greville ar (suc p) count knots = some (tab count (λ i. abscissa ar (suc p) (window (suc p) knots i)))
+
+-- How the abscissae stand in an array beside their enum: lo and hi side by side from the front on, and zeros behind them.
+unfoldable pub held : Option (List Scalar) → Abscissae
+held none = record { has = None; at = replicate 64 zeroF }
+held (some ξ) = record { has = Some; at = put (replicate 64 zeroF) 0 (flat ξ) }
 
 -- ---- fat_line_zeros: where the spline whose graph has the control polygon (ξ i, d i) could be zero
 

@@ -8,6 +8,9 @@ pub mod FatLine
 pub mod Subdivide
 pub mod Contains
 pub mod Layout
+pub mod Sizes
+pub mod Boxes
+pub mod Slots
 pub mod Call
 pub mod Paper
 pub mod Enclosure

@@ -1,5 +1,21 @@
 // contains/curve.rs: the search for the parameters at which a curve passes through a box.
 
+use crate::fat_line::Hat;
+use crate::fat_line::fat_line_zeros;
+use crate::nurb_curve::scalar_at;
+use math::scalars::Scalar;
+ghost use mathlib.Core.Path.{_≡_};
+ghost use mathlib.Core.Bool.{true, _&&_};
+ghost use Prim.Native.Nat.{suc, _+_, _*_, _≤_, _<_};
+ghost use lib.ListN.{length};
+ghost use lib.Ieee.{lt};
+ghost use Rattle.lists.specs.Lists.{put};
+ghost use Rattle.math.specs.Scalars.{geop, zeroF, mulS, isSame};
+ghost use Rattle.geometry.specs.Layout.{scalarAt, scalarsOf, pointsOf, flat};
+ghost use Rattle.geometry.specs.NurbCurve.{domain};
+ghost use Rattle.geometry.specs.FatLine.{fatLineZeros};
+ghost use Rattle.geometry.specs.Contains.{axis, narrowed, clip};
+
 // The answer to a call. The visited count is last in every case.
 pub enum Found {
     // Every piece was visited, and none was reported: visited.
@@ -10,4 +26,130 @@ pub enum Found {
     Spent(usize, usize),
     // The call or the curve is refused: the number of the refusal, visited.
     Refused(u64, usize),
+}
+
+// Coordinate k of point i; the weight is number dim.
+fn coordinate(points: &[f64], dim: usize, i: usize, k: usize) -> Scalar
+    requires { ⌜ (k ≤ dim) × (2 * (suc dim * suc i) ≤ length (now points)) ⌝ }
+    ensures { λ r. ⌜ r ≡ scalarAt (now (points .entry)) (suc dim * i + k) ⌝ }
+{
+    scalar_at(points, (dim + 1) * i + k)
+}
+
+// Both bounds are above zero.
+fn positive(a: Scalar) -> bool
+    ensures { λ r. ⌜ r ≡ (lt zeroF (a .lo) && lt zeroF (a .hi)) ⌝ }
+{
+    0.0 < a.lo && 0.0 < a.hi
+}
+
+// The two are the same bound by bound, and above zero, since a zero may have either sign: then they are one interval.
+fn repeats(a: Scalar, b: Scalar) -> bool
+    ensures { λ r. ⌜ (r ≡ (isSame a b && (lt zeroF (a .lo) && lt zeroF (a .hi)))) × (r ≡ true → a ≡ b) ⌝ }
+{
+    if a.lo == b.lo && a.hi == b.hi {
+        return positive(a);
+    }
+    false
+}
+
+// A weight, beside its product with a factor.
+struct Weighed {
+    weight: Scalar,
+    product: Scalar,
+}
+
+// The weight w beside its product with e, which is taken over from the last weight where w repeats it.
+fn times_weight(e: Scalar, w: Scalar, last: Weighed) -> Weighed
+    requires { ⌜ last .product ≡ mulS e (last .weight) ⌝ }
+    ensures { λ r. ⌜ (r .weight ≡ w) × (r .product ≡ mulS e w) ⌝ }
+{
+    let v = last.weight;
+    if repeats(w, v) {
+        return last;
+    }
+    Weighed {
+        weight: w,
+        product: e.mul(w),
+    }
+}
+
+// The values of axis k, one for each point, written to the front of d: the coordinate less e times the weight.
+fn axis(points: &[f64], dim: usize, count: usize, k: usize, e: Scalar, d: &mut [f64])
+    requires { ⌜ ((0 < count) × (k < dim)) × ((2 * (suc dim * count) ≤ length (now points)) × (2 * count ≤ length (now d))) ⌝ }
+    ensures { λ _. ⌜ now (d .exit) ≡ put (now (d .entry)) 0 (flat (axis geop dim k e (pointsOf (suc dim) count (now (points .entry))))) ⌝ }
+{
+    let w = coordinate(points, dim, 0, dim);
+    let mut last = Weighed {
+        weight: w,
+        product: e.mul(w),
+    };
+    let mut i = 0;
+    while i < count {
+        last = times_weight(e, coordinate(points, dim, i, dim), last);
+        let p = last.product;
+        let v = coordinate(points, dim, i, k).sub(p);
+        d[2 * i] = v.lo;
+        d[2 * i + 1] = v.hi;
+        i += 1;
+    }
+}
+
+// The hat, held to the zeros of one axis more.
+fn narrowed(hat: Scalar, zeros: Hat) -> Hat
+    ensures { λ r. ⌜ r ≡ narrowed hat zeros ⌝ }
+{
+    let Hat::Over(z) = zeros else {
+        return Hat::Missing;
+    };
+    if z.could_be_equal(hat) {
+        return Hat::Over(hat.intersect(z));
+    }
+    Hat::Missing
+}
+
+// What axis k of the box leaves of a hat, where d is lent for the values of the axis.
+fn clip_axis(
+    xi: &[f64],
+    points: &[f64],
+    dim: usize,
+    count: usize,
+    k: usize,
+    e: Scalar,
+    hat: Scalar,
+    d: &mut [f64],
+) -> Hat
+    requires { ⌜ ((0 < count) × (2 * count ≤ length (now xi))) × ((k < dim) × ((2 * (suc dim * count) ≤ length (now points)) × (2 * count ≤ length (now d)))) ⌝ }
+    ensures { λ r. ⌜ r ≡ narrowed hat (fatLineZeros geop (scalarsOf count (now (xi .entry))) (axis geop dim k e (pointsOf (suc dim) count (now (points .entry))))) ⌝ }
+    ensures { λ _. ⌜ now (d .exit) ≡ put (now (d .entry)) 0 (flat (axis geop dim k e (pointsOf (suc dim) count (now (points .entry))))) ⌝ }
+{
+    axis(points, dim, count, k, e, d);
+    narrowed(hat, fat_line_zeros(xi, d, count))
+}
+
+// The hat that the axes of the box leave of the domain from start to end: no axis is taken once nothing is left.
+pub(crate) fn clip(
+    xi: &[f64],
+    points: &[f64],
+    point_box: &[f64],
+    dim: usize,
+    count: usize,
+    start: f64,
+    end: f64,
+) -> Hat
+    requires { ⌜ ((0 < count) × (count ≤ 32)) × ((2 * count ≤ length (now xi)) × ((2 * (suc dim * count) ≤ length (now points)) × (2 * dim ≤ length (now «point_box»)))) ⌝ }
+    ensures { λ r. ⌜ r ≡ clip geop dim (pointsOf (suc dim) count (now (points .entry))) (scalarsOf count (now (xi .entry))) (domain start end) 0 (scalarsOf dim (now («point_box» .entry))) ⌝ }
+{
+    let mut d = [0.0; 64];
+    let mut hat = Scalar::from_f64(start).union(Scalar::from_f64(end));
+    let mut k = 0;
+    while k < dim {
+        let e = scalar_at(point_box, k);
+        let Hat::Over(h) = clip_axis(xi, points, dim, count, k, e, hat, &mut d) else {
+            return Hat::Missing;
+        };
+        hat = h;
+        k += 1;
+    }
+    Hat::Over(hat)
 }

@@ -9,3 +9,4 @@ pub mod Laws
 pub mod Sizes
 pub mod Alpha
 pub mod Instance
+pub mod Widen

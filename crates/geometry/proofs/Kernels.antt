@@ -1,0 +1,10 @@
+pub mod Boxes
+pub mod Points
+pub mod Sizes
+pub mod Far
+pub mod Zeros
+pub mod Clip
+pub mod Call
+pub mod Flat
+pub mod Walks
+pub mod Widening

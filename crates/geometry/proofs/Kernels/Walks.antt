@@ -1,0 +1,22 @@
+-- Walks over a list that leave early, and unions of intervals one after the other. Assumes nothing.
+use mathlib.Core.Path.{_≡_, refl, sym, ap, _∙_}
+use mathlib.Core.Bool.{Bool, true, false, _&&_}
+use mathlib.Core.List.{List, [], _∷_}
+use Prim.Native.Nat.{ℕ, suc, _+_, _≤_, _<_}
+use lib.ListN.{length, drop, getD}
+use Rattle.lists.specs.Lists.{all}
+use Rattle.lists.proofs.Fold.{all-turn, all-done}
+
+-- ---- a test of all, where what is left to test answers for the whole
+module _ {A : Type 0} (p : A → Bool) (l : List A) (i : ℕ) (r : Bool) (inv : all p (drop i l) ≡ r) where
+  -- one element passed
+  pub all-keep : (d : A) → i < length l → p (getD l i d) ≡ true → all p (drop (i + 1) l) ≡ r
+  all-keep d h e = sym (all-turn p l i d h ∙ ap (λ (b : Bool). b && all p (drop (i + 1) l)) e) ∙ inv
+
+  -- one did not
+  pub all-stop : (d : A) → i < length l → p (getD l i d) ≡ false → false ≡ r
+  all-stop d h e = sym (all-turn p l i d h ∙ ap (λ (b : Bool). b && all p (drop (i + 1) l)) e) ∙ inv
+
+  -- none is left
+  pub all-end : length l ≤ i → true ≡ r
+  all-end h = sym (all-done p l i h) ∙ inv

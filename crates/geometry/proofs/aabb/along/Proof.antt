@@ -1,0 +1,92 @@
+-- `along` equals its definition: missing where a quotient failed, and else the union of both.
+use mathlib.Core.Path.{ap, _∙_}
+use Rattle.math.specs.Scalars.{subS}
+use Rattle.math.specs.declared.scalars.Scalar.{Scalar}
+use borrow.Author.Needs.{needs}
+use Rattle.geometry.proofs.Kernels.Boxes.{along-first, along-second, along-both}
+use Rattle.geometry.proofs.aabb.along.Statement.{statement}
+use Rattle.geometry.proofs.aabb.along.Tie as tie
+
+sub-requires : tie.Need-sub-requires
+sub-requires c κs = search needs
+
+lower-requires : tie.Need-lower-requires
+lower-requires c κs = search needs
+
+sub-requires-2 : tie.Need-sub-requires-2
+sub-requires-2 c κs = search needs
+
+div-requires : tie.Need-div-requires
+div-requires c κs = search needs
+
+enum-known-first : tie.Need-enum-known-first
+enum-known-first c = search needs
+
+enum-told : tie.Need-enum-told
+enum-told c = search needs
+
+returns : tie.Need-returns
+returns c =
+    let k = c .before .before in
+    let m = k .before .before .before in
+    let a = m .before .args in
+    along-first (a .e) (a .a) (a .b) _ _ _ (m .sub .ensures) (k .before .sub2 .ensures ∙ ap (λ (v : Scalar). subS v (a .a)) (k .before .before .lower .ensures)) (k .div .ensures) (c .enum-told .given .1)
+
+upper-requires : tie.Need-upper-requires
+upper-requires c κs = search needs
+
+sub-requires-3 : tie.Need-sub-requires-3
+sub-requires-3 c κs = search needs
+
+div-requires-2 : tie.Need-div-requires-2
+div-requires-2 c κs = search needs
+
+enum-known-second : tie.Need-enum-known-second
+enum-known-second c = search needs
+
+enum-told-2 : tie.Need-enum-told-2
+enum-told-2 c = search needs
+
+returns-2 : tie.Need-returns-2
+returns-2 c =
+    let n = c .before .before in
+    let f = n .before .before .before .before in
+    let k = f .before .before in
+    let m = k .before .before .before in
+    let a = m .before .args in
+    along-second (a .e) (a .a) (a .b) _ _ _ (m .sub .ensures) (k .before .sub2 .ensures ∙ ap (λ (v : Scalar). subS v (a .a)) (k .before .before .lower .ensures)) (k .div .ensures)
+    _ (f .first .given .1) _ _ (n .before .sub3 .ensures ∙ ap (λ (v : Scalar). subS v (a .a)) (n .before .before .upper .ensures)) (n .div2 .ensures) (c .enum-told2 .given .1)
+
+union-requires : tie.Need-union-requires
+union-requires c κs = search needs
+
+returns-3 : tie.Need-returns-3
+returns-3 c =
+    let g = c .before .before in
+    let n = g .before .before in
+    let f = n .before .before .before .before in
+    let k = f .before .before in
+    let m = k .before .before .before in
+    let a = m .before .args in
+    along-both (a .e) (a .a) (a .b) _ _ _ (m .sub .ensures) (k .before .sub2 .ensures ∙ ap (λ (v : Scalar). subS v (a .a)) (k .before .before .lower .ensures)) (k .div .ensures)
+    _ (f .first .given .1) _ _ (n .before .sub3 .ensures ∙ ap (λ (v : Scalar). subS v (a .a)) (n .before .before .upper .ensures)) (n .div2 .ensures) _ _ (g .second .given .1) (c .union .ensures)
+
+pub along-spec : {M : Type 1} → statement M
+along-spec =
+    tie.close
+    (tie.spec
+    sub-requires
+    lower-requires
+    sub-requires-2
+    div-requires
+    enum-known-first
+    enum-told
+    returns
+    upper-requires
+    sub-requires-3
+    div-requires-2
+    enum-known-second
+    enum-told-2
+    returns-2
+    union-requires
+    returns-3)

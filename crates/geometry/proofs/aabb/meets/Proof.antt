@@ -1,0 +1,119 @@
+-- `meets` equals its definition. The invariant: what is left of the walk, from the range that is left, gives what the whole walk gives.
+use mathlib.Core.Path.{_≡_, ap}
+use mathlib.Core.Logic.{⊎-elim}
+use Prim.Native.Nat.{suc, _≤_, _-_}
+use native.Mathlib.Omega.{arith}
+use lib.ListN.{drop}
+use lib.Ieee.{ofBits}
+use borrow.Author.Needs.{needs}
+use borrow.Author.Tests.{not-true, not-false}
+use Rattle.math.specs.Scalars.{geop, ZERO, ONE, unionS}
+use Rattle.math.specs.declared.scalars.Scalar.{Scalar}
+use Rattle.geometry.specs.Layout.{scalarsOf, pointAt}
+use Rattle.geometry.specs.Aabb.{meets}
+use Rattle.geometry.proofs.Kernels.Boxes.{segment-skip, segment-narrow, segment-stop, segment-end}
+use Rattle.geometry.proofs.aabb.meets.Statement.{statement}
+use Rattle.geometry.proofs.aabb.meets.Tie as tie
+
+abbrev Inv-loop : tie.InvT-loop
+Inv-loop points point-box dim range₀ k₀ range k =
+    (k ≤ dim)
+    × (meets geop dim (pointAt (suc dim) points 0) (pointAt (suc dim) points 1) range k (drop k (scalarsOf dim point-box))
+    ≡ meets geop dim (pointAt (suc dim) points 0) (pointAt (suc dim) points 1) (unionS ZERO ONE) 0 (scalarsOf dim point-box))
+
+abbrev μ-loop : tie.MeasureT-loop
+μ-loop points point-box dim range₀ k₀ range k = dim - k
+
+union-requires : tie.Need-union-requires Inv-loop μ-loop
+union-requires c κs = tt
+
+loop-holds : tie.Need-loop-holds Inv-loop μ-loop
+unfolding ofBits
+loop-holds c =
+    let a = c .before .before .before .args in
+    (omega arith, ap (λ (r : Scalar). meets geop (a .dim) (pointAt (suc (a .dim)) (a .points .now) 0) (pointAt (suc (a .dim)) (a .points .now) 1) r 0 (scalarsOf (a .dim) (a .point-box .now))) (c .union .ensures))
+
+place-requires : tie.Need-place-requires Inv-loop μ-loop
+place-requires c κs = omega arith
+
+place-requires-2 : tie.Need-place-requires-2 Inv-loop μ-loop
+place-requires-2 c κs = omega arith
+
+scalar-at-requires : tie.Need-scalar-at-requires Inv-loop μ-loop
+scalar-at-requires c κs = omega arith
+
+along-requires : tie.Need-along-requires Inv-loop μ-loop
+along-requires c κs = tt
+
+enum-known-part : tie.Need-enum-known-part Inv-loop μ-loop
+enum-known-part c = search needs
+
+could-be-equal-requires : tie.Need-could-be-equal-requires Inv-loop μ-loop
+could-be-equal-requires c κs = tt
+
+returns : tie.Need-returns Inv-loop μ-loop
+returns c =
+    let p = c .before .before .before in
+    let o = p .before .before in
+    let s = o .before in
+    let l = s .before .before .before .before in
+    let a = l .before .before .before .before .args in
+    segment-stop (a .dim) (pointAt (suc (a .dim)) (a .points .now) 0) (pointAt (suc (a .dim)) (a .points .now) 1) (a .point-box .now) (l .loop .range) (l .loop .k) _ (l .loop .inv .1) (omega arith)
+    _ _ _ (s .scalar-at .ensures) (s .before .before .place .ensures) (s .before .place2 .ensures) _ (o .along .ensures) _ (p .part .given .1) _ (c .before .could-be-equal .ensures) (not-true _ (c .if1 .taken))
+
+intersect-requires : tie.Need-intersect-requires Inv-loop μ-loop
+intersect-requires c κs = tt
+
+enum-told : tie.Need-enum-told Inv-loop μ-loop
+enum-told c = search needs
+
+add-k : tie.Need-add-k Inv-loop μ-loop
+add-k c = omega arith
+
+loop-less : tie.Need-loop-less Inv-loop μ-loop
+loop-less c = omega arith
+
+loop-again : tie.Need-loop-again Inv-loop μ-loop
+loop-again c =
+    let o = c .before in
+    let s = o .before in
+    let l = s .before .before .before .before in
+    let a = l .before .before .before .before .args in (
+      omega arith,
+      ⊎-elim
+          (λ w.
+          segment-narrow (a .dim) (pointAt (suc (a .dim)) (a .points .now) 0) (pointAt (suc (a .dim)) (a .points .now) 1) (a .point-box .now) (l .loop .range) (l .loop .k) _ (l .loop .inv .1) (omega arith)
+          _ _ _ (s .scalar-at .ensures) (s .before .before .place .ensures) (s .before .place2 .ensures) _ (o .along .ensures) _ (w .1 .given .1) _ (w .3 .ensures) _ _ (not-false _ (w .4 .left)) (w .5 .ensures) (w .6))
+          (λ w.
+          segment-skip (a .dim) (pointAt (suc (a .dim)) (a .points .now) 0) (pointAt (suc (a .dim)) (a .points .now) 1) (a .point-box .now) (l .loop .range) (l .loop .k) _ (l .loop .inv .1) (omega arith)
+          _ _ _ (s .scalar-at .ensures) (s .before .before .place .ensures) (s .before .place2 .ensures) _ (o .along .ensures) _ (w .1 .given .1) (w .2))
+          (c .match .came),
+    )
+
+returns-2 : tie.Need-returns-2 Inv-loop μ-loop
+returns-2 c =
+    let l = c .before in
+    let a = l .before .before .before .before .args in
+    segment-end (a .dim) (pointAt (suc (a .dim)) (a .points .now) 0) (pointAt (suc (a .dim)) (a .points .now) 1) (a .point-box .now) (l .loop .range) (l .loop .k) _ (l .loop .inv .1) (omega arith)
+
+pub meets-spec : {M : Type 1} → statement M
+meets-spec =
+    tie.close
+    (tie.spec
+    Inv-loop
+    μ-loop
+    union-requires
+    loop-holds
+    place-requires
+    place-requires-2
+    scalar-at-requires
+    along-requires
+    enum-known-part
+    could-be-equal-requires
+    returns
+    intersect-requires
+    enum-told
+    add-k
+    loop-less
+    loop-again
+    returns-2)

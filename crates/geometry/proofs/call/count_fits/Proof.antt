@@ -1,0 +1,24 @@
+-- `count_fits` equals its definition.
+use borrow.Author.Needs.{needs}
+use Rattle.geometry.proofs.Kernels.Call.{and-go}
+use Rattle.math.proofs.Bools.{and-no}
+use borrow.Author.Tests.{le-leb, lt-leb}
+use Rattle.geometry.proofs.call.count_fits.Statement.{statement}
+use Rattle.geometry.proofs.call.count_fits.Tie as tie
+use Rattle.geometry.proofs.call.count_fits.Reads as reads
+use Rattle.geometry.proofs.call.count_fits.Lts as lts
+
+-- src/call.rt:145:5
+add-if1 : tie.Need-add-if1
+add-if1 c = search needs
+
+-- src/call.rt:141:1
+returns : tie.Need-returns
+returns c = and-go _ _ (le-leb _ _ (c .if1 .taken))
+
+-- src/call.rt:141:1
+returns-2 : tie.Need-returns-2
+returns-2 c = and-no _ _ (lt-leb _ _ (c .if1 .left))
+
+pub count-fits-spec : {M : Type 1} → statement M
+count-fits-spec = tie.close (tie.spec add-if1 returns returns-2)

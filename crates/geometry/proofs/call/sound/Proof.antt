@@ -1,0 +1,68 @@
+-- `sound` equals its definition.
+use borrow.Author.Needs.{needs}
+use Rattle.geometry.proofs.Kernels.Call.{sound-falls, sound-empty, sound-rest}
+use borrow.Author.Tests.{not-true, not-false}
+use mathlib.Core.Path.{sym, _∙_}
+use Rattle.geometry.proofs.call.sound.Statement.{statement}
+use Rattle.geometry.proofs.call.sound.Tie as tie
+use Rattle.geometry.proofs.call.sound.Reads as reads
+use Rattle.geometry.proofs.call.sound.Lts as lts
+use Rattle.geometry.proofs.call.all_seldom.Reads as all-seldom-reads
+use Rattle.geometry.proofs.call.rising.Reads as rising-reads
+
+-- src/call.rt:122:13
+mul-a : tie.Need-mul-a
+mul-a c = search needs
+
+-- src/call.rt:122:13
+shared-slice-read-a : tie.Need-shared-slice-read-a
+shared-slice-read-a c = search needs
+
+-- src/call.rt:123:13
+mul-b : tie.Need-mul-b
+mul-b c = search needs
+
+-- src/call.rt:123:13
+shared-slice-read-b : tie.Need-shared-slice-read-b
+shared-slice-read-b c = search needs
+
+-- src/call.rt:124:9
+rising-requires : tie.Need-rising-requires
+rising-requires c κs = search needs
+
+-- src/call.rt:125:9
+returns : tie.Need-returns
+returns c =
+    let g = c .before .before .before .before .before .args in
+    sound-falls (g .degree) (g .count) (g .knots .now) (sym (c .before .rising .ensures) ∙ not-true _ (c .if1 .taken))
+
+-- src/call.rt:128:9
+returns-2 : tie.Need-returns-2
+returns-2 c =
+    let g = c .before .before .before .before .before .before .args in
+    sound-empty (g .degree) (g .count) (g .knots .now) (not-true _ (c .if2 .taken))
+
+-- src/call.rt:130:5
+all-seldom-requires : tie.Need-all-seldom-requires
+all-seldom-requires c κs = search needs
+
+-- src/call.rt:118:1
+returns-3 : tie.Need-returns-3
+returns-3 c =
+    let k = c .before .before in
+    let g = k .before .before .before .before .before .args in
+    c .all-seldom .ensures ∙ sound-rest (g .degree) (g .count) (g .knots .now) (sym (k .before .rising .ensures) ∙ not-false _ (k .if1 .left)) (not-false _ (c .before .if2 .left))
+
+pub sound-spec : {M : Type 1} → statement M
+sound-spec =
+    tie.close
+    (tie.spec
+    mul-a
+    shared-slice-read-a
+    mul-b
+    shared-slice-read-b
+    rising-requires
+    returns
+    returns-2
+    all-seldom-requires
+    returns-3)

@@ -1,0 +1,97 @@
+-- `band` equals its definition: each turn takes in the offset of one more point, and the neighbours of the bounds are taken once.
+use Prim.Native.Nat.{_-_, _≤_, _<_}
+use native.Mathlib.Omega.{arith}
+use Rattle.geometry.proofs.Kernels.Zeros.{Banded, band-first, band-turn, band-done}
+use borrow.Author.Needs.{needs}
+use Rattle.geometry.proofs.fat_line.band.Statement.{statement}
+use Rattle.geometry.proofs.fat_line.band.Tie as tie
+
+abbrev Inv-loop : tie.InvT-loop
+Inv-loop xi d count slope x0 y0 lo₀ hi₀ i₀ lo hi i = (0 < i) × ((i ≤ count) × Banded slope x0 y0 xi d i lo hi)
+
+abbrev μ-loop : tie.MeasureT-loop
+μ-loop xi d count slope x0 y0 lo₀ hi₀ i₀ lo hi i = count - i
+
+scalar-at-requires : tie.Need-scalar-at-requires Inv-loop μ-loop
+scalar-at-requires c κs = search needs
+
+chord-requires : tie.Need-chord-requires Inv-loop μ-loop
+chord-requires c κs = search needs
+
+scalar-at-requires-2 : tie.Need-scalar-at-requires-2 Inv-loop μ-loop
+scalar-at-requires-2 c κs = search needs
+
+loop-holds : tie.Need-loop-holds Inv-loop μ-loop
+loop-holds c =
+    let k = c .before .before .before .before in
+    let a = k .before .before .before .before .before .args in
+    (omega arith, (omega arith, band-first (a .slope) (a .x0) (a .y0) (a .xi .now) (a .d .now) _ _ _ (k .before .before .scalar-at .ensures) (k .before .chord .ensures) (k .scalar-at2 .ensures)))
+
+scalar-at-requires-3 : tie.Need-scalar-at-requires-3 Inv-loop μ-loop
+scalar-at-requires-3 c κs = search needs
+
+chord-requires-2 : tie.Need-chord-requires-2 Inv-loop μ-loop
+chord-requires-2 c κs = search needs
+
+scalar-at-requires-4 : tie.Need-scalar-at-requires-4 Inv-loop μ-loop
+scalar-at-requires-4 c κs = search needs
+
+min-requires : tie.Need-min-requires Inv-loop μ-loop
+min-requires c κs = search needs
+
+max-requires : tie.Need-max-requires Inv-loop μ-loop
+max-requires c κs = search needs
+
+add-i : tie.Need-add-i Inv-loop μ-loop
+add-i c = let s = c .before .before .before .before .before .before .before .before .before .before .before .before .before .before .before .before .before .before .before .before in omega (arith, c .before .before .before .before .before .before .before .before .before .loop-test .taken)
+
+loop-less : tie.Need-loop-less Inv-loop μ-loop
+loop-less c = search needs
+
+loop-again : tie.Need-loop-again Inv-loop μ-loop
+loop-again c =
+    let k = c .before .before .before .before .before .before in
+    let l = k .before .before .before .before in
+    let s = l .before .before .before .before .before .before .before .before .before .before in
+    let a = s .args in (
+      omega arith,
+      (
+        omega arith,
+        band-turn (a .slope) (a .x0) (a .y0) (a .xi .now) (a .d .now) (l .loop .i) (l .loop .lo) (l .loop .hi) _ _ _ _ _ (l .loop .inv .0) (l .loop .inv .1 .1) (k .before .before .scalar-at3 .ensures) (k .before .chord2 .ensures) (k .scalar-at4 .ensures) (c .before .before .before .min .ensures) (c .max .ensures),
+      ),
+    )
+
+next-down-requires : tie.Need-next-down-requires Inv-loop μ-loop
+next-down-requires c κs = search needs
+
+next-up-requires : tie.Need-next-up-requires Inv-loop μ-loop
+next-up-requires c κs = search needs
+
+returns : tie.Need-returns Inv-loop μ-loop
+returns c =
+    let l = c .before .before .before in
+    let s = l .before .before .before .before .before .before .before .before .before .before in
+    let a = s .args in
+    band-done (a .slope) (a .x0) (a .y0) (a .xi .now) (a .d .now) (a .count) (l .loop .i) (l .loop .lo) (l .loop .hi) _ _ (omega arith) (l .loop .inv .1 .1) (c .before .next-down .ensures) (c .next-up .ensures)
+
+pub band-spec : {M : Type 1} → statement M
+band-spec =
+    tie.close
+    (tie.spec
+    Inv-loop
+    μ-loop
+    scalar-at-requires
+    chord-requires
+    scalar-at-requires-2
+    loop-holds
+    scalar-at-requires-3
+    chord-requires-2
+    scalar-at-requires-4
+    min-requires
+    max-requires
+    add-i
+    loop-less
+    loop-again
+    next-down-requires
+    next-up-requires
+    returns)

@@ -1,0 +1,24 @@
+-- `chord` is what its three calls ensure, one after the other.
+use mathlib.Core.Path.{ap, _∙_}
+use Rattle.math.specs.Scalars.{addS, mulS}
+use Rattle.math.specs.declared.scalars.Scalar.{Scalar}
+use borrow.Author.Needs.{needs}
+use Rattle.geometry.proofs.fat_line.chord.Statement.{statement}
+use Rattle.geometry.proofs.fat_line.chord.Tie as tie
+
+sub-requires : tie.Need-sub-requires
+sub-requires c κs = search needs
+
+mul-requires : tie.Need-mul-requires
+mul-requires c κs = search needs
+
+add-requires : tie.Need-add-requires
+add-requires c κs = search needs
+
+returns : tie.Need-returns
+returns c =
+    let a = c .before .before .before .args in
+    c .add .ensures ∙ ap (λ (v : Scalar). addS (a .y0) v) (c .before .mul .ensures ∙ ap (λ (v : Scalar). mulS (a .slope) v) (c .before .before .sub .ensures))
+
+pub chord-spec : {M : Type 1} → statement M
+chord-spec = tie.close (tie.spec sub-requires mul-requires add-requires returns)

@@ -1,0 +1,98 @@
+-- `greville_abscissae` equals its definition: each turn writes the mean of one more window behind the others.
+use mathlib.Core.Path.{_≡_, ap, _∙_}
+use mathlib.Core.List.{List}
+use Prim.Native.Nat.{_-_, _≤_}
+use native.Mathlib.Omega.{arith}
+use lib.Ieee.{Float, ofBits}
+use Rattle.lists.specs.Lists.{put, tab}
+use Rattle.math.specs.Scalars.{geop}
+use Rattle.geometry.specs.Layout.{flat}
+use Rattle.geometry.specs.FatLine.{window, abscissa}
+use Rattle.geometry.proofs.Kernels.Flat.{flat-none, flat-next}
+use Rattle.geometry.proofs.Kernels.Zeros.{held-none, held-some}
+use Rattle.geometry.proofs.fat_line.greville_abscissae.Statement.{statement}
+use Rattle.geometry.proofs.fat_line.greville_abscissae.Tie as tie
+
+abbrev Inv-loop : tie.InvT-loop
+Inv-loop knots degree count at₀ i₀ at i = (i ≤ count) × (at ≡ put at₀ 0 (flat (tab i (λ j. abscissa geop degree (window degree knots j)))))
+
+abbrev μ-loop : tie.MeasureT-loop
+μ-loop knots degree count at₀ i₀ at i = count - i
+
+returns : tie.Need-returns Inv-loop μ-loop
+unfolding ofBits
+returns c = held-none (c .before .before .args .degree) _ _ (c .if1 .taken)
+
+loop-holds : tie.Need-loop-holds Inv-loop μ-loop
+loop-holds c = let a = c .before .before .args in (omega arith, flat-none (λ j. abscissa geop (a .degree) (window (a .degree) (a .knots .now) j)) _)
+
+window-requires : tie.Need-window-requires Inv-loop μ-loop
+window-requires c κs = omega arith
+
+abscissa-requires : tie.Need-abscissa-requires Inv-loop μ-loop
+abscissa-requires c κs = omega arith
+
+mul-at : tie.Need-mul-at Inv-loop μ-loop
+mul-at c = omega arith
+
+mul-at-2 : tie.Need-mul-at-2 Inv-loop μ-loop
+mul-at-2 c = omega arith
+
+array-write-at : tie.Need-array-write-at Inv-loop μ-loop
+array-write-at c = omega arith
+
+mul-at-3 : tie.Need-mul-at-3 Inv-loop μ-loop
+mul-at-3 c = omega arith
+
+add-at : tie.Need-add-at Inv-loop μ-loop
+add-at c = omega arith
+
+mul-at-4 : tie.Need-mul-at-4 Inv-loop μ-loop
+mul-at-4 c = omega arith
+
+array-write-at-2 : tie.Need-array-write-at-2 Inv-loop μ-loop
+array-write-at-2 c = omega arith
+
+add-i : tie.Need-add-i Inv-loop μ-loop
+add-i c = omega arith
+
+loop-less : tie.Need-loop-less Inv-loop μ-loop
+loop-less c = omega arith
+
+loop-again : tie.Need-loop-again Inv-loop μ-loop
+loop-again c =
+    let l = c .before .before .before in
+    let a = l .before .before .before .args in (
+      omega arith,
+      flat-next (λ j. abscissa geop (a .degree) (window (a .degree) (a .knots .now) j)) _ (l .loop .at) (l .loop .i) (c .abscissa .result) (omega arith) (l .loop .inv .1)
+          (c .abscissa .ensures ∙ ap (λ (w : List Float). abscissa geop (a .degree) w) (c .before .window .ensures)),
+    )
+
+returns-2 : tie.Need-returns-2 Inv-loop μ-loop
+unfolding ofBits
+returns-2 c =
+    let l = c .before in
+    let a = l .before .before .before .args in
+    held-some (a .degree) (a .count) (l .loop .i) (a .knots .now) (l .loop .at) (l .before .if1 .left) (omega arith) (l .loop .inv .1)
+
+pub greville-abscissae-spec : {M : Type 1} → statement M
+greville-abscissae-spec =
+    tie.close
+    (tie.spec
+    Inv-loop
+    μ-loop
+    returns
+    loop-holds
+    window-requires
+    abscissa-requires
+    mul-at
+    mul-at-2
+    array-write-at
+    mul-at-3
+    add-at
+    mul-at-4
+    array-write-at-2
+    add-i
+    loop-less
+    loop-again
+    returns-2)

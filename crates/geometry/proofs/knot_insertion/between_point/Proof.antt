@@ -1,0 +1,47 @@
+-- `between_point` equals its definition: the point between two neighbouring points, in the place of the upper one.
+use mathlib.Core.Logic.{inl, inr}
+use Rattle.geometry.proofs.Memory.Triangle.{between-fits, between-done}
+use borrow.Author.Needs.{needs}
+use native.Mathlib.Omega.{arith}
+use Rattle.geometry.proofs.knot_insertion.between_point.Statement.{statement}
+use Rattle.geometry.proofs.knot_insertion.between_point.Tie as tie
+
+place-of-requires : tie.Need-place-of-requires
+place-of-requires c κs = search needs
+
+add-place-of : tie.Need-add-place-of
+add-place-of c = search needs
+
+place-of-requires-2 : tie.Need-place-of-requires-2
+place-of-requires-2 c κs = search needs
+
+add-interpolate : tie.Need-add-interpolate
+add-interpolate c = search needs
+
+interpolate-requires : tie.Need-interpolate-requires
+interpolate-requires c κs =
+    let k = c .before .before .before .before .before in
+    let g = k .args in
+    let f = between-fits (g .s) (g .work .now) (g .base) (g .j) (g .alpha) (k .pre .0) (k .pre .1) _ _ (c .before .before .before .place-of .ensures) (c .before .before .place-of2 .ensures) in
+    ((omega (arith, f .0, f .1), f .1, f .1), (inl (f .0), inr (omega arith)))
+
+same-length : tie.Need-same-length
+same-length c = search needs
+
+returns : tie.Need-returns
+returns c =
+    let k = c .before .before .before .before .before .before .before .before in
+    let g = k .args in
+    between-done (g .s) (g .work .now) (g .base) (g .j) (g .alpha) (k .pre .0) (k .pre .1) _ _ (c .before .before .before .before .before .before .place-of .ensures) (c .before .before .before .before .before .place-of2 .ensures) _ (c .before .before .interpolate .ensures)
+
+pub between-point-spec : {M : Type 1} → statement M
+between-point-spec =
+    tie.close
+    (tie.spec
+    place-of-requires
+    add-place-of
+    place-of-requires-2
+    add-interpolate
+    interpolate-requires
+    same-length
+    returns)

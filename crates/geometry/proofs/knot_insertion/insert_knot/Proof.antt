@@ -1,0 +1,52 @@
+-- `insert_knot` equals its definition: the knots behind the place move up, and t is stored there.
+use Rattle.geometry.proofs.Memory.Insert.{knot-in}
+use borrow.Author.Needs.{needs}
+use Rattle.geometry.proofs.knot_insertion.insert_knot.Statement.{statement}
+use Rattle.geometry.proofs.knot_insertion.insert_knot.Tie as tie
+
+add-at : tie.Need-add-at
+add-at c = search needs
+
+add-at-2 : tie.Need-add-at-2
+add-at-2 c = search needs
+
+add-copy-up : tie.Need-add-copy-up
+add-copy-up c = search needs
+
+sub-copy-up : tie.Need-sub-copy-up
+sub-copy-up c = search needs
+
+sub-copy-up-2 : tie.Need-sub-copy-up-2
+sub-copy-up-2 c = search needs
+
+copy-up-requires : tie.Need-copy-up-requires
+copy-up-requires c κs = search needs
+
+mul-work : tie.Need-mul-work
+mul-work c = search needs
+
+slice-write-work : tie.Need-slice-write-work
+slice-write-work c = search needs
+
+same-length : tie.Need-same-length
+same-length c = search needs
+
+returns : tie.Need-returns
+returns c =
+    let k = c .before .before .before .before .before in
+    knot-in (k .args .work .now) _ (k .args .base) (k .args .m) (k .args .k) (k .args .t) (c .before .before .copy-up .ensures) (k .pre .0) (k .pre .1)
+
+pub insert-knot-spec : {M : Type 1} → statement M
+insert-knot-spec =
+    tie.close
+    (tie.spec
+    add-at
+    add-at-2
+    add-copy-up
+    sub-copy-up
+    sub-copy-up-2
+    copy-up-requires
+    mul-work
+    slice-write-work
+    same-length
+    returns)

@@ -1,0 +1,62 @@
+-- `insert_once` equals its definition: the points move up and are blended, then the knot is put in, then the count is raised.
+use Rattle.geometry.proofs.Memory.Counts.{count-readable, few-points, knot-room}
+use Rattle.geometry.proofs.Memory.Once.{once-code}
+use borrow.Author.Needs.{needs}
+use native.Mathlib.Omega.{arith}
+use Rattle.geometry.proofs.knot_insertion.insert_once.Statement.{statement}
+use Rattle.geometry.proofs.knot_insertion.insert_once.Tie as tie
+
+count-at-requires : tie.Need-count-at-requires
+count-at-requires c κs = let k = c .before .before in count-readable (k .args .s) (k .args .work .now) (k .args .base) (k .pre .0)
+
+open-points-requires : tie.Need-open-points-requires
+open-points-requires c κs = search needs
+
+blend-points-requires : tie.Need-blend-points-requires
+blend-points-requires c κs = search needs
+
+add-insert-knot : tie.Need-add-insert-knot
+add-insert-knot c = search needs
+
+add-insert-knot-2 : tie.Need-add-insert-knot-2
+add-insert-knot-2 c = search needs
+
+insert-knot-requires : tie.Need-insert-knot-requires
+insert-knot-requires c κs =
+    let k = c .before .before .before .before .before .before .before .before .before .before .before .before .before in (
+      omega (arith, c .before .before .before .before .before .before .before .before .before .before .count-at .ensures, k .pre .2),
+      omega (arith, c .before .before .before .before .blend-points .kept .0, c .before .before .before .before .before .before .before .before .open-points .kept .0, knot-room (k .args .s) (k .args .work .now) (k .args .base) (c .before .before .before .before .before .before .before .before .before .before .count-at .result) (k .pre .0 .inside) (omega (arith, c .before .before .before .before .before .before .before .before .before .before .count-at .ensures, k .pre .3))),
+    )
+
+add-set-count : tie.Need-add-set-count
+add-set-count c = search needs
+
+set-count-requires : tie.Need-set-count-requires
+set-count-requires c κs =
+    let k = c .before .before .before .before .before .before .before .before .before .before .before .before .before .before .before .before .before in (
+      omega (arith, c .before .before .before .insert-knot .kept .0, c .before .before .before .before .before .before .before .before .blend-points .kept .0, c .before .before .before .before .before .before .before .before .before .before .before .before .open-points .kept .0, count-readable (k .args .s) (k .args .work .now) (k .args .base) (k .pre .0) .0),
+      omega (arith, c .before .before .before .before .before .before .before .before .before .before .before .before .before .before .count-at .ensures, few-points (k .args .s) _ (k .pre .0 .inside .sized) (k .pre .0 .room)),
+    )
+
+same-length : tie.Need-same-length
+same-length c = search needs
+
+returns : tie.Need-returns
+returns c =
+    let k = c .before .before .before .before .before .before .before .before .before .before .before .before .before .before .before .before .before .before .before .before in
+    once-code (k .args .s) (k .args .work .now) (k .args .base) (k .args .k) (k .args .t) (k .pre .0) (k .pre .1) (k .pre .2) (k .pre .3) _ _ _ _ _ (c .before .before .before .before .before .before .before .before .before .before .before .before .before .before .before .before .before .count-at .ensures) (c .before .before .before .before .before .before .before .before .before .before .before .before .before .before .before .open-points .ensures) (c .before .before .before .before .before .before .before .before .before .before .before .blend-points .ensures) (c .before .before .before .before .before .before .insert-knot .ensures) (c .before .before .set-count .ensures)
+
+pub insert-once-spec : {M : Type 1} → statement M
+insert-once-spec =
+    tie.close
+    (tie.spec
+    count-at-requires
+    open-points-requires
+    blend-points-requires
+    add-insert-knot
+    add-insert-knot-2
+    insert-knot-requires
+    add-set-count
+    set-count-requires
+    same-length
+    returns)

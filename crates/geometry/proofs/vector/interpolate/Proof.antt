@@ -1,0 +1,96 @@
+-- `interpolate` writes the point between two points. Invariant: its first k intervals are written.
+use mathlib.Core.Path.{_≡_, refl, sym, ap, _∙_}
+use Prim.Native.Nat.{ℕ, _*_, _+_, _-_, _≤_}
+use lib.ListN.{length}
+use Rattle.lists.proofs.Put.{put-nil}
+use Rattle.geometry.specs.Layout.{flat}
+use Rattle.geometry.proofs.Memory.Between.{after, turn, done}
+use borrow.Author.Needs.{needs}
+use native.Mathlib.Omega.{arith}
+use Rattle.geometry.proofs.vector.interpolate.Statement.{statement}
+use Rattle.geometry.proofs.vector.interpolate.Tie as tie
+
+abbrev Inv-loop : tie.InvT-loop
+Inv-loop words₀ a b c d alpha k₀ words k = (k ≤ d) × ((length words ≡ length words₀) × (words ≡ after words₀ a b c d alpha k))
+
+abbrev μ-loop : tie.MeasureT-loop
+μ-loop words₀ a b c d alpha k₀ words k = d - k
+
+loop-holds : tie.Need-loop-holds Inv-loop μ-loop
+unfolding flat
+loop-holds c = (omega arith, (refl, sym (put-nil (c .before .args .words .now) (c .before .args .c))))
+
+mul-scalar-from : tie.Need-mul-scalar-from Inv-loop μ-loop
+mul-scalar-from c = omega arith
+
+add-scalar-from : tie.Need-add-scalar-from Inv-loop μ-loop
+add-scalar-from c = omega arith
+
+scalar-from-requires : tie.Need-scalar-from-requires Inv-loop μ-loop
+scalar-from-requires c κs = omega arith
+
+mul-scalar-from-2 : tie.Need-mul-scalar-from-2 Inv-loop μ-loop
+mul-scalar-from-2 c = omega arith
+
+add-scalar-from-2 : tie.Need-add-scalar-from-2 Inv-loop μ-loop
+add-scalar-from-2 c = omega arith
+
+scalar-from-requires-2 : tie.Need-scalar-from-requires-2 Inv-loop μ-loop
+scalar-from-requires-2 c κs = omega arith
+
+interpolate-requires : tie.Need-interpolate-requires Inv-loop μ-loop
+interpolate-requires c κs = search needs
+
+mul-set-scalar : tie.Need-mul-set-scalar Inv-loop μ-loop
+mul-set-scalar c = omega arith
+
+add-set-scalar : tie.Need-add-set-scalar Inv-loop μ-loop
+add-set-scalar c = omega arith
+
+set-scalar-requires : tie.Need-set-scalar-requires Inv-loop μ-loop
+set-scalar-requires c κs = omega arith
+
+add-k : tie.Need-add-k Inv-loop μ-loop
+add-k c = omega arith
+
+loop-less : tie.Need-loop-less Inv-loop μ-loop
+loop-less c = omega arith
+
+loop-again : tie.Need-loop-again Inv-loop μ-loop
+loop-again c =
+    let l = c .before .before .before .before .before .before .before .before .before .before .loop in
+    let s = c .before .before .before .before .before .before .before .before .before .before .before .before in
+    let g = s .args in
+    (omega arith, (c .before .before .set-scalar .kept .0 ∙ l .inv .1 .0, turn (g .words .now) (g .a) (g .b) (g .c) (g .d) (g .alpha) (s .pre .1 .0) (s .pre .1 .1) (s .pre .0 .2) (l .k) _ _ _ _ _ (omega arith) (l .inv .1 .1) (c .before .before .before .before .before .before .before .scalar-from .ensures) (c .before .before .before .before .before .scalar-from2 .ensures) (c .before .before .before .before .interpolate .ensures) (c .before .before .set-scalar .ensures)))
+
+same-length : tie.Need-same-length Inv-loop μ-loop
+same-length c = c .before .loop .inv .1 .0
+
+returns : tie.Need-returns Inv-loop μ-loop
+returns c =
+    let g = c .before .before .before .args in
+    let e : c .before .loop .k ≡ g .d = omega arith in
+    c .before .loop .inv .1 .1 ∙ ap (after (g .words .now) (g .a) (g .b) (g .c) (g .d) (g .alpha)) e ∙ done (g .words .now) (g .a) (g .b) (g .c) (g .d) (g .alpha)
+
+pub interpolate-spec : {M : Type 1} → statement M
+interpolate-spec =
+    tie.close
+    (tie.spec
+    Inv-loop
+    μ-loop
+    loop-holds
+    mul-scalar-from
+    add-scalar-from
+    scalar-from-requires
+    mul-scalar-from-2
+    add-scalar-from-2
+    scalar-from-requires-2
+    interpolate-requires
+    mul-set-scalar
+    add-set-scalar
+    set-scalar-requires
+    add-k
+    loop-less
+    loop-again
+    same-length
+    returns)

@@ -1,0 +1,105 @@
+-- How a slot of the work area holds a piece: the number of its points, its knots, and the numbers of its points, each at its place. Definitions only.
+use Prim.Native.Nat.{ℕ, suc, _+_, _*_, _≤_, _<_}
+use mathlib.Core.Path.{_≡_}
+use mathlib.Core.List.{List, [], _∷_, _++_}
+use lib.ListN.{length, drop, getD}
+use lib.IntN.{pos}
+use lib.Ieee.{Float, nan, ofInt, toUnsigned, binary64}
+use Rattle.lists.specs.Lists.{part, put}
+use Rattle.math.specs.declared.scalars.Scalar.{Scalar}
+use Rattle.math.specs.Scalars.{geop}
+use Rattle.geometry.specs.Vector.{Vector, interpolateV}
+use Rattle.geometry.specs.NurbCurve.{Piece, point}
+use Rattle.geometry.specs.KnotInsertion.{alpha, blend}
+use Rattle.geometry.specs.Layout.{scalarsOf, flat, pointsOf, slotWords}
+use Rattle.geometry.specs.declared.slots.Shape.{Shape}
+
+-- ---- the places
+
+-- The words of a point: lo and hi of each of its intervals.
+abbrev pub pointWords : Shape → ℕ
+pointWords s = 2 * suc (s .dim)
+
+-- Where the points of the slot at base begin: behind the count, and the room for the knots.
+abbrev pub pointsFrom : Shape → ℕ → ℕ
+pointsFrom s base = base + (s .count + 2 * s .degree + 3)
+
+-- Where point i of the slot at base begins.
+unfoldable pub placeOf : Shape → ℕ → ℕ → ℕ
+placeOf s base i = pointsFrom s base + pointWords s * i
+
+-- ---- what stands there
+
+-- A count as a word.
+unfoldable pub word : ℕ → Float
+word n = ofInt binary64 (pos n)
+
+-- The number of points of the slot at base.
+unfoldable pub countAt : List Float → ℕ → ℕ
+countAt l base = toUnsigned 64 (getD l base nan)
+
+-- The interval whose lo stands at index a.
+abbrev pub scalarFrom : List Float → ℕ → Scalar
+scalarFrom l a = record { lo = getD l a nan; hi = getD l (a + 1) nan }
+
+-- The point of D intervals whose numbers begin at index a.
+unfoldable pub vectorAt : ℕ → List Float → ℕ → Vector
+vectorAt D l a = scalarsOf D (drop a l)
+
+-- The numbers of some points, one point behind the other.
+unfoldable pub numbers : List Vector → List Float
+numbers [] = []
+numbers (q ∷ qs) = flat q ++ numbers qs
+
+-- The knots of the slot at base, where it holds n points.
+abbrev pub knotsAt : Shape → List Float → ℕ → ℕ → List Float
+knotsAt s l base n = part l (base + 1) (n + s .degree + 1)
+
+-- The piece that the slot at base holds.
+unfoldable pub pieceAt : Shape → List Float → ℕ → Piece
+pieceAt s l base = record {
+  knots = knotsAt s l base (countAt l base);
+  points = pointsOf (suc (s .dim)) (countAt l base) (drop (pointsFrom s base) l);
+}
+
+-- The memory l with the piece c written into the slot at base, and all else as it was.
+unfoldable pub placed : Shape → List Float → ℕ → Piece → List Float
+placed s l base c = put (put l base (word (length (c .points)) ∷ c .knots)) (pointsFrom s base) (numbers (c .points))
+
+-- The blend of points j and j + 1 of the slot at base, by the knots of n points.
+unfoldable pub blendAt : Shape → List Float → ℕ → ℕ → Float → ℕ → Vector
+blendAt s l base n t j =
+    blend geop (alpha geop (s .degree) (knotsAt s l base n) t (suc j)) (vectorAt (suc (s .dim)) l (placeOf s base j)) (vectorAt (suc (s .dim)) l (placeOf s base (suc j)))
+
+-- The point a fraction α of the way from point j to point j + 1 of the slot at base.
+unfoldable pub betweenAt : Shape → List Float → ℕ → Scalar → ℕ → Vector
+betweenAt s l base α j = interpolateV geop (vectorAt (suc (s .dim)) l (placeOf s base j)) (vectorAt (suc (s .dim)) l (placeOf s base (suc j))) α
+
+-- ---- what fits
+
+-- Each point has D intervals.
+abbrev pub Wide : ℕ → List Vector → Type 0
+Wide D points = (i : ℕ) → i < length points → length (point points i) ≡ D
+
+-- The sizes of document 01.
+pub record Sized (s : Shape) : Type 0 where
+  pub dim : s .dim ≤ 3
+  pub degree : s .degree ≤ 7
+  pub count : s .count ≤ 32
+
+-- The piece has the knots and the intervals that it should have, and a slot has room for it.
+pub record Fits (s : Shape) (c : Piece) : Type 0 where
+  pub knots : length (c .knots) ≡ length (c .points) + s .degree + 1
+  pub points : length (c .points) ≤ s .count + s .degree + 1
+  pub wide : Wide (suc (s .dim)) (c .points)
+
+-- The slot at base lies inside the memory.
+pub record Inside (s : Shape) (l : List Float) (base : ℕ) : Type 0 where
+  pub sized : Sized s
+  pub within : base + slotWords (s .dim) (s .degree) (s .count) ≤ length l
+
+-- The slot at base lies inside the memory, and holds a count that it has room for.
+pub record Held (s : Shape) (l : List Float) (base : ℕ) : Type 0 where
+  pub inside : Inside s l base
+  pub whole : getD l base nan ≡ word (countAt l base)
+  pub room : countAt l base ≤ s .count + s .degree + 1

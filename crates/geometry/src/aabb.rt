@@ -1,0 +1,174 @@
+// aabb.rs: the box of a piece, and the test before the search.
+use crate::fat_line::Hat;
+use crate::nurb_curve::coordinate;
+use crate::nurb_curve::scalar_at;
+use crate::nurb_curve::value_or_entire;
+use math::scalars::Divided;
+use math::scalars::Scalar;
+use math::scalars::next_down;
+use math::scalars::next_up;
+ghost use mathlib.Core.Path.{_≡_};
+ghost use mathlib.Core.Bool.{false};
+ghost use mathlib.Core.List.{map};
+ghost use Prim.Native.Nat.{suc, _+_, _*_, _≤_, _<_};
+ghost use lib.ListN.{length};
+ghost use lib.Ieee.{isNan};
+ghost use Rattle.math.specs.Picks.{minF, maxF};
+ghost use Rattle.math.specs.Scalars.{geop, ZERO, ONE, unionS};
+ghost use Rattle.geometry.specs.Layout.{scalarsOf, pointAt, pointsOf};
+ghost use Rattle.geometry.specs.Boxes.{corners, rawPlace};
+ghost use Rattle.geometry.specs.Aabb.{unions, place, aabb, couldOverlap, along, meets, couldMeet};
+
+// Coordinate k of point i over its weight.
+pub(crate) fn place(points: &[f64], dim: usize, i: usize, k: usize) -> Scalar
+    requires { ⌜ (dim ≤ 3) × (i < 32) × (k < dim) × (2 * (suc dim * suc i) ≤ length (now points)) ⌝ }
+    ensures { λ r. ⌜ r ≡ place geop dim k (pointAt (suc dim) (now (points .entry)) i) ⌝ }
+{
+    let x = coordinate(points, dim, i, k);
+    let w = coordinate(points, dim, i, dim);
+    value_or_entire(x.div(w))
+}
+
+// `min` with a first operand that is a number: one machine instruction.
+fn lesser(a: f64, b: f64) -> f64
+    requires { ⌜ isNan a ≡ false ⌝ }
+    ensures { λ r. ⌜ (r ≡ minF a b) × (isNan r ≡ false) ⌝ }
+{
+    if b < a { b } else { a }
+}
+
+// `max` with a first operand that is a number.
+fn greater(a: f64, b: f64) -> f64
+    requires { ⌜ isNan a ≡ false ⌝ }
+    ensures { λ r. ⌜ (r ≡ maxF a b) × (isNan r ≡ false) ⌝ }
+{
+    if a < b { b } else { a }
+}
+
+// The least and the greatest of the four products of the bounds of x and y: their product before it is widened.
+fn corners(x: Scalar, y: Scalar) -> Scalar
+    ensures { λ r. ⌜ r ≡ corners x y ⌝ }
+{
+    let a = x.lo * y.lo;
+    let b = x.lo * y.hi;
+    let c = x.hi * y.lo;
+    let d = x.hi * y.hi;
+    let inf = f64::from_bits(0x7ff0_0000_0000_0000);
+    let lo = lesser(lesser(lesser(lesser(inf, a), b), c), d);
+    let hi = greater(greater(greater(greater(-inf, a), b), c), d);
+    Scalar { lo, hi }
+}
+
+// `place` before it is widened.
+fn raw_place(points: &[f64], dim: usize, i: usize, k: usize) -> Scalar
+    requires { ⌜ (dim ≤ 3) × (i < 32) × (k < dim) × (2 * (suc dim * suc i) ≤ length (now points)) ⌝ }
+    ensures { λ r. ⌜ r ≡ rawPlace dim k (pointAt (suc dim) (now (points .entry)) i) ⌝ }
+{
+    let x = coordinate(points, dim, i, k);
+    let w = coordinate(points, dim, i, dim);
+    if w.has_zero() {
+        return Scalar::entire();
+    }
+    corners(x, w.inverse())
+}
+
+// The box of a piece along axis k: the union over its points, which is widened once, since neighbours keep the order of numbers.
+pub(crate) fn axis_box(points: &[f64], dim: usize, count: usize, k: usize) -> Scalar
+    requires { ⌜ (dim ≤ 3) × (1 ≤ count) × (count ≤ 32) × (k < dim) × (2 * (suc dim * count) ≤ length (now points)) ⌝ }
+    ensures { λ r. ⌜ r ≡ unions (map (λ q. place geop dim k q) (pointsOf (suc dim) count (now (points .entry)))) ⌝ }
+{
+    let first = raw_place(points, dim, 0, k);
+    let mut lo = first.lo;
+    let mut hi = first.hi;
+    let mut i = 1;
+    while i < count {
+        let p = raw_place(points, dim, i, k);
+        lo = lesser(lo, p.lo);
+        hi = greater(hi, p.hi);
+        i += 1;
+    }
+    Scalar {
+        lo: next_down(lo),
+        hi: next_up(hi),
+    }
+}
+
+// The box of a piece and the lent box could meet in every axis.
+pub(crate) fn aabb_could_overlap(
+    points: &[f64],
+    point_box: &[f64],
+    dim: usize,
+    count: usize,
+) -> bool
+    requires { ⌜ (dim ≤ 3) × (1 ≤ count) × (count ≤ 32) × (2 * (suc dim * count) ≤ length (now points)) × (2 * dim ≤ length (now «point_box»)) ⌝ }
+    ensures { λ r. ⌜ r ≡ couldOverlap (aabb geop dim (pointsOf (suc dim) count (now (points .entry)))) (scalarsOf dim (now («point_box» .entry))) ⌝ }
+{
+    let mut k = 0;
+    while k < dim {
+        let extent = axis_box(points, dim, count, k);
+        let other = scalar_at(point_box, k);
+        if !extent.could_be_equal(other) {
+            return false;
+        }
+        k += 1;
+    }
+    true
+}
+
+// Where along the segment from a to b, in one axis, it lies in e; missing where it may not move along this axis.
+pub(crate) fn along(e: Scalar, a: Scalar, b: Scalar) -> Hat
+    ensures { λ r. ⌜ r ≡ along geop e a b ⌝ }
+{
+    let d = b.sub(a);
+    let first = e.lower().sub(a).div(d);
+    let Divided::Value(s) = first else {
+        return Hat::Missing;
+    };
+    let second = e.upper().sub(a).div(d);
+    let Divided::Value(t) = second else {
+        return Hat::Missing;
+    };
+    Hat::Over(s.union(t))
+}
+
+// The segment from point 0 to point 1 could meet the lent box: what each axis leaves of the range from 0 to 1 is not empty.
+pub(crate) fn meets(points: &[f64], point_box: &[f64], dim: usize) -> bool
+    requires { ⌜ (dim ≤ 3) × (2 * (suc dim * 2) ≤ length (now points)) × (2 * dim ≤ length (now «point_box»)) ⌝ }
+    ensures { λ r. ⌜ r ≡ meets geop dim (pointAt (suc dim) (now (points .entry)) 0) (pointAt (suc dim) (now (points .entry)) 1) (unionS ZERO ONE) 0 (scalarsOf dim (now («point_box» .entry))) ⌝ }
+{
+    let mut range = Scalar::ZERO.union(Scalar::ONE);
+    let mut k = 0;
+    while k < dim {
+        let a = place(points, dim, 0, k);
+        let b = place(points, dim, 1, k);
+        let part = along(scalar_at(point_box, k), a, b);
+        if let Hat::Over(t) = part {
+            if !t.could_be_equal(range) {
+                return false;
+            }
+            range = t.intersect(range);
+        }
+        k += 1;
+    }
+    true
+}
+
+// The boxes overlap, and where the curve is a straight segment the segment itself could meet the lent box.
+pub(crate) fn curve_could_meet_aabb(
+    points: &[f64],
+    point_box: &[f64],
+    dim: usize,
+    degree: usize,
+    count: usize,
+) -> bool
+    requires { ⌜ (dim ≤ 3) × (1 ≤ count) × (count ≤ 32) × (2 * (suc dim * count) ≤ length (now points)) × (2 * dim ≤ length (now «point_box»)) ⌝ }
+    ensures { λ r. ⌜ r ≡ couldMeet geop dim degree (pointsOf (suc dim) count (now (points .entry))) (scalarsOf dim (now («point_box» .entry))) ⌝ }
+{
+    if !aabb_could_overlap(points, point_box, dim, count) {
+        return false;
+    }
+    if degree == 1 && count == 2 {
+        return meets(points, point_box, dim);
+    }
+    true
+}

@@ -1,0 +1,252 @@
+// What a call may lend: the checks 1 to 10 of document 01, each equal to its definition.
+use crate::knot_insertion::multiplicity_of;
+use crate::nurb_curve::weighted;
+ghost use mathlib.Core.Path.{_≡_};
+ghost use Prim.Native.Nat.{suc, max, _+_, _*_, _≤_, _<_};
+ghost use lib.ListN.{length};
+ghost use lib.Dec.{leb, eqb};
+ghost use lib.Ieee.{lt, le, eq};
+ghost use mathlib.Core.Bool.{_&&_, _||_};
+ghost use Rattle.lists.specs.Lists.{all};
+ghost use Rattle.math.specs.Scalars.{zeroF};
+ghost use Rattle.geometry.specs.Layout.{scalarsOf, slotWords};
+ghost use Rattle.geometry.specs.Call.{usable, ordered, rising, seldom, sound, refusal};
+
+// A number, and at most 2^100 in size.
+fn usable(x: f64) -> bool
+    ensures { λ r. ⌜ r ≡ usable x ⌝ }
+{
+    let most = f64::from_bits(0x4630_0000_0000_0000);
+    -most <= x && x <= most
+}
+
+// Every number of a list is usable.
+fn all_usable(l: &[f64]) -> bool
+    ensures { λ r. ⌜ r ≡ all usable (now (l .entry)) ⌝ }
+{
+    let mut i = 0;
+    while i < l.len() {
+        if !usable(l[i]) {
+            return false;
+        }
+        i += 1;
+    }
+    true
+}
+
+// No interval of the first n has its lo above its hi.
+fn all_ordered(l: &[f64], n: usize) -> bool
+    requires { ⌜ 2 * n ≤ length (now l) ⌝ }
+    ensures { λ r. ⌜ r ≡ all ordered (scalarsOf n (now (l .entry))) ⌝ }
+{
+    let mut i = 0;
+    while i < n {
+        if !(l[2 * i] <= l[2 * i + 1]) {
+            return false;
+        }
+        i += 1;
+    }
+    true
+}
+
+// No knot is below the one before.
+fn rising(knots: &[f64]) -> bool
+    ensures { λ r. ⌜ r ≡ rising (now (knots .entry)) ⌝ }
+{
+    let mut i = 1;
+    while i < knots.len() {
+        if !(knots[i - 1] <= knots[i]) {
+            return false;
+        }
+        i += 1;
+    }
+    true
+}
+
+// The knot u is an end of the domain from a to b.
+fn is_end(a: f64, b: f64, u: f64) -> bool
+    ensures { λ r. ⌜ r ≡ (eq u a || eq u b) ⌝ }
+{
+    u == a || u == b
+}
+
+// The knot u lies strictly inside the domain from a to b.
+fn is_inner(a: f64, b: f64, u: f64) -> bool
+    ensures { λ r. ⌜ r ≡ (lt a u && lt u b) ⌝ }
+{
+    a < u && u < b
+}
+
+// How often a knot inside the domain may occur.
+fn inner_most(degree: usize) -> usize
+    ensures { λ r. ⌜ r ≡ max degree 1 ⌝ }
+{
+    if degree == 0 { 1 } else { degree }
+}
+
+// On a domain from a to b, the knot u does not occur too often.
+fn seldom(degree: usize, a: f64, b: f64, knots: &[f64], u: f64) -> bool
+    requires { ⌜ degree ≤ 7 ⌝ }
+    ensures { λ r. ⌜ r ≡ seldom degree a b (now (knots .entry)) u ⌝ }
+{
+    let n = multiplicity_of(knots, u);
+    if is_end(a, b, u) {
+        return n <= degree + 1;
+    }
+    if is_inner(a, b, u) {
+        return n <= inner_most(degree);
+    }
+    true
+}
+
+// No knot occurs too often.
+fn all_seldom(degree: usize, a: f64, b: f64, knots: &[f64]) -> bool
+    requires { ⌜ degree ≤ 7 ⌝ }
+    ensures { λ r. ⌜ r ≡ all (λ u. seldom degree a b (now (knots .entry)) u) (now (knots .entry)) ⌝ }
+{
+    let mut i = 0;
+    while i < knots.len() {
+        if !seldom(degree, a, b, knots, knots[i]) {
+            return false;
+        }
+        i += 1;
+    }
+    true
+}
+
+// No knot falls, the domain's start is below its end, and no value occurs too often.
+fn sound(degree: usize, count: usize, knots: &[f64]) -> bool
+    requires { ⌜ (degree ≤ 7) × ((degree < length (now knots)) × (count < length (now knots))) ⌝ }
+    ensures { λ r. ⌜ r ≡ sound degree count (now (knots .entry)) ⌝ }
+{
+    let a = knots[degree];
+    let b = knots[count];
+    if !rising(knots) {
+        return false;
+    }
+    if !(a < b) {
+        return false;
+    }
+    all_seldom(degree, a, b, knots)
+}
+
+// Check 1: the dimension is 2 or 3.
+fn dim_fits(dim: usize) -> bool
+    ensures { λ r. ⌜ r ≡ eqb dim 2 || eqb dim 3 ⌝ }
+{
+    dim == 2 || dim == 3
+}
+
+// Check 3: there are from degree + 1 to 32 points.
+fn count_fits(degree: usize, count: usize) -> bool
+    requires { ⌜ degree ≤ 7 ⌝ }
+    ensures { λ r. ⌜ r ≡ leb (degree + 1) count && leb count 32 ⌝ }
+{
+    degree + 1 <= count && count <= 32
+}
+
+// Check 4: each slice has its length.
+fn lengths_fit(
+    dim: usize,
+    degree: usize,
+    count: usize,
+    knots: &[f64],
+    points: &[f64],
+    point_box: &[f64],
+) -> bool
+    requires { ⌜ (dim ≤ 3) × ((degree ≤ 7) × (count ≤ 32)) ⌝ }
+    ensures { λ r. ⌜ r ≡ eqb (length (now (knots .entry))) (count + degree + 1) && eqb (length (now (points .entry))) (2 * suc dim * count) && eqb (length (now («point_box» .entry))) (2 * dim) ⌝ }
+{
+    if knots.len() != count + degree + 1 {
+        return false;
+    }
+    if points.len() != 2 * (dim + 1) * count {
+        return false;
+    }
+    point_box.len() == 2 * dim
+}
+
+// Check 5: every number is usable, and the resolution is not below 0.
+fn numbers_usable(knots: &[f64], points: &[f64], point_box: &[f64], resolution: f64) -> bool
+    ensures { λ r. ⌜ r ≡ all usable (now (knots .entry)) && all usable (now (points .entry)) && all usable (now («point_box» .entry)) && usable resolution && le zeroF resolution ⌝ }
+{
+    if !all_usable(knots) {
+        return false;
+    }
+    if !all_usable(points) {
+        return false;
+    }
+    if !all_usable(point_box) {
+        return false;
+    }
+    if !usable(resolution) {
+        return false;
+    }
+    0.0 <= resolution
+}
+
+// Check 6: no lo is above its hi.
+fn bounds_ordered(dim: usize, count: usize, points: &[f64], point_box: &[f64]) -> bool
+    requires { ⌜ (dim ≤ 3) × ((count ≤ 32) × ((2 * (suc dim * count) ≤ length (now points)) × (2 * dim ≤ length (now «point_box»)))) ⌝ }
+    ensures { λ r. ⌜ r ≡ all ordered (scalarsOf (suc dim * count) (now (points .entry))) && all ordered (scalarsOf dim (now («point_box» .entry))) ⌝ }
+{
+    if !all_ordered(points, (dim + 1) * count) {
+        return false;
+    }
+    all_ordered(point_box, dim)
+}
+
+// The words of a slot of the work area.
+pub(crate) fn slot_words(dim: usize, degree: usize, count: usize) -> usize
+    requires { ⌜ (dim ≤ 3) × ((degree ≤ 7) × (count ≤ 32)) ⌝ }
+    ensures { λ r. ⌜ r ≡ slotWords dim degree count ⌝ }
+{
+    2 * (dim + 1) * (count + degree + 1) + 2 * (count + 2 * degree + 2)
+}
+
+// The number from 1 to 10 by which a call is refused, or 0.
+pub(crate) fn refusal(
+    dim: usize,
+    degree: usize,
+    count: usize,
+    knots: &[f64],
+    points: &[f64],
+    point_box: &[f64],
+    resolution: f64,
+    nodes: usize,
+    room: usize,
+) -> usize
+    ensures { λ r. ⌜ r ≡ refusal (record { dim = dim; degree = degree; count = count; knots = now (knots .entry); points = now (points .entry); box = now («point_box» .entry); resolution = resolution; nodes = nodes; room = room }) ⌝ }
+{
+    if !dim_fits(dim) {
+        return 1;
+    }
+    if degree > 7 {
+        return 2;
+    }
+    if !count_fits(degree, count) {
+        return 3;
+    }
+    if !lengths_fit(dim, degree, count, knots, points, point_box) {
+        return 4;
+    }
+    if !numbers_usable(knots, points, point_box, resolution) {
+        return 5;
+    }
+    if !bounds_ordered(dim, count, points, point_box) {
+        return 6;
+    }
+    if !weighted(points, dim, count) {
+        return 7;
+    }
+    if !sound(degree, count, knots) {
+        return 8;
+    }
+    if nodes > 4096 {
+        return 9;
+    }
+    if (nodes + 3) * slot_words(dim, degree, count) > room {
+        return 10;
+    }
+    0
+}

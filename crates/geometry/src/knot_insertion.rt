@@ -1,0 +1,264 @@
+// knot_insertion.rs: raising a parameter to full multiplicity in a slot. Knots are sharp, so a knot that could equal t is t.
+use crate::slots::Shape;
+use crate::slots::copy;
+use crate::slots::copy_up;
+use crate::slots::count_at;
+use crate::slots::fill;
+use crate::slots::place_of;
+use crate::slots::set_count;
+use crate::vector::interpolate;
+use math::scalars::Divided;
+use math::scalars::Scalar;
+ghost use mathlib.Core.Path.{_≡_};
+ghost use Prim.Native.Nat.{suc, _+_, _-_, _*_, _≤_, _<_};
+ghost use lib.ListN.{length, drop};
+ghost use lib.Ieee.{eq};
+ghost use Rattle.lists.specs.Lists.{part, put, tab, all, position};
+ghost use Rattle.math.specs.Scalars.{geop, isSame};
+ghost use Rattle.geometry.specs.KnotInsertion.{holdsAt, insertionSpan, alpha, blend, knotsWith, insertOnce, insertTimes, triangle, sides, bezierKnots, multiplicity, isBezier};
+ghost use Rattle.geometry.specs.Layout.{flat, pointsOf};
+ghost use Rattle.geometry.specs.Slots.{pointsFrom, pointWords, placeOf, countAt, knotsAt, vectorAt, blendAt, betweenAt, numbers, pieceAt, placed, Inside, Held};
+
+// The parameter t is at or above knot k, and below the next.
+fn holds_at(knots: &[f64], t: f64, k: usize) -> bool
+    requires { ⌜ k + 1 < length (now knots) ⌝ }
+    ensures { λ r. ⌜ r ≡ holdsAt (now (knots .entry)) t k ⌝ }
+{
+    !(t < knots[k]) && t < knots[k + 1]
+}
+
+// The highest span that holds t, of those numbered degree to count - 1; with none it is the degree.
+pub(crate) fn find_insertion_span(knots: &[f64], degree: usize, count: usize, t: f64) -> usize
+    requires { ⌜ (degree ≤ count) × (count < length (now knots)) ⌝ }
+    ensures { λ r. ⌜ r ≡ insertionSpan degree count (now (knots .entry)) t ⌝ }
+{
+    let mut i = count;
+    let span = loop {
+        if i == degree {
+            break degree;
+        }
+        i -= 1;
+        if holds_at(knots, t, i) {
+            break i;
+        }
+    };
+    span
+}
+
+// How far t lies from knot i to knot i + degree: 0 or 1 where t is one of the two, and 1 where their difference may be zero.
+pub(crate) fn alpha_at(knots: &[f64], degree: usize, t: f64, i: usize) -> Scalar
+    requires { ⌜ i + degree < length (now knots) ⌝ }
+    ensures { λ r. ⌜ r ≡ alpha geop degree (now (knots .entry)) t i ⌝ }
+{
+    let a = knots[i];
+    let b = knots[i + degree];
+    if a == t {
+        return Scalar::ZERO;
+    }
+    if b == t {
+        return Scalar::ONE;
+    }
+    let start = Scalar::from_f64(a);
+    let along = Scalar::from_f64(t)
+        .sub(start)
+        .div(Scalar::from_f64(b).sub(start));
+    match along {
+        Divided::Value(v) => v,
+        Divided::Failed => Scalar::ONE,
+    }
+}
+
+// How often t occurs among the knots.
+pub(crate) fn multiplicity_of(knots: &[f64], t: f64) -> usize
+    ensures { λ r. ⌜ r ≡ multiplicity t (now (knots .entry)) ⌝ }
+{
+    let mut n = 0;
+    let mut i = knots.len();
+    while 0 < i {
+        i -= 1;
+        if knots[i] == t {
+            n += 1;
+        }
+    }
+    n
+}
+
+// The number of the first knot that is t, or the number of the knots where none is.
+pub(crate) fn position_of(knots: &[f64], t: f64) -> usize
+    ensures { λ r. ⌜ r ≡ position (λ u. eq u t) (now (knots .entry)) ⌝ }
+{
+    let mut i = 0;
+    while i < knots.len() {
+        if knots[i] == t {
+            return i;
+        }
+        i += 1;
+    }
+    i
+}
+
+// Each of the knots is v.
+pub(crate) fn all_are(knots: &[f64], v: f64) -> bool
+    ensures { λ r. ⌜ r ≡ all (λ u. eq u v) (now (knots .entry)) ⌝ }
+{
+    let mut i = 0;
+    while i < knots.len() {
+        if !(knots[i] == v) {
+            return false;
+        }
+        i += 1;
+    }
+    true
+}
+
+// degree + 1 points, and only two values among the knots, degree + 1 times each.
+pub(crate) fn is_bezier_span(knots: &[f64], degree: usize, count: usize) -> bool
+    requires { ⌜ (degree < count) × (count + degree < length (now knots)) ⌝ }
+    ensures { λ r. ⌜ r ≡ isBezier degree count (now (knots .entry)) ⌝ }
+{
+    let m = degree + 1;
+    if count != m {
+        return false;
+    }
+    if !all_are(&knots[..m], knots[0]) {
+        return false;
+    }
+    all_are(&knots[m..], knots[m])
+}
+
+// Both bounds are the same.
+fn is_same(x: Scalar, y: Scalar) -> bool
+    ensures { λ r. ⌜ r ≡ isSame x y ⌝ }
+{
+    x.lo == y.lo && x.hi == y.hi
+}
+
+// The point of d intervals at b becomes the one a fraction alpha of the way from the point at a to it: unrounded where alpha is 0 or 1.
+fn blend_into(work: &mut [f64], a: usize, b: usize, d: usize, alpha: Scalar)
+    requires { ⌜ (a + 2 * d ≤ b) × (b + 2 * d ≤ length (now work)) ⌝ }
+    ensures { λ _. ⌜ now (work .exit) ≡ put (now (work .entry)) b (flat (blend geop alpha (vectorAt d (now (work .entry)) a) (vectorAt d (now (work .entry)) b))) ⌝ }
+{
+    if is_same(alpha, Scalar::ZERO) {
+        copy(work, a, b, 2 * d);
+        return;
+    }
+    if is_same(alpha, Scalar::ONE) {
+        return;
+    }
+    interpolate(work, a, b, b, d, alpha);
+}
+
+// Point j + 1 of the slot at base, which has the knots of n points, becomes its blend with point j.
+fn blend_point(work: &mut [f64], base: usize, s: Shape, n: usize, j: usize, t: f64)
+    requires { ⌜ Inside s (now work) base × (j + 1 < n) × (n ≤ s .count + s .degree + 1) ⌝ }
+    ensures { λ _. ⌜ now (work .exit) ≡ put (now (work .entry)) (placeOf s base (suc j)) (flat (blendAt s (now (work .entry)) base n t j)) ⌝ }
+{
+    let from = base + 1;
+    let end = from + n + s.degree + 1;
+    let alpha = alpha_at(&work[from..end], s.degree, t, j + 1);
+    let a = place_of(s, base, j);
+    let b = place_of(s, base, j + 1);
+    blend_into(work, a, b, s.dim + 1, alpha);
+}
+
+// The points numbered k - degree + 1 to k become blends, the last one first.
+fn blend_points(work: &mut [f64], base: usize, s: Shape, n: usize, k: usize, t: f64)
+    requires { ⌜ Inside s (now work) base × (s .degree ≤ k) × (k < n) × (n ≤ s .count + s .degree + 1) ⌝ }
+    ensures { λ _. ⌜ now (work .exit) ≡ put (now (work .entry)) (placeOf s base (suc (k - s .degree))) (numbers (tab (s .degree) (λ j. blendAt s (now (work .entry)) base n t (k - s .degree + j)))) ⌝ }
+{
+    let last = k - s.degree;
+    let mut i = k;
+    while last < i {
+        i -= 1;
+        blend_point(work, base, s, n, i, t);
+    }
+}
+
+// Of n points, those from number k on move up by one.
+fn open_points(work: &mut [f64], base: usize, s: Shape, n: usize, k: usize)
+    requires { ⌜ Inside s (now work) base × (k < n) × (n ≤ s .count + s .degree) ⌝ }
+    ensures { λ _. ⌜ now (work .exit) ≡ put (now (work .entry)) (placeOf s base (suc k)) (part (now (work .entry)) (placeOf s base k) (placeOf s base n - placeOf s base k)) ⌝ }
+{
+    let from = place_of(s, base, k);
+    let to = place_of(s, base, k + 1);
+    let end = place_of(s, base, n);
+    copy_up(work, from, to, end - from);
+}
+
+// Of the m knots behind the count at base, those behind number k move up by one, and t is put in.
+fn insert_knot(work: &mut [f64], base: usize, m: usize, k: usize, t: f64)
+    requires { ⌜ (k < m) × (base + 1 + m < length (now work)) ⌝ }
+    ensures { λ _. ⌜ now (work .exit) ≡ put (now (work .entry)) (base + 1) (knotsWith k t (part (now (work .entry)) (base + 1) m)) ⌝ }
+{
+    let at = base + k + 2;
+    copy_up(work, at, at + 1, m - k - 1);
+    work[at] = t;
+}
+
+// The parameter t is inserted once, in span k, into the piece of the slot at base.
+pub(crate) fn insert_once(work: &mut [f64], base: usize, s: Shape, k: usize, t: f64)
+    requires { ⌜ Held s (now work) base × (s .degree ≤ k) × (k < countAt (now work) base) × (countAt (now work) base ≤ s .count + s .degree) ⌝ }
+    ensures { λ _. ⌜ now (work .exit) ≡ placed s (now (work .entry)) base (insertOnce geop (s .degree) k t (pieceAt s (now (work .entry)) base)) ⌝ }
+{
+    let n = count_at(work, base);
+    open_points(work, base, s, n, k);
+    blend_points(work, base, s, n, k, t);
+    insert_knot(work, base, n + s.degree + 1, k, t);
+    set_count(work, base, n + 1);
+}
+
+// The span of the piece in the slot at base that holds t.
+fn span_in(work: &[f64], base: usize, s: Shape, t: f64) -> usize
+    requires { ⌜ Held s (now work) base × (s .degree ≤ countAt (now work) base) ⌝ }
+    ensures { λ r. ⌜ r ≡ insertionSpan (s .degree) (countAt (now (work .entry)) base) (knotsAt s (now (work .entry)) base (countAt (now (work .entry)) base)) t ⌝ }
+{
+    let n = count_at(work, base);
+    let from = base + 1;
+    let end = from + n + s.degree + 1;
+    find_insertion_span(&work[from..end], s.degree, n, t)
+}
+
+// The parameter t is inserted so many times into the piece of the slot at base, each time in the span that then holds it.
+pub(crate) fn insert_times(work: &mut [f64], base: usize, s: Shape, t: f64, times: usize)
+    requires { ⌜ Held s (now work) base × (s .degree < countAt (now work) base) × (countAt (now work) base + times ≤ s .count + s .degree + 1) ⌝ }
+    ensures { λ _. ⌜ now (work .exit) ≡ placed s (now (work .entry)) base (insertTimes geop (s .degree) t times (pieceAt s (now (work .entry)) base)) ⌝ }
+{
+    let mut i = 0;
+    while i < times {
+        let k = span_in(work, base, s, t);
+        insert_once(work, base, s, k, t);
+        i += 1;
+    }
+}
+
+// Point j + 1 of the slot at base becomes the one a fraction alpha of the way from point j to it.
+fn between_point(work: &mut [f64], base: usize, s: Shape, j: usize, alpha: Scalar)
+    requires { ⌜ Inside s (now work) base × (j < s .count + s .degree) ⌝ }
+    ensures { λ _. ⌜ now (work .exit) ≡ put (now (work .entry)) (placeOf s base (suc j)) (flat (betweenAt s (now (work .entry)) base alpha j)) ⌝ }
+{
+    let a = place_of(s, base, j);
+    let b = place_of(s, base, j + 1);
+    interpolate(work, a, b, b, s.dim + 1, alpha);
+}
+
+// The points numbered r + 1 to degree become points between, the last one first: the next row of the triangle in the place of a row that begins at point r.
+fn next_row(work: &mut [f64], base: usize, s: Shape, r: usize, alpha: Scalar)
+    requires { ⌜ Inside s (now work) base × (r ≤ s .degree) × (s .degree < s .count) ⌝ }
+    ensures { λ _. ⌜ now (work .exit) ≡ put (now (work .entry)) (placeOf s base (suc r)) (numbers (tab (s .degree - r) (λ j. betweenAt s (now (work .entry)) base alpha (r + j)))) ⌝ }
+{
+    let mut i = s.degree;
+    while r < i {
+        i -= 1;
+        between_point(work, base, s, i, alpha);
+    }
+}
+
+// Point j of the slot at base becomes point i.
+fn copy_point(work: &mut [f64], base: usize, s: Shape, i: usize, j: usize)
+    requires { ⌜ Inside s (now work) base × (i < j) × (j ≤ s .count + s .degree) ⌝ }
+    ensures { λ _. ⌜ now (work .exit) ≡ put (now (work .entry)) (placeOf s base j) (flat (vectorAt (suc (s .dim)) (now (work .entry)) (placeOf s base i))) ⌝ }
+{
+    let a = place_of(s, base, i);
+    let b = place_of(s, base, j);
+    copy(work, a, b, 2 * (s.dim + 1));
+}

@@ -1,0 +1,153 @@
+-- The neighbours of doubles keep their order, so that the least of some is widened once: the neighbour below the lesser of two is the lesser of their neighbours, and so above. Assumes nothing.
+use mathlib.Core.Path.{_≡_, refl, sym, ap, _∙_, subst}
+use mathlib.Core.Logic.{inl, inr}
+use mathlib.Core.Bool.{Bool, true, false, not}
+use lib.Dec.{T}
+use lib.Ieee.{Float, nan, inf, fin, binary64, isNan, lt, le, fits, neg}
+use lib.Ieee.Fits.{neg-fits}
+use Rattle.math.specs.Neighbours.{nextUp, nextDown}
+use Rattle.math.specs.Picks.{minF, maxF}
+use Rattle.math.specs.Scalars.{unionS, widened}
+use Rattle.math.proofs.Bools.{yes, no, decide}
+use Rattle.math.proofs.Picks.{lesser-yes, lesser-no}
+use Rattle.math.proofs.Doubles.Order.{number, le-number-l, lt→le-f, le-self, le-trans, lt-le, lt-not-le, total-order}
+use Rattle.math.proofs.Doubles.Mirror.{neg-neg}
+use Rattle.math.proofs.Doubles.Least.{max-is}
+use Rattle.math.proofs.Doubles.Next.{nextDown-fits, nextDown-below}
+use Rattle.math.proofs.Doubles.NextLeast.{nextDown-greatest}
+
+-- ---- the neighbour below
+
+-- there is none below the least
+down-least : nextDown (inf true) ≡ inf true
+unfolding nextDown nextUp neg
+down-least = refl
+
+-- it is a number, and no more than its double
+down-le : (a : Float) → T (fits binary64 a) → T (number a) → T (le (nextDown a) a)
+unfolding isNan neg
+down-le nan F n = absurd n
+down-le (inf true) F n = rw down-least (le-self (inf true) tt)
+down-le (inf false) F n = lt→le-f (nextDown (inf false)) (inf false) (nextDown-below (inf false) F tt)
+down-le (fin s m e) F n = lt→le-f (nextDown (fin s m e)) (fin s m e) (nextDown-below (fin s m e) F tt)
+
+down-number : (a : Float) → T (fits binary64 a) → T (number a) → T (number (nextDown a))
+down-number a F n = le-number-l (nextDown a) a (down-le a F n)
+
+-- what is no more than the least is the least
+bottom : (x : Float) → T (le x (inf true)) → x ≡ inf true
+unfolding le lt
+bottom nan h = absurd h
+bottom (inf true) h = refl
+bottom (inf false) h = absurd h
+bottom (fin s m e) h = absurd h
+
+not-below : (x : Float) → T (lt x (inf true)) → ⊥
+unfolding lt
+not-below nan h = h
+not-below (inf true) h = h
+not-below (inf false) h = h
+not-below (fin s m e) h = h
+
+not-true : (t : Bool) → t ≡ false → T (not t)
+not-true t e = subst (λ (b : Bool). T (not b)) (sym e) tt
+
+real : (a : Float) → T (number a) → isNan a ≡ false
+unfolding isNan
+real nan n = absurd n
+real (inf s) n = refl
+real (fin s m e) n = refl
+
+-- ---- of two doubles
+
+-- where the second is less, so is its neighbour, unless both neighbours are the least
+down-yes : (a : Float) → T (fits binary64 a) → T (number a) → (b : Float) → T (fits binary64 b) → T (number b) → T (lt b a) → lt (nextDown b) (nextDown a) ≡ false → nextDown a ≡ nextDown b
+unfolding isNan neg
+down-yes a F n nan G m h e = absurd m
+down-yes a F n (inf true) G m h e =
+    bottom (nextDown a) (total-order (nextDown a) (inf true) (down-number a F n) tt (not-true (lt (inf true) (nextDown a)) (ap (λ (x : Float). lt x (nextDown a)) (sym down-least) ∙ e)))
+    ∙ sym down-least
+down-yes a F n (inf false) G m h e =
+    absurd (no (lt (nextDown (inf false)) (nextDown a)) e (lt-le (nextDown (inf false)) (inf false) (nextDown a) (nextDown-below (inf false) G tt) (nextDown-greatest a F (inf false) G h)))
+down-yes a F n (fin s k d) G m h e =
+    absurd (no (lt (nextDown (fin s k d)) (nextDown a)) e (lt-le (nextDown (fin s k d)) (fin s k d) (nextDown a) (nextDown-below (fin s k d) G tt) (nextDown-greatest a F (fin s k d) G h)))
+
+-- a number that its neighbour reaches is the least, and nothing is below that
+down-stuck : (a x : Float) → T (fits binary64 a) → T (number a) → T (le a (nextDown a)) → T (lt x (nextDown a)) → ⊥
+unfolding isNan neg
+down-stuck nan x F n l h = n
+down-stuck (inf true) x F n l h = not-below x (subst (λ (y : Float). T (lt x y)) down-least h)
+down-stuck (inf false) x F n l h = lt-not-le (nextDown (inf false)) (inf false) (nextDown-below (inf false) F tt) l
+down-stuck (fin s m e) x F n l h = lt-not-le (nextDown (fin s m e)) (fin s m e) (nextDown-below (fin s m e) F tt) l
+
+-- where the second is not less, nor is its neighbour
+down-no : (a b : Float) → T (fits binary64 a) → T (fits binary64 b) → T (number a) → T (number b) → lt b a ≡ false → T (lt (nextDown b) (nextDown a)) → ⊥
+down-no a b F G n m e h = elim (decide (lt (nextDown a) b)) [
+  | inl t ↦ lt-not-le (nextDown b) (nextDown a) h (nextDown-greatest b G (nextDown a) (nextDown-fits a) t)
+  | inr t ↦ down-stuck a (nextDown b) F n (le-trans a b (nextDown a) (total-order a b n m (not-true (lt b a) e)) (total-order b (nextDown a) m (down-number a F n) t)) h
+]
+
+down-min-numbers : (a b : Float) → T (fits binary64 a) → T (fits binary64 b) → T (number a) → T (number b) → minF (nextDown a) (nextDown b) ≡ nextDown (minF a b)
+down-min-numbers a b F G n m = by (lt b a) refl (lt (nextDown b) (nextDown a)) refl
+  where
+    p : isNan a ≡ false
+    p = real a n
+
+    q : isNan (nextDown a) ≡ false
+    q = real (nextDown a) (down-number a F n)
+
+    by : (t : Bool) → lt b a ≡ t → (u : Bool) → lt (nextDown b) (nextDown a) ≡ u → minF (nextDown a) (nextDown b) ≡ nextDown (minF a b)
+    by true e true f = sym (lesser-yes (nextDown a) (nextDown b) q f .0) ∙ ap nextDown (lesser-yes a b p e .0)
+    by true e false f = sym (lesser-no (nextDown a) (nextDown b) q f .0) ∙ down-yes a F n b G m (yes (lt b a) e) f ∙ ap nextDown (lesser-yes a b p e .0)
+    by false e true f = absurd (down-no a b F G n m e (yes (lt (nextDown b) (nextDown a)) f))
+    by false e false f = sym (lesser-no (nextDown a) (nextDown b) q f .0) ∙ ap nextDown (lesser-no a b p e .0)
+
+-- the neighbour below the lesser; a NaN is passed over on both sides
+pub down-min : (a b : Float) → T (fits binary64 a) → T (fits binary64 b) → minF (nextDown a) (nextDown b) ≡ nextDown (minF a b)
+down-min a b F G = by a b F G
+  where
+    down-nan : nextDown nan ≡ nan
+    down-nan = unfold nextDown nextUp neg in refl
+
+    after-nan : (x : Float) → minF nan x ≡ x
+    after-nan x = unfold minF isNan in refl
+
+    before-nan : (x : Float) → T (number x) → minF x nan ≡ x
+    before-nan x n = sym (lesser-no x nan (real x n) (not-less x) .0)
+      where
+        not-less : (x : Float) → lt nan x ≡ false
+        not-less x = unfold lt in refl
+
+    mixed : (a : Float) → T (fits binary64 a) → T (number a) → minF (nextDown a) (nextDown nan) ≡ nextDown (minF a nan)
+    mixed a F n = ap (minF (nextDown a)) down-nan ∙ before-nan (nextDown a) (down-number a F n) ∙ ap nextDown (sym (before-nan a n))
+
+    by : (a b : Float) → T (fits binary64 a) → T (fits binary64 b) → minF (nextDown a) (nextDown b) ≡ nextDown (minF a b)
+    by nan b F G = ap (λ (x : Float). minF x (nextDown b)) down-nan ∙ after-nan (nextDown b) ∙ ap nextDown (sym (after-nan b))
+    by (inf s) nan F G = mixed (inf s) F (unfold isNan in tt)
+    by (inf s) (inf t) F G = down-min-numbers (inf s) (inf t) F G (unfold isNan in tt) (unfold isNan in tt)
+    by (inf s) (fin t n d) F G = down-min-numbers (inf s) (fin t n d) F G (unfold isNan in tt) (unfold isNan in tt)
+    by (fin s m e) nan F G = mixed (fin s m e) F (unfold isNan in tt)
+    by (fin s m e) (inf t) F G = down-min-numbers (fin s m e) (inf t) F G (unfold isNan in tt) (unfold isNan in tt)
+    by (fin s m e) (fin t n d) F G = down-min-numbers (fin s m e) (fin t n d) F G (unfold isNan in tt) (unfold isNan in tt)
+
+-- ---- the mirror image
+
+-- the neighbour above is the mirror image of the one below
+down-neg : (a : Float) → nextDown (neg a) ≡ neg (nextUp a)
+unfolding nextDown
+down-neg a = ap (λ (x : Float). neg (nextUp x)) (neg-neg a)
+
+up-neg : (a : Float) → neg (nextDown (neg a)) ≡ nextUp a
+up-neg a = ap neg (down-neg a) ∙ neg-neg (nextUp a)
+
+pub up-max : (a b : Float) → T (fits binary64 a) → T (fits binary64 b) → maxF (nextUp a) (nextUp b) ≡ nextUp (maxF a b)
+up-max a b F G =
+    max-is (nextUp a) (nextUp b)
+    ∙ ap neg ((λ i. minF (sym (down-neg a) i) (sym (down-neg b) i)) ∙ down-min (neg a) (neg b) (neg-fits binary64 a F) (neg-fits binary64 b G))
+    ∙ ap (λ (x : Float). neg (nextDown x)) (sym (neg-neg (minF (neg a) (neg b))) ∙ ap neg (sym (max-is a b)))
+    ∙ up-neg (maxF a b)
+
+-- a union of intervals that were widened is widened once
+pub widened-union : (a b c d : Float) → T (fits binary64 a) → T (fits binary64 b) → T (fits binary64 c) → T (fits binary64 d) → unionS (widened a b) (widened c d) ≡ widened (minF a c) (maxF b d)
+unfolding unionS
+widened-union a b c d A B C D = λ i. record { lo = down-min a c A C i; hi = up-max b d B D i }
