@@ -117,9 +117,6 @@ nn-in t = record { sign = t }
 pub nn-out : {x : ℚ} → Nn x → T (nonneg x)
 nn-out h = h .sign
 
-pub le-prop : (x y : ℚ) → IsProp (x ≤ℚ y)
-le-prop x y p q = λ i. record { gap = Nn-prop (y -ℚ x) (p .gap) (q .gap) i }
-
 pub le-in : {x y : ℚ} → Nn (y -ℚ x) → x ≤ℚ y
 le-in h = record { gap = h }
 

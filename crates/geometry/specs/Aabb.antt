@@ -41,7 +41,7 @@ alongBy Failed t = Missing
 alongBy (Value s) Failed = Missing
 alongBy (Value s) (Value t) = Over (unionS s t)
 
--- Where along the segment the axis lies in e; nothing is said where the segment may not move along this axis.
+-- Where along the segment the axis lies in e; `Missing` where the segment may not move along this axis, which then confines nothing.
 unfoldable pub along : Arithmetic → Scalar → Scalar → Scalar → Hat
 along ar e a b =
     let d = ar .sub b a in

@@ -150,6 +150,6 @@ unfoldable pub areaBy : Call → List Float → ℕ → List Float
 areaBy c area zero = cleared area (stated c) zeroF
 areaBy c area (suc n) = area
 
--- The work area that a call leaves of `area`: as it was where it is refused by any number but 11; else its stated words are all 0, and the rest is as it was.
+-- The work area that a call leaves of `area`, whose length is the room of the call: as it was where it is refused by any number but 11; else its stated words are all 0, and the rest is as it was.
 unfoldable pub areaAfter : Call → List Float → List Float
 areaAfter c area = areaBy c area (refusal c)

@@ -1,15 +1,15 @@
--- Demand 3 of document 01, in its words: what an exact hit is, and where the bounds of a result lie. Definitions only.
+-- Demand 3, over document 01's words: what an exact hit is, and where the bounds of a result lie. Definitions only.
 use Prim.Native.Nat.{ℕ, suc, _+_, _*_, _≤_, _<_}
 use mathlib.Core.Path.{_≡_}
 use mathlib.Core.Bool.{_&&_}
 use mathlib.Core.List.{List, [], _∷_}
 use lib.Dec.{T}
 use lib.ListN.{length, getD}
-use lib.Ieee.{Float, nan, binary64, le, fits}
+use lib.Ieee.{Float, nan, binary64, le, eq, fits}
 use Rattle.exact.specs.Rational.{ℚ, _*ℚ_, invℚ}
 use Rattle.exact.specs.Spline.{Traced}
 use Rattle.exact.specs.Cut.{Counted}
-use Rattle.math.specs.Scalars.{Arithmetic}
+use Rattle.math.specs.Scalars.{Arithmetic, zeroF}
 use Rattle.math.specs.Values.{value, Holds}
 use Rattle.geometry.specs.NurbCurve.{Piece, knot, start, end, weighted}
 use Rattle.geometry.specs.Subdivide.{Step, going, over, advance}
@@ -84,12 +84,24 @@ BoundsInDomain c p (Enclosed lo hi v) = NotOutside (start p c) (end c) lo × Not
 BoundsInDomain c p (Spent n v) = Unit {0}
 BoundsInDomain c p (Refused n v) = Unit {0}
 
+-- A zero is the positive one.
+abbrev pub NoNegativeZero : Float → Type 0
+NoNegativeZero x = T (eq x zeroF) → x ≡ zeroF
+
+-- No bound is a negative zero.
+abbrev pub BoundsPlain : Found → Type 0
+BoundsPlain (Nothing v) = Unit {0}
+BoundsPlain (Enclosed lo hi v) = NoNegativeZero lo × NoNegativeZero hi
+BoundsPlain (Spent n v) = Unit {0}
+BoundsPlain (Refused n v) = Unit {0}
+
 -- ---- demand 3
 
--- On a completed search of an accepted curve of degree at least 1, every exact hit lies between the bounds; and of any call, no bound lies outside the domain.
+-- On a completed search of an accepted curve, every exact hit lies between the bounds; and of any call, no bound lies outside the domain, and none is a negative zero.
 pub record Enclosure (ar : Arithmetic) : Type 0 where
-  pub hits : (c : Call) → Doubles c → Accepted c → 1 ≤ c .degree → Completes (searched ar c) → (t : ℚ) → HitAt c t → BoundsHold (searched ar c) t
+  pub hits : (c : Call) → Doubles c → Accepted c → Completes (searched ar c) → (t : ℚ) → HitAt c t → BoundsHold (searched ar c) t
   pub bounds : (c : Call) → Doubles c → BoundsInDomain (curve c) (c .degree) (searched ar c)
+  pub zeros : (c : Call) → BoundsPlain (searched ar c)
 
 -- ---- the pieces of a search
 

@@ -27,7 +27,7 @@ module _ {A : Type 0} where
   unfoldable pub inserted : List A → ℕ → ℕ → A → List A
   inserted l n at v = take at l ++ (v ∷ (drop at (take n l) ++ drop (suc n) l))
 
-  -- The list l with each of its first n elements replaced by v.
+  -- The list l with each of its first n elements replaced by v, for an n of at most its length.
   unfoldable pub cleared : List A → ℕ → A → List A
   cleared l n v = replicate n v ++ drop n l
 

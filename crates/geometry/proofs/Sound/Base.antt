@@ -9,7 +9,7 @@ use lib.ListN.{length, getD}
 use lib.Dec.{T}
 use lib.Ieee.{Float, binary64, fits}
 use Rattle.exact.specs.Rational.{ℚ}
-use Rattle.exact.specs.Spline.{On}
+use Rattle.exact.specs.Spline.{On, Sorted}
 use Rattle.exact.specs.Cut.{Good}
 use Rattle.math.specs.Scalars.{absent}
 use Rattle.math.specs.Values.{value, Holds}
@@ -31,6 +31,16 @@ pub record Knots (p n : ℕ) (ks : List Float) : Type 0 where
   pub long : length ks ≡ suc (n + p)
   pub known : (i : ℕ) → i < length ks → Known (knot ks i)
   pub good : Good p n (values ks)
+
+-- of these the box and the domain need only that they are in order
+pub record Lined (p n : ℕ) (ks : List Float) : Type 0 where
+  pub long : length ks ≡ suc (n + p)
+  pub known : (i : ℕ) → i < length ks → Known (knot ks i)
+  pub sorted : Sorted (values ks) (n + p)
+  pub room : p < n
+
+pub lined : (p n : ℕ) (ks : List Float) → Knots p n ks → Lined p n ks
+lined p n ks k = record { long = k .long; known = k .known; sorted = k .good .sorted; room = k .good .room }
 
 -- exact control values in the intervals of the first D coordinates of each point
 pub record Inside (D : ℕ) (points : List Vector) (C : ℕ → ℕ → ℚ) : Type 0 where

@@ -27,7 +27,7 @@ use Rattle.geometry.specs.Subdivide.{Question, dropped, restricted, halv
 use Rattle.geometry.specs.Contains.{clip, carried, handOn, handBoth, shrink, clipped, visit}
 use Rattle.geometry.specs.declared.fat_line.Hat.{Hat}
 use Rattle.geometry.specs.declared.fat_line.Hat.the-variants.{Over, Missing}
-use Rattle.geometry.proofs.Sound.Base.{values, Known, Knots, Carries}
+use Rattle.geometry.proofs.Sound.Base.{values, Known, Knots, Carries, lined}
 use Rattle.geometry.proofs.Sound.Known.{le-value}
 use Rattle.geometry.proofs.Sound.Restrict.{Sub, Both, restrict-sub, restrict-keeps, split-sub, split-keeps, mid-fits}
 use Rattle.geometry.proofs.Sound.Search.{Fine, Kept}
@@ -174,4 +174,4 @@ module _ (ar : Arithmetic) (E : Encloses ar) (q : Question) (N : ℕ) (a b : ℚ
     visit-kept c k h = taken (Kept At Has) (couldOverlap (aabb ar dim (c .points)) (q .box)) _ dropped overlaps (clipped-kept c k h)
       where
         overlaps : T (couldOverlap (aabb ar (q .dim) (c .points)) (q .box))
-        overlaps = box-overlaps ar E dim p c (k .knots) (k .weights) t v h (q .box) long x bx vx
+        overlaps = box-overlaps ar E dim p c (lined p (length (c .points)) (c .knots) (k .knots)) (k .weights) t v h (q .box) long x bx vx

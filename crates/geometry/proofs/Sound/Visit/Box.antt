@@ -18,7 +18,7 @@ use Rattle.math.proofs.Bools.{and-i}
 use Rattle.geometry.specs.Vector.{Vector, coordinate}
 use Rattle.geometry.specs.NurbCurve.{Piece, point, weighted}
 use Rattle.geometry.specs.Aabb.{unions, place, aabb, couldOverlap}
-use Rattle.geometry.proofs.Sound.Base.{values, Knots, Carries}
+use Rattle.geometry.proofs.Sound.Base.{values, Lined, Carries}
 use Rattle.geometry.proofs.Sound.Visit.Hulls.{could-equal, unions-between}
 use Rattle.geometry.proofs.Sound.Visit.Weights.{heavy-at, heavy-pos, place-holds}
 
@@ -33,9 +33,9 @@ overlap (x ∷ xs) (y ∷ ys) q e f g =
     and-i (couldBeEqual x y) (couldOverlap xs ys) (could-equal x y (q zero) (f zero (omega arith)) (g zero (omega arith)))
     (overlap xs ys (λ k. q (suc k)) (omega arith) (λ k l. f (suc k) (omega arith)) (λ k l. g (suc k) (omega arith)))
 
-module _ (ar : Arithmetic) (E : Encloses ar) (dim p : ℕ) (c : Piece) (K : Knots p (length (c .points)) (c .knots)) (w : T (weighted dim (c .points))) (t : ℚ) (v : ℕ → ℚ) (h : Carries (suc dim) p t v c) where
+module _ (ar : Arithmetic) (E : Encloses ar) (dim p : ℕ) (c : Piece) (K : Lined p (length (c .points)) (c .knots)) (w : T (weighted dim (c .points))) (t : ℚ) (v : ℕ → ℚ) (h : Carries (suc dim) p t v c) where
   n≥1 : 1 ≤ length (c .points)
-  n≥1 = omega (arith, K .good .room)
+  n≥1 = omega (arith, K .room)
 
   pub weight-pos : (i : ℕ) → i < length (c .points) → 0ℚ <ℚ h .exact dim i
   weight-pos i l = heavy-pos (coordinate (point (c .points) i) dim) (h .exact dim i) (heavy-at dim (c .points) w i l) (h .inside .at dim i (omega arith) l)
@@ -44,7 +44,7 @@ module _ (ar : Arithmetic) (E : Encloses ar) (dim p : ℕ) (c : Piece) (K : Knot
   axis-place : (k : ℕ) → k < dim → (x : ℚ) → v k *ℚ invℚ (v dim) ≡ x → Holds (unions (map (λ (q : Vector). place ar dim k q) (c .points))) x
   axis-place k kd x e =
       unions-between (map (λ (q : Vector). place ar dim k q) (c .points)) (length (c .points)) (λ i. h .exact k i *ℚ invℚ (h .exact dim i)) x (length-map (c .points) _) n≥1 each
-      (λ a b f. on-box p (length (c .points)) (values (c .knots)) (K .good .sorted) (h .exact) t v (h .on) dim weight-pos k x e a b f)
+      (λ a b f. on-box p (length (c .points)) (values (c .knots)) (K .sorted) (h .exact) t v (h .on) dim weight-pos k x e a b f)
     where
       each : (i : ℕ) → i < length (c .points) → Holds (getD (map (λ (q : Vector). place ar dim k q) (c .points)) i absent) (h .exact k i *ℚ invℚ (h .exact dim i))
       each i l = subst (λ (s : Scalar). Holds s (h .exact k i *ℚ invℚ (h .exact dim i))) (sym (getD-map (λ (q : Vector). place ar dim k q) (c .points) i [] absent l))

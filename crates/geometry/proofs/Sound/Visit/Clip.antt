@@ -21,7 +21,7 @@ use Rattle.geometry.specs.FatLine.{greville, fatLineZeros}
 use Rattle.geometry.specs.Contains.{axis, narrowed, clip}
 use Rattle.geometry.specs.declared.fat_line.Hat.{Hat}
 use Rattle.geometry.specs.declared.fat_line.Hat.the-variants.{Over, Missing}
-use Rattle.geometry.proofs.Sound.Base.{values, Knots, Inside, Carries}
+use Rattle.geometry.proofs.Sound.Base.{values, Knots, Inside, Carries, Lined, lined}
 use Rattle.geometry.proofs.Sound.Known.{sharp-known}
 use Rattle.geometry.proofs.Sound.Visit.Hulls.{holds-between, could-equal}
 use Rattle.geometry.proofs.Sound.Visit.Weights.{heavy-at, less-holds}
@@ -70,20 +70,21 @@ module _ (ar : Arithmetic) (dim : ℕ) (ps : List Vector) (ξs : List Scalar) (t
       go Missing y rec = absurd y
       go (Over g) y rec = rec g y
 
+-- ---- the domain holds t
+module _ (dim p : ℕ) (c : Piece) (K : Lined p (length (c .points)) (c .knots)) (t : ℚ) (v : ℕ → ℚ) (h : Carries (suc dim) p t v c) where
+  pub domain-holds : Holds (domain (start p c) (end c)) t
+  unfolding domain
+  domain-holds =
+      holds-between _ (values (c .knots) p) t (values (c .knots) (length (c .points))) (union-left _ _ _ (sharp-known (start p c) (K .known p (omega (arith, K .long, K .room)))))
+      (union-right _ _ _ (sharp-known (end c) (K .known (length (c .points)) (omega (arith, K .long))))) (inside .from) (inside .upto)
+    where
+      inside : In (values (c .knots) p) (values (c .knots) (length (c .points))) t
+      inside = on-domain p (length (c .points)) (values (c .knots)) (K .sorted) (h .exact) t v (h .on)
+
 -- ---- the piece
 module _ (ar : Arithmetic) (E : Encloses ar) (dim p : ℕ) (c : Piece) (K : Knots p (length (c .points)) (c .knots)) (w : T (weighted dim (c .points))) (t : ℚ) (v : ℕ → ℚ) (h : Carries (suc dim) p t v c) where
   abbrev n : ℕ
   n = length (c .points)
-
-  -- the domain holds t
-  pub domain-holds : Holds (domain (start p c) (end c)) t
-  unfolding domain
-  domain-holds =
-      holds-between _ (values (c .knots) p) t (values (c .knots) n) (union-left _ _ _ (sharp-known (start p c) (K .known p (omega (arith, K .long)))))
-      (union-right _ _ _ (sharp-known (end c) (K .known n (omega (arith, K .long))))) (inside .from) (inside .upto)
-    where
-      inside : In (values (c .knots) p) (values (c .knots) (length (c .points))) t
-      inside = on-domain p n (values (c .knots)) (K .good .sorted) (h .exact) t v (h .on)
 
   module _ (1≤p : 1 ≤ p) (k : ℕ) (x : ℚ) (vx : v k *ℚ invℚ (v dim) ≡ x) where
     abbrev diff : ℕ → ℚ
@@ -98,13 +99,13 @@ module _ (ar : Arithmetic) (E : Encloses ar) (dim p : ℕ) (c : Piece) (K : Knot
     }
       where
         pos : (i : ℕ) → i < length (c .points) → 0ℚ <ℚ h .exact dim i
-        pos = weight-pos ar E dim p c K w t v h
+        pos = weight-pos ar E dim p c (lined p n (c .knots) K) w t v h
 
   -- THE CLIP
   pub clip-found : 1 ≤ p → p ≤ 7 → (ξs : List Scalar) → greville ar p (length (c .points)) (c .knots) ≡ some ξs
       → (box : List Scalar) → length box ≡ dim → (q : ℕ → ℚ) → ((k : ℕ) → k < dim → Holds (getD box k absent) (q k)) → ((k : ℕ) → k < dim → v k *ℚ invℚ (v dim) ≡ q k)
       → (hat : Scalar) × (clip ar dim (c .points) ξs (domain (start p c) (end c)) 0 box ≡ Over hat) × Holds hat t
-  clip-found 1≤p p≤7 ξs eg box long q bq vq = found-over _ t (steps ar dim (c .points) ξs t q zeros box 0 (domain (start p c) (end c)) (omega arith) (λ j l. at j l) domain-holds)
+  clip-found 1≤p p≤7 ξs eg box long q bq vq = found-over _ t (steps ar dim (c .points) ξs t q zeros box 0 (domain (start p c) (end c)) (omega arith) (λ j l. at j l) (domain-holds dim p c (lined p n (c .knots) K) t v h))
     where
       A : Abscissae p (length (c .points)) (c .knots) ξs
       A = greville-holds ar E p n (c .knots) ξs 1≤p p≤7 K eg

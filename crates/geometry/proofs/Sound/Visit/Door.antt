@@ -23,7 +23,7 @@ use Rattle.geometry.specs.NurbCurve.{Piece, point, weighted}
 use Rattle.geometry.specs.Aabb.{place, aabb, couldOverlap, alongBy, along, meets, couldMeet}
 use Rattle.geometry.specs.declared.fat_line.Hat.{Hat}
 use Rattle.geometry.specs.declared.fat_line.Hat.the-variants.{Over, Missing}
-use Rattle.geometry.proofs.Sound.Base.{values, Known, Knots, Carries}
+use Rattle.geometry.proofs.Sound.Base.{values, Known, Knots, Carries, lined}
 use Rattle.geometry.proofs.Sound.Known.{sharp-known, low-value, high-value}
 use Rattle.geometry.proofs.Sound.Visit.Hulls.{holds-between, could-equal, two-ends}
 use Rattle.geometry.proofs.Sound.Visit.Weights.{heavy-at, place-holds}
@@ -106,7 +106,7 @@ module _ (ar : Arithmetic) (E : Encloses ar) (dim p : ℕ) (c : Piece) (K : Knot
     on = subst (λ (z : ℕ). On 1 z (values (c .knots)) (h .exact) t v) n2 (subst (λ (z : ℕ). On z (length (c .points)) (values (c .knots)) (h .exact) t v) p1 (h .on))
 
     pos : (i : ℕ) → i < 2 → 0ℚ <ℚ h .exact dim i
-    pos i l = weight-pos ar E dim p c K w t v h i (omega arith)
+    pos i l = weight-pos ar E dim p c (lined p (length (c .points)) (c .knots) K) w t v h i (omega arith)
 
     spot : (k i : ℕ) → k < dim → i < 2 → Holds (place ar dim k (point (c .points) i)) (h .exact k i *ℚ invℚ (h .exact dim i))
     spot k i kd l =
@@ -129,7 +129,7 @@ module _ (ar : Arithmetic) (E : Encloses ar) (dim p : ℕ) (c : Piece) (K : Knot
   -- THE DOOR
   pub door : T (couldMeet ar dim p (c .points) box)
   unfolding couldMeet
-  door = and-i (couldOverlap (aabb ar dim (c .points)) box) _ (box-overlaps ar E dim p c K w t v h box long q bq vq)
+  door = and-i (couldOverlap (aabb ar dim (c .points)) box) _ (box-overlaps ar E dim p c (lined p (length (c .points)) (c .knots) K) w t v h box long q bq vq)
       (pick T (eqb p 1 && eqb (length (c .points)) 2) (meets ar dim (point (c .points) 0) (point (c .points) 1) (unionS ZERO ONE) 0 box) true
       (λ y. segment (eqb→eq p 1 (and-l (eqb p 1) (eqb (length (c .points)) 2) y)) (eqb→eq (length (c .points)) 2 (and-r (eqb p 1) (eqb (length (c .points)) 2) y)))
       (λ _. tt))
