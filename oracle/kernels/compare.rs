@@ -19,8 +19,8 @@ unsafe extern "C" {
     fn k_bezier(knots: *const f64, n: usize, count: usize, degree: usize) -> bool;
     fn k_insert(work: *mut f64, n: usize, dim: usize, degree: usize, count: usize, span: usize, t: f64);
     fn k_full(work: *mut f64, n: usize, dim: usize, degree: usize, count: usize, t: f64) -> usize;
-    fn k_split(work: *mut f64, n: usize, dim: usize, degree: usize, count: usize, t: f64) -> bool;
-    fn k_restrict(work: *mut f64, n: usize, dim: usize, degree: usize, count: usize, lo: f64, hi: f64) -> usize;
+    fn k_split(work: *mut f64, n: usize, dim: usize, degree: usize, count: usize, left: usize, right: usize, t: f64) -> bool;
+    fn k_restrict(work: *mut f64, n: usize, dim: usize, degree: usize, count: usize, to: usize, lo: f64, hi: f64) -> usize;
 }
 
 // ---- random numbers
@@ -280,7 +280,7 @@ fn cuts<const D: usize>(t: &mut Tally, r: &mut Rng, c: &Case, points: &[Vector<D
         let (mut k2, mut rows) = (knots.to_vec(), [points.to_vec()]);
         let (rk, rr) = knot_insertion::split(&mut k2, &mut rows, p, s).unwrap();
         let mut l = write_slot(c);
-        let done = k_split(l.as_mut_ptr(), l.len(), dim, p, n, x);
+        let done = k_split(l.as_mut_ptr(), l.len(), dim, p, n, slot_words(c), 2 * slot_words(c), x);
         let ((lk, lp), (qk, qp)) = (read_slot(c, &l, 1), read_slot(c, &l, 2));
         t.see("split", done && same(&lk, &lows(&k2)) && same(&lp, &flat(&rows[0])) && same(&qk, &lows(&rk)) && same(&qp, &flat(&rr[0])), show);
 
@@ -289,7 +289,7 @@ fn cuts<const D: usize>(t: &mut Tally, r: &mut Rng, c: &Case, points: &[Vector<D
         let (mut k2, mut rows) = (knots.to_vec(), [points.to_vec()]);
         knot_insertion::restrict(&mut k2, &mut rows, p, Scalar::from_f64(lo), Scalar::from_f64(hi)).unwrap();
         let mut l = write_slot(c);
-        k_restrict(l.as_mut_ptr(), l.len(), dim, p, n, lo, hi);
+        k_restrict(l.as_mut_ptr(), l.len(), dim, p, n, slot_words(c), lo, hi);
         let (ok, op) = read_slot(c, &l, 1);
         t.see("restrict", same(&ok, &lows(&k2)) && same(&op, &flat(&rows[0])), || format!("lo {lo} hi {hi} {}", show()));
     }
