@@ -10,6 +10,11 @@ pub mod Wide
 pub mod Insert
 pub mod Blends
 pub mod Once
+pub mod Views
 pub mod Times
 pub mod Levels
 pub mod Triangle
+pub mod Cuts
+pub mod Moves
+pub mod Separate
+pub mod Splits

@@ -1,6 +1,8 @@
 -- How a slot of the work area holds a piece: the number of its points, its knots, and the numbers of its points, each at its place. Definitions only.
 use Prim.Native.Nat.{ℕ, suc, _+_, _*_, _≤_, _<_}
 use mathlib.Core.Path.{_≡_}
+use mathlib.Core.Bool.{Bool, true, false}
+use mathlib.Core.Logic.{_⊎_}
 use mathlib.Core.List.{List, [], _∷_, _++_}
 use lib.ListN.{length, drop, getD}
 use lib.IntN.{pos}
@@ -9,8 +11,9 @@ use Rattle.lists.specs.Lists.{part, put}
 use Rattle.math.specs.declared.scalars.Scalar.{Scalar}
 use Rattle.math.specs.Scalars.{geop}
 use Rattle.geometry.specs.Vector.{Vector, interpolateV}
-use Rattle.geometry.specs.NurbCurve.{Piece, point}
-use Rattle.geometry.specs.KnotInsertion.{alpha, blend}
+use Rattle.geometry.specs.NurbCurve.{Piece, point, start, end, inDomain}
+use Rattle.geometry.specs.KnotInsertion.{alpha, blend, fullCut, leftOf, rightOf}
+use Rattle.geometry.specs.Split.{Halves, uncut, both, split, fromBy, restrict}
 use Rattle.geometry.specs.Layout.{scalarsOf, flat, pointsOf, slotWords}
 use Rattle.geometry.specs.declared.slots.Shape.{Shape}
 
@@ -103,3 +106,71 @@ pub record Held (s : Shape) (l : List Float) (base : ℕ) : Type 0 where
   pub inside : Inside s l base
   pub whole : getD l base nan ≡ word (countAt l base)
   pub room : countAt l base ≤ s .count + s .degree + 1
+
+-- Two slots that share no word.
+abbrev pub Apart : Shape → ℕ → ℕ → Type 0
+Apart s a b = (a + slotWords (s .dim) (s .degree) (s .count) ≤ b) ⊎ (b + slotWords (s .dim) (s .degree) (s .count) ≤ a)
+
+-- ---- what a cut leaves in the memory
+
+-- The memory m differs from l in the slot at a alone.
+abbrev pub OnlyAt : Shape → List Float → List Float → ℕ → Type 0
+OnlyAt s l m a = (i w : ℕ) → (i + w ≤ a) ⊎ (a + slotWords (s .dim) (s .degree) (s .count) ≤ i) → part m i w ≡ part l i w
+
+-- The memory m differs from l in the slots at a and b alone.
+abbrev pub OnlyAtBoth : Shape → List Float → List Float → ℕ → ℕ → Type 0
+OnlyAtBoth s l m a b =
+    (i w : ℕ) → (i + w ≤ a) ⊎ (a + slotWords (s .dim) (s .degree) (s .count) ≤ i) → (i + w ≤ b) ⊎ (b + slotWords (s .dim) (s .degree) (s .count) ≤ i) → part m i w ≡ part l i w
+
+-- The slot at base holds the piece c in the memory m.
+pub record Holding (s : Shape) (m : List Float) (base : ℕ) (c : Piece) : Type 0 where
+  pub held : Held s m base
+  pub piece : pieceAt s m base ≡ c
+
+-- The slots at a and b hold the halves, where there are any.
+abbrev pub HoldingBoth : Shape → List Float → ℕ → ℕ → Halves → Type 0
+HoldingBoth s m a b uncut = Unit {0}
+HoldingBoth s m a b (both x y) = Holding s m a x × Holding s m b y
+
+-- Whether there was a cut.
+unfoldable pub wasCut : Halves → Bool
+wasCut uncut = false
+wasCut (both x y) = true
+
+-- A split of the piece c writes the cut into the slot at a, what is right of it into the slot at b, and keeps what is left.
+unfoldable pub splitInto : Shape → List Float → ℕ → ℕ → Float → Piece → Bool → List Float
+splitInto s l a b t c true = let k = fullCut geop (s .degree) t c in placed s (placed s (placed s l a (k .piece)) b (rightOf k)) a (leftOf (s .degree) k)
+splitInto s l a b t c false = l
+
+-- What `split` leaves: the memory m, and the result r.
+pub record SplitAt (s : Shape) (l m : List Float) (a b : ℕ) (t : Float) (c : Piece) (r : Bool) : Type 0 where
+  pub cut : r ≡ wasCut (split geop (s .degree) t c)
+  pub memory : m ≡ splitInto s l a b t c (inDomain (start (s .degree) c) (end c) t)
+  pub halves : HoldingBoth s m a b (split geop (s .degree) t c)
+  pub others : OnlyAtBoth s l m a b
+
+-- A cut at t in the slot at a, of whose two parts one is kept.
+unfoldable pub keepInto : Shape → List Float → ℕ → Piece → Piece → Bool → List Float
+keepInto s l a k d true = placed s (placed s l a k) a d
+keepInto s l a k d false = l
+
+-- `restrict` copies the piece c into the slot at a and cuts it there, at lo and then at hi.
+unfoldable pub restrictInto : Shape → List Float → ℕ → Float → Float → Piece → List Float
+restrictInto s l a lo hi c =
+    let p = s .degree in
+    let k = fullCut geop p lo c in
+    let d = fromBy geop p lo c (inDomain (start p c) (end c) lo) .piece in
+    let h = fullCut geop p hi d in
+    keepInto s (keepInto s (placed s l a c) a (k .piece) (rightOf k) (inDomain (start p c) (end c) lo)) a (h .piece) (leftOf p h) (inDomain (start p d) (end d) hi)
+
+-- What `restrict` leaves: the memory m, and the number r of cuts.
+pub record RestrictAt (s : Shape) (l m : List Float) (a : ℕ) (lo hi : Float) (c : Piece) (r : ℕ) : Type 0 where
+  pub cuts : r ≡ restrict geop (s .degree) lo hi c .cuts
+  pub memory : m ≡ restrictInto s l a lo hi c
+  pub held : Holding s m a (restrict geop (s .degree) lo hi c .piece)
+  pub others : OnlyAt s l m a
+
+-- The piece has enough points to be cut, and no more than the whole curve.
+pub record Whole (s : Shape) (c : Piece) : Type 0 where
+  pub enough : s .degree < length (c .points)
+  pub bounded : length (c .points) ≤ s .count

@@ -10,7 +10,7 @@ use math::scalars::next_up;
 ghost use mathlib.Core.Path.{_≡_};
 ghost use mathlib.Core.Bool.{false};
 ghost use mathlib.Core.List.{map};
-ghost use Prim.Native.Nat.{suc, _+_, _*_, _≤_, _<_};
+ghost use Prim.Native.Nat.{suc, _*_, _≤_, _<_};
 ghost use lib.ListN.{length};
 ghost use lib.Ieee.{isNan};
 ghost use Rattle.math.specs.Picks.{minF, maxF};
@@ -20,7 +20,7 @@ ghost use Rattle.geometry.specs.Boxes.{corners, rawPlace};
 ghost use Rattle.geometry.specs.Aabb.{unions, place, aabb, couldOverlap, along, meets, couldMeet};
 
 // Coordinate k of point i over its weight.
-pub(crate) fn place(points: &[f64], dim: usize, i: usize, k: usize) -> Scalar
+fn place(points: &[f64], dim: usize, i: usize, k: usize) -> Scalar
     requires { ⌜ (dim ≤ 3) × (i < 32) × (k < dim) × (2 * (suc dim * suc i) ≤ length (now points)) ⌝ }
     ensures { λ r. ⌜ r ≡ place geop dim k (pointAt (suc dim) (now (points .entry)) i) ⌝ }
 {
@@ -73,7 +73,7 @@ fn raw_place(points: &[f64], dim: usize, i: usize, k: usize) -> Scalar
 }
 
 // The box of a piece along axis k: the union over its points, which is widened once, since neighbours keep the order of numbers.
-pub(crate) fn axis_box(points: &[f64], dim: usize, count: usize, k: usize) -> Scalar
+fn axis_box(points: &[f64], dim: usize, count: usize, k: usize) -> Scalar
     requires { ⌜ (dim ≤ 3) × (1 ≤ count) × (count ≤ 32) × (k < dim) × (2 * (suc dim * count) ≤ length (now points)) ⌝ }
     ensures { λ r. ⌜ r ≡ unions (map (λ q. place geop dim k q) (pointsOf (suc dim) count (now (points .entry)))) ⌝ }
 {
@@ -116,7 +116,7 @@ pub(crate) fn aabb_could_overlap(
 }
 
 // Where along the segment from a to b, in one axis, it lies in e; missing where it may not move along this axis.
-pub(crate) fn along(e: Scalar, a: Scalar, b: Scalar) -> Hat
+fn along(e: Scalar, a: Scalar, b: Scalar) -> Hat
     ensures { λ r. ⌜ r ≡ along geop e a b ⌝ }
 {
     let d = b.sub(a);
@@ -132,7 +132,7 @@ pub(crate) fn along(e: Scalar, a: Scalar, b: Scalar) -> Hat
 }
 
 // The segment from point 0 to point 1 could meet the lent box: what each axis leaves of the range from 0 to 1 is not empty.
-pub(crate) fn meets(points: &[f64], point_box: &[f64], dim: usize) -> bool
+fn meets(points: &[f64], point_box: &[f64], dim: usize) -> bool
     requires { ⌜ (dim ≤ 3) × (2 * (suc dim * 2) ≤ length (now points)) × (2 * dim ≤ length (now «point_box»)) ⌝ }
     ensures { λ r. ⌜ r ≡ meets geop dim (pointAt (suc dim) (now (points .entry)) 0) (pointAt (suc dim) (now (points .entry)) 1) (unionS ZERO ONE) 0 (scalarsOf dim (now («point_box» .entry))) ⌝ }
 {

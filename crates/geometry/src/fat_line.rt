@@ -196,14 +196,14 @@ pub(crate) fn fat_line_zeros(xi: &[f64], d: &[f64], count: usize) -> Hat
 // ---- sizes: plain doubles, for choices that need not be exact
 
 // The place of a point as plain doubles: as many of the three as there are coordinates, the others 0.
-pub struct Position {
-    pub x: f64,
-    pub y: f64,
-    pub z: f64,
+struct Position {
+    x: f64,
+    y: f64,
+    z: f64,
 }
 
 // The middle of coordinate k of point i over w, and 0 where there is no such coordinate.
-pub(crate) fn cartesian_at(points: &[f64], dim: usize, i: usize, k: usize, w: f64) -> f64
+fn cartesian_at(points: &[f64], dim: usize, i: usize, k: usize, w: f64) -> f64
     requires { ⌜ (dim ≤ 3) × (i < 32) × (2 * (suc dim * suc i) ≤ length (now points)) ⌝ }
     ensures { λ r. ⌜ r ≡ cond (ltb k dim) (div binary64 (middle (coordinate (pointAt (suc dim) (now (points .entry)) i) k)) w) zeroF ⌝ }
 {
@@ -214,7 +214,7 @@ pub(crate) fn cartesian_at(points: &[f64], dim: usize, i: usize, k: usize, w: f6
 }
 
 // The middle of each coordinate of point i, over the middle of its weight.
-pub(crate) fn cartesian(points: &[f64], dim: usize, i: usize) -> Position
+fn cartesian(points: &[f64], dim: usize, i: usize) -> Position
     requires { ⌜ (dim ≤ 3) × (i < 32) × (2 * (suc dim * suc i) ≤ length (now points)) ⌝ }
     ensures { λ r. ⌜ positionOf dim r ≡ cartesian dim (pointAt (suc dim) (now (points .entry)) i) ⌝ }
 {
@@ -226,7 +226,7 @@ pub(crate) fn cartesian(points: &[f64], dim: usize, i: usize) -> Position
 }
 
 // The sum with the square of y - x, where there is a coordinate k.
-pub(crate) fn with_square(sum: f64, dim: usize, k: usize, x: f64, y: f64) -> f64
+fn with_square(sum: f64, dim: usize, k: usize, x: f64, y: f64) -> f64
     ensures { λ r. ⌜ r ≡ cond (ltb k dim) (add binary64 sum (square (sub binary64 y x))) sum ⌝ }
 {
     if k < dim {
@@ -237,7 +237,7 @@ pub(crate) fn with_square(sum: f64, dim: usize, k: usize, x: f64, y: f64) -> f64
 }
 
 // The square of the distance from a to b.
-pub(crate) fn squared(dim: usize, a: Position, b: Position) -> f64
+fn squared(dim: usize, a: Position, b: Position) -> f64
     requires { ⌜ dim ≤ 3 ⌝ }
     ensures { λ r. ⌜ r ≡ squared (positionOf dim a) (positionOf dim b) ⌝ }
 {
@@ -247,7 +247,7 @@ pub(crate) fn squared(dim: usize, a: Position, b: Position) -> f64
 }
 
 // The distance from a to b.
-pub(crate) fn distance(dim: usize, a: Position, b: Position) -> f64
+fn distance(dim: usize, a: Position, b: Position) -> f64
     requires { ⌜ dim ≤ 3 ⌝ }
     ensures { λ r. ⌜ r ≡ distance (positionOf dim a) (positionOf dim b) ⌝ }
 {
@@ -272,13 +272,13 @@ pub(crate) fn extent(points: &[f64], dim: usize, count: usize) -> f64
 }
 
 // The squares of the distances from each point to the next: their sum, and the greatest.
-pub struct Squares {
-    pub total: f64,
-    pub top: f64,
+struct Squares {
+    total: f64,
+    top: f64,
 }
 
 // The squares of the distances from each point to the next.
-pub(crate) fn steps(points: &[f64], dim: usize, count: usize) -> Squares
+fn steps(points: &[f64], dim: usize, count: usize) -> Squares
     requires { ⌜ (dim ≤ 3) × (1 ≤ count) × (count ≤ 32) × (2 * (suc dim * count) ≤ length (now points)) ⌝ }
     ensures { λ r. ⌜ r ≡ steps dim (pointsOf (suc dim) count (now (points .entry))) ⌝ }
 {
@@ -314,7 +314,7 @@ pub(crate) fn exceeds(points: &[f64], dim: usize, count: usize, limit: f64) -> b
 }
 
 // The greater of best and of the width of coordinate k of point i over w, where there is a coordinate k.
-pub(crate) fn wider(best: f64, points: &[f64], dim: usize, i: usize, k: usize, w: f64) -> f64
+fn wider(best: f64, points: &[f64], dim: usize, i: usize, k: usize, w: f64) -> f64
     requires { ⌜ (dim ≤ 3) × (i < 32) × (2 * (suc dim * suc i) ≤ length (now points)) ⌝ }
     ensures { λ r. ⌜ r ≡ cond (ltb k dim) (maxF best (div binary64 (toF64 (widthS (coordinate (pointAt (suc dim) (now (points .entry)) i) k))) w)) best ⌝ }
 {
@@ -325,7 +325,7 @@ pub(crate) fn wider(best: f64, points: &[f64], dim: usize, i: usize, k: usize, w
 }
 
 // The greater of best and of the width of each coordinate of point i over the middle of its weight.
-pub(crate) fn carried_by(best: f64, points: &[f64], dim: usize, i: usize) -> f64
+fn carried_by(best: f64, points: &[f64], dim: usize, i: usize) -> f64
     requires { ⌜ (dim ≤ 3) × (i < 32) × (2 * (suc dim * suc i) ≤ length (now points)) ⌝ }
     ensures { λ r. ⌜ r ≡ carriedBy dim best (pointAt (suc dim) (now (points .entry)) i) ⌝ }
 {
@@ -374,14 +374,14 @@ pub(crate) fn carried(points: &[f64], point_box: &[f64], dim: usize, count: usiz
 // ---- restriction and stalled, on a domain from a to b
 
 // Four fifths, as an interval.
-pub(crate) fn four_fifths() -> Scalar
+fn four_fifths() -> Scalar
     ensures { λ r. ⌜ r ≡ fourFifthsS ⌝ }
 {
     value_or_entire(Scalar::from_ratio(4, 5))
 }
 
 // The hat is definitely below four fifths of the domain.
-pub(crate) fn narrow(a: f64, b: f64, hat: Scalar) -> bool
+fn narrow(a: f64, b: f64, hat: Scalar) -> bool
     ensures { λ r. ⌜ r ≡ lt (widthS hat) (mulS (sharp (widthS (domain a b))) fourFifthsS .lo) ⌝ }
 {
     let most = domain(a, b).width().mul(four_fifths());
@@ -389,7 +389,7 @@ pub(crate) fn narrow(a: f64, b: f64, hat: Scalar) -> bool
 }
 
 // A bound of the hat lies strictly inside the domain.
-pub(crate) fn reaches_in(a: f64, b: f64, hat: Scalar) -> bool
+fn reaches_in(a: f64, b: f64, hat: Scalar) -> bool
     ensures { λ r. ⌜ r ≡ inDomain a b (hat .lo) || inDomain a b (hat .hi) ⌝ }
 {
     in_domain(a, b, hat.lo) || in_domain(a, b, hat.hi)

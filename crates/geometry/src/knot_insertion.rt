@@ -4,6 +4,7 @@ use crate::slots::copy;
 use crate::slots::copy_up;
 use crate::slots::count_at;
 use crate::slots::fill;
+use crate::slots::knots_in;
 use crate::slots::place_of;
 use crate::slots::set_count;
 use crate::vector::interpolate;
@@ -11,11 +12,14 @@ use math::scalars::Divided;
 use math::scalars::Scalar;
 ghost use mathlib.Core.Path.{_≡_};
 ghost use Prim.Native.Nat.{suc, _+_, _-_, _*_, _≤_, _<_};
+ghost use mathlib.Core.Bool.{_&&_};
 ghost use lib.ListN.{length, drop};
+ghost use lib.Dec.{eqb};
 ghost use lib.Ieee.{eq};
 ghost use Rattle.lists.specs.Lists.{part, put, tab, all, position};
-ghost use Rattle.math.specs.Scalars.{geop, isSame};
-ghost use Rattle.geometry.specs.KnotInsertion.{holdsAt, insertionSpan, alpha, blend, knotsWith, insertOnce, insertTimes, triangle, sides, bezierKnots, multiplicity, isBezier};
+ghost use Rattle.math.specs.Scalars.{geop, isSame, sharp, subS, divS};
+ghost use Rattle.geometry.specs.NurbCurve.{knot};
+ghost use Rattle.geometry.specs.KnotInsertion.{holdsAt, insertionSpan, alpha, blend, knotsWith, insertOnce, insertTimes, triangle, sides, bezierKnots, bezierCut, multiplicity, isBezier, boehmCut, fullCut};
 ghost use Rattle.geometry.specs.Layout.{flat, pointsOf};
 ghost use Rattle.geometry.specs.Slots.{pointsFrom, pointWords, placeOf, countAt, knotsAt, vectorAt, blendAt, betweenAt, numbers, pieceAt, placed, Inside, Held};
 
@@ -210,12 +214,10 @@ pub(crate) fn insert_once(work: &mut [f64], base: usize, s: Shape, k: usize, t: 
 // The span of the piece in the slot at base that holds t.
 fn span_in(work: &[f64], base: usize, s: Shape, t: f64) -> usize
     requires { ⌜ Held s (now work) base × (s .degree ≤ countAt (now work) base) ⌝ }
-    ensures { λ r. ⌜ r ≡ insertionSpan (s .degree) (countAt (now (work .entry)) base) (knotsAt s (now (work .entry)) base (countAt (now (work .entry)) base)) t ⌝ }
+    ensures { λ r. ⌜ r ≡ insertionSpan (s .degree) (length (pieceAt s (now (work .entry)) base .points)) (pieceAt s (now (work .entry)) base .knots) t ⌝ }
 {
     let n = count_at(work, base);
-    let from = base + 1;
-    let end = from + n + s.degree + 1;
-    find_insertion_span(&work[from..end], s.degree, n, t)
+    find_insertion_span(knots_in(work, base, s), s.degree, n, t)
 }
 
 // The parameter t is inserted so many times into the piece of the slot at base, each time in the span that then holds it.
@@ -261,4 +263,113 @@ fn copy_point(work: &mut [f64], base: usize, s: Shape, i: usize, j: usize)
     let a = place_of(s, base, i);
     let b = place_of(s, base, j);
     copy(work, a, b, 2 * (s.dim + 1));
+}
+
+// The degree + 1 points of the slot at base become the two sides of their triangle: row by row in place, where the first point of a row stays and the last one is copied behind.
+fn triangle_in(work: &mut [f64], base: usize, s: Shape, alpha: Scalar)
+    requires { ⌜ Inside s (now work) base × (s .degree < s .count) ⌝ }
+    ensures { λ _. ⌜ now (work .exit) ≡ put (now (work .entry)) (pointsFrom s base) (numbers (sides (triangle geop alpha (suc (s .degree)) (pointsOf (suc (s .dim)) (suc (s .degree)) (drop (pointsFrom s base) (now (work .entry))))))) ⌝ }
+{
+    let p = s.degree;
+    let end = 2 * p + 1;
+    let mut r = 0;
+    while r < p {
+        copy_point(work, base, s, p, end - r);
+        next_row(work, base, s, r, alpha);
+        r += 1;
+    }
+    copy_point(work, base, s, p, end - r);
+}
+
+// The knots behind the count at base become those of a Bezier span from a to b that is cut at t.
+fn bezier_knots(work: &mut [f64], base: usize, degree: usize, a: f64, t: f64, b: f64)
+    requires { ⌜ (degree ≤ 7) × (base + 3 * degree + 4 ≤ length (now work)) ⌝ }
+    ensures { λ _. ⌜ now (work .exit) ≡ put (now (work .entry)) (base + 1) (bezierKnots degree a t b) ⌝ }
+{
+    let m = degree + 1;
+    let first = base + 1;
+    let second = first + m;
+    fill(work, first, m, a);
+    fill(work, second, m, t);
+    fill(work, second + m, m, b);
+}
+
+// The piece in the slot at base, a Bezier span, is cut at t by the triangle, where alpha says how far t lies along it.
+fn split_bezier_span(work: &mut [f64], base: usize, s: Shape, t: f64, alpha: Scalar)
+    requires { ⌜ Held s (now work) base × (countAt (now work) base ≡ suc (s .degree)) × (s .degree < s .count) ⌝ }
+    ensures { λ _. ⌜ now (work .exit) ≡ placed s (now (work .entry)) base (bezierCut geop (s .degree) t alpha (pieceAt s (now (work .entry)) base) .piece) ⌝ }
+{
+    let p = s.degree;
+    let a = work[base + 1 + p];
+    let b = work[base + 2 + p];
+    triangle_in(work, base, s, alpha);
+    bezier_knots(work, base, p, a, t, b);
+    set_count(work, base, 2 * p + 2);
+}
+
+// How often t is missing among the knots of the slot at base.
+fn missing_in(work: &[f64], base: usize, s: Shape, t: f64) -> usize
+    requires { ⌜ Held s (now work) base ⌝ }
+    ensures { λ r. ⌜ r ≡ suc (s .degree) - multiplicity t (pieceAt s (now (work .entry)) base .knots) ⌝ }
+{
+    let m = multiplicity_of(knots_in(work, base, s), t);
+    let full = s.degree + 1;
+    if m < full { full - m } else { 0 }
+}
+
+// The number of the first knot of the slot at base that is t.
+fn position_in(work: &[f64], base: usize, s: Shape, t: f64) -> usize
+    requires { ⌜ Held s (now work) base ⌝ }
+    ensures { λ r. ⌜ r ≡ position (λ u. eq u t) (pieceAt s (now (work .entry)) base .knots) ⌝ }
+{
+    position_of(knots_in(work, base, s), t)
+}
+
+// The piece in the slot at base is cut at t by as many insertions as are missing.
+fn boehm_cut(work: &mut [f64], base: usize, s: Shape, t: f64) -> usize
+    requires { ⌜ Held s (now work) base × (s .degree < countAt (now work) base) × (countAt (now work) base ≤ s .count) ⌝ }
+    ensures { λ r. ⌜ (now (work .exit) ≡ placed s (now (work .entry)) base (boehmCut geop (s .degree) t (pieceAt s (now (work .entry)) base) .piece)) × (r ≡ boehmCut geop (s .degree) t (pieceAt s (now (work .entry)) base) .at) ⌝ }
+{
+    let times = missing_in(work, base, s, t);
+    insert_times(work, base, s, t, times);
+    position_in(work, base, s, t)
+}
+
+// The piece in the slot at base is a Bezier span that t is no knot of.
+fn is_bezier_in(work: &[f64], base: usize, s: Shape, t: f64) -> bool
+    requires { ⌜ Held s (now work) base × (s .degree < countAt (now work) base) ⌝ }
+    ensures { λ r. ⌜ r ≡ (eqb (multiplicity t (pieceAt s (now (work .entry)) base .knots)) 0 && isBezier (s .degree) (length (pieceAt s (now (work .entry)) base .points)) (pieceAt s (now (work .entry)) base .knots)) ⌝ }
+{
+    let n = count_at(work, base);
+    let knots = knots_in(work, base, s);
+    multiplicity_of(knots, t) == 0 && is_bezier_span(knots, s.degree, n)
+}
+
+// How far t lies along the span that begins at the domain's start, in the slot at base.
+fn along_in(work: &[f64], base: usize, s: Shape, t: f64) -> Divided
+    requires { ⌜ Held s (now work) base × (s .degree < countAt (now work) base) ⌝ }
+    ensures { λ r. ⌜ r ≡ divS (subS (sharp t) (sharp (knot (pieceAt s (now (work .entry)) base .knots) (s .degree)))) (subS (sharp (knot (pieceAt s (now (work .entry)) base .knots) (suc (s .degree)))) (sharp (knot (pieceAt s (now (work .entry)) base .knots) (s .degree)))) ⌝ }
+{
+    let at = base + 1 + s.degree;
+    let a = Scalar::from_f64(work[at]);
+    let b = Scalar::from_f64(work[at + 1]);
+    Scalar::from_f64(t).sub(a).div(b.sub(a))
+}
+
+// The parameter t, strictly inside the domain, is raised to multiplicity degree + 1 in the slot at base. The result is the number of the point at which the piece separates.
+pub(crate) fn insert_to_full_multiplicity(work: &mut [f64], base: usize, s: Shape, t: f64) -> usize
+    requires { ⌜ Held s (now work) base × (s .degree < countAt (now work) base) × (countAt (now work) base ≤ s .count) ⌝ }
+    ensures { λ r. ⌜ (now (work .exit) ≡ placed s (now (work .entry)) base (fullCut geop (s .degree) t (pieceAt s (now (work .entry)) base) .piece)) × (r ≡ fullCut geop (s .degree) t (pieceAt s (now (work .entry)) base) .at) ⌝ }
+{
+    if !is_bezier_in(work, base, s, t) {
+        return boehm_cut(work, base, s, t);
+    }
+    let along = along_in(work, base, s, t);
+    match along {
+        Divided::Value(alpha) => {
+            split_bezier_span(work, base, s, t, alpha);
+            s.degree + 1
+        }
+        Divided::Failed => boehm_cut(work, base, s, t),
+    }
 }

@@ -1,5 +1,4 @@
-// Where a spline passes through a box: what the search needs of geop-core-geometry, in modules named after its files.
-
+// x
 mod aabb;
 mod call;
 pub mod contains;

@@ -2,12 +2,14 @@
 ghost use mathlib.Core.Path.{_≡_};
 ghost use mathlib.Core.Logic.{_⊎_};
 ghost use mathlib.Core.List.{[], _∷_};
-ghost use Prim.Native.Nat.{_+_, _≤_, _<_};
+ghost use Prim.Native.Nat.{suc, _+_, _*_, _≤_, _<_};
 ghost use lib.ListN.{length, getD, replicate};
 ghost use lib.Dec.{T};
 ghost use lib.Ieee.{nan, inUnsigned, binary64};
 ghost use Rattle.lists.specs.Lists.{part, put};
-ghost use Rattle.geometry.specs.Slots.{word, countAt, placeOf, Sized};
+ghost use Rattle.geometry.specs.KnotInsertion.{leftOf, rightOf};
+ghost use Rattle.geometry.specs.Layout.{pointsOf};
+ghost use Rattle.geometry.specs.Slots.{word, pointWords, countAt, placeOf, numbers, pieceAt, placed, Sized, Inside, Held, Apart};
 
 // What the pieces of a call have in common: the dimension, the degree, and the number of points of the whole curve.
 pub struct Shape {
@@ -64,6 +66,73 @@ pub(crate) fn copy_up(work: &mut [f64], a: usize, b: usize, w: usize)
         i -= 1;
         work[b + i] = work[a + i];
     }
+}
+
+// The knots of the piece in the slot at base.
+pub(crate) fn knots_in(work: &[f64], base: usize, s: Shape) -> &[f64]
+    requires { ⌜ Held s (now work) base ⌝ }
+    ensures { λ r. ⌜ now r ≡ pieceAt s (now (work .entry)) base .knots ⌝ }
+{
+    let n = count_at(work, base);
+    let from = base + 1;
+    let end = from + n + s.degree + 1;
+    &work[from..end]
+}
+
+// The numbers of the points of the piece in the slot at base.
+pub(crate) fn points_in(work: &[f64], base: usize, s: Shape) -> &[f64]
+    requires { ⌜ Held s (now work) base ⌝ }
+    ensures { λ r. ⌜ now r ≡ numbers (pieceAt s (now (work .entry)) base .points) ⌝ }
+{
+    let n = count_at(work, base);
+    let from = place_of(s, base, 0);
+    let end = place_of(s, base, n);
+    &work[from..end]
+}
+
+// The words at a become those of the source.
+pub(crate) fn write(work: &mut [f64], a: usize, source: &[f64])
+    requires { ⌜ a + length (now source) ≤ length (now work) ⌝ }
+    ensures { λ _. ⌜ now (work .exit) ≡ put (now (work .entry)) a (now (source .entry)) ⌝ }
+{
+    let mut i = 0;
+    while i < source.len() {
+        work[a + i] = source[i];
+        i += 1;
+    }
+}
+
+// The slot at base holds the whole curve, from its knots and the numbers of its points.
+pub(crate) fn load(work: &mut [f64], base: usize, s: Shape, knots: &[f64], points: &[f64])
+    requires { ⌜ Inside s (now work) base × (length (now knots) ≡ s .count + s .degree + 1) × (length (now points) ≡ pointWords s * s .count) ⌝ }
+    ensures { λ _. ⌜ now (work .exit) ≡ placed s (now (work .entry)) base (record { knots = now (knots .entry); points = pointsOf (suc (s .dim)) (s .count) (now (points .entry)) }) ⌝ }
+{
+    let from = place_of(s, base, 0);
+    write(work, from, points);
+    write(work, base + 1, knots);
+    set_count(work, base, s.count);
+}
+
+// The slot at to holds what is right of point `at` of the piece in the slot at from, which is another slot or the same.
+pub(crate) fn copy_right(work: &mut [f64], from: usize, to: usize, s: Shape, at: usize)
+    requires { ⌜ Held s (now work) from × Inside s (now work) to × (at ≤ countAt (now work) from) ⌝ }
+    requires { ⌜ Apart s from to ⊎ (from ≡ to) ⌝ }
+    ensures { λ _. ⌜ now (work .exit) ≡ placed s (now (work .entry)) to (rightOf (record { piece = pieceAt s (now (work .entry)) from; at = at })) ⌝ }
+{
+    let n = count_at(work, from);
+    copy(work, from + 1 + at, to + 1, n - at + s.degree + 1);
+    let first = place_of(s, from, at);
+    let end = place_of(s, from, n);
+    copy(work, first, place_of(s, to, 0), end - first);
+    set_count(work, to, n - at);
+}
+
+// Of the piece in the slot at base, what is left of point `at` is kept.
+pub(crate) fn keep_left(work: &mut [f64], base: usize, s: Shape, at: usize)
+    requires { ⌜ Held s (now work) base × (at ≤ countAt (now work) base) ⌝ }
+    ensures { λ _. ⌜ now (work .exit) ≡ placed s (now (work .entry)) base (leftOf (s .degree) (record { piece = pieceAt s (now (work .entry)) base; at = at })) ⌝ }
+{
+    set_count(work, base, at);
 }
 
 // The n words at a become v.

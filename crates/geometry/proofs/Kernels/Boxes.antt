@@ -1,8 +1,8 @@
 -- The box of a piece and the test before the search, over plain values: one turn of each loop, and what stands when it is done.
 use mathlib.Core.Path.{_≡_, refl, sym, ap, _∙_, subst}
-use mathlib.Core.Bool.{Bool, true, false, cond, _&&_}
-use mathlib.Core.List.{List, [], _∷_, _++_, map, map-append}
-use Prim.Native.Nat.{ℕ, zero, suc, _+_, _*_, _≤_, _<_}
+use mathlib.Core.Bool.{Bool, true, false, cond}
+use mathlib.Core.List.{List, [], _∷_, _++_, map}
+use Prim.Native.Nat.{ℕ, zero, suc, _+_, _≤_, _<_}
 use native.Mathlib.Numerals.{add-one}
 use native.Mathlib.Omega.{arith}
 use lib.ListN.{length, drop, getD, drop-of-length-le}
@@ -26,7 +26,6 @@ use Rattle.math.proofs.Bools.{pick}
 use Rattle.math.proofs.Doubles.Order.{number, number-neg}
 use Rattle.math.proofs.Doubles.Least.{min-either, max-either, max-is, min-number, least-fits}
 use Rattle.geometry.specs.Vector.{Vector, coordinate}
-use Rattle.geometry.specs.NurbCurve.{point}
 use Rattle.geometry.specs.Layout.{scalarAt, scalarsOf, pointAt, pointsOf}
 use Rattle.geometry.specs.Aabb.{unions, place, aabb, couldOverlap, alongBy, along, meets, couldMeet}
 use Rattle.geometry.specs.Boxes.{corners, rawPlace}

@@ -2,21 +2,21 @@
 -- the limit, the sum of the roots exceeds the limit. Sums and roots of doubles that are not negative are not negative, and a sum is at least each of its parts.
 use mathlib.Core.Path.{_≡_, refl, sym, ap, _∙_, subst}
 use mathlib.Core.Logic.{inl, inr}
-use mathlib.Core.Bool.{Bool, true, false, not, false≢true}
+use mathlib.Core.Bool.{Bool, true, false, false≢true}
 use mathlib.Core.List.{List, [], _∷_, map, zipWith}
 use Prim.Native.Nat.{ℕ, zero, suc, _+_, _*_, _^_, _≤_, _<_, zero-le}
-use native.Mathlib.Nat.{le-trans as ≤-trans, le-of-eq, lt-of-lt-of-le, lt-of-le-of-lt, lt-trans, one-mul, mul-assoc, mul-le-mul-right, mul-lt-mul-of-pos-right, eq-of-mul-eq-mul-right}
+use native.Mathlib.Nat.{le-trans as ≤-trans, le-of-eq, lt-of-lt-of-le, lt-of-le-of-lt, one-mul, mul-assoc, mul-le-mul-right, mul-lt-mul-of-pos-right, eq-of-mul-eq-mul-right}
 use native.Mathlib.Omega.{arith}
 use lib.IntN.{ℤ, pos}
 use lib.Dec.{T, lit≤}
 use lib.Pow.{pow-add, pow-pos}
-use lib.Ieee.{Float, nan, inf, fin, binary64, up, down, ofBits, fits, isNan, add, sub, mul, lt, le, eq, neg}
+use lib.Ieee.{Float, nan, inf, fin, binary64, up, down, fits, isNan, add, sub, mul, lt, le, eq, neg}
 use lib.Ieee.Fits.{add-fits, mul-fits, nan-fits, down-pos}
 use lib.Ieee.Bits.{ofBits-fits, is-true}
 use Rattle.exact.specs.Ring.{by-rep, read}
-use Rattle.exact.specs.Rational.{ℚ, _+ℚ_, _*ℚ_, _-ℚ_, 0ℚ, _≤ℚ_, _<ℚ_, nn-of, lt→not-le}
+use Rattle.exact.specs.Rational.{ℚ, _+ℚ_, _*ℚ_, 0ℚ, _≤ℚ_, nn-of, lt→not-le}
 use Rattle.exact.proofs.Field.{ℚring}
-use Rattle.exact.proofs.Order.{le-by, cone, le-trans as ≤ℚ-trans, mul-mono}
+use Rattle.exact.proofs.Order.{le-by, le-trans as ≤ℚ-trans, mul-mono}
 use Rattle.lists.specs.Lists.{tab, foldl}
 use Rattle.lists.proofs.Tab.{tab-cons}
 use Rattle.lists.proofs.Fold.{foldl-append}
@@ -27,21 +27,22 @@ use Rattle.math.specs.RootLaws.{isFinite, SqrtEncloses}
 use Rattle.math.specs.Scalars.{zeroF}
 use Rattle.math.specs.Values.{value}
 use Rattle.geometry.specs.Vector.{Vector}
-use Rattle.geometry.specs.FatLine.{cartesian, square, distance, distances, pathLength, extent}
+use Rattle.geometry.specs.FatLine.{cartesian, square, pathLength, extent}
 use Rattle.geometry.specs.Sizes.{squared, squaresFrom, squares, steps}
 use Rattle.geometry.specs.declared.fat_line.Squares.{Squares}
+use Rattle.geometry.proofs.Kernels.Sizes.{withRoot, path-roots}
 use Rattle.math.proofs.Bools.{decide, yes}
-use Rattle.math.proofs.Doubles.Values.{value-zero, value-nonneg, value-above, value-under, le→value, value→le, lt→value}
-use Rattle.math.proofs.Doubles.Order.{number, le-number-l, le-number-r, le-trans, le-self, lt→le-f, lt-not-le, total-order, lt-le, le-lt}
+use Rattle.math.proofs.Doubles.Values.{value-zero, value-nonneg, value-under, le→value, value→le}
+use Rattle.math.proofs.Doubles.Order.{number, le-number-l, le-number-r, le-trans, lt→le-f, lt-not-le, total-order, lt-le, le-lt}
 use Rattle.math.proofs.Doubles.Held.{held}
 use Rattle.math.proofs.Doubles.Patterns.{top-bits, sizeOf, rises, written}
 use Rattle.math.proofs.Doubles.Next.{bits-pos, value as written-value, upward, nextUp-fits, nextUp-above, nextDown-below}
 use Rattle.math.proofs.Doubles.NextLeast.{nextUp-least}
 use Rattle.math.proofs.Doubles.Least.{max-either, max-second}
-use Rattle.math.proofs.Doubles.Rounding.{Rounds, rounds-ge, round-nonneg, nonneg}
+use Rattle.math.proofs.Doubles.Rounding.{rounds-ge, round-nonneg, nonneg}
 use Rattle.math.proofs.Doubles.Operations.{add-rounds, mul-rounds}
 use Rattle.math.proofs.Roots.Ends.{read-fin}
-use Rattle.math.proofs.Roots.Near.{Near, near}
+use Rattle.math.proofs.Roots.Near.{near}
 use Rattle.math.proofs.Roots.Law.{sqrt-encloses}
 
 -- ---- what is not below zero
@@ -263,7 +264,7 @@ module _ (q : ℕ → Float) (good : (j : ℕ) → Step (q j)) where
   topOf n = foldl maxF zeroF (tab n q)
 
   abbrev pub pathOf : ℕ → Float
-  pathOf n = foldl (λ s x. add binary64 s x) zeroF (tab n (λ j. sqrtF (q j)))
+  pathOf n = foldl withRoot zeroF (tab n q)
 
   total-snoc : (n : ℕ) → totalOf (suc n) ≡ add binary64 (totalOf n) (q n)
   unfolding foldl
@@ -275,7 +276,7 @@ module _ (q : ℕ → Float) (good : (j : ℕ) → Step (q j)) where
 
   path-snoc : (n : ℕ) → pathOf (suc n) ≡ add binary64 (pathOf n) (sqrtF (q n))
   unfolding foldl
-  path-snoc n = foldl-append (λ s x. add binary64 s x) zeroF (tab n (λ j. sqrtF (q j))) (sqrtF (q n) ∷ [])
+  path-snoc n = foldl-append withRoot zeroF (tab n q) (q n ∷ [])
 
   parts : (n : ℕ) → T (number (totalOf (suc n))) → T (number (totalOf n)) × T (number (q n))
   parts n h = add-number (totalOf n) (q n) (subst (λ (x : Float). T (number x)) (total-snoc n) h)
@@ -316,19 +317,9 @@ between-squares zero f = refl
 between-squares (suc n) f =
     rw (tab-cons n (λ j. f (suc j)), tab-cons n (λ j. squared (f j) (f (suc j)))) (ap (λ (l : List Float). squared (f 0) (f 1) ∷ l) (between-squares n (λ j. f (suc j))))
 
-between-distances : (n : ℕ) (f : ℕ → List Float) → distances (f 0) (tab n (λ j. f (suc j))) ≡ tab n (λ j. sqrtF (squared (f j) (f (suc j))))
-unfolding distances distance squared
-between-distances zero f = refl
-between-distances (suc n) f =
-    rw (tab-cons n (λ j. f (suc j)), tab-cons n (λ j. sqrtF (squared (f j) (f (suc j))))) (ap (λ (l : List Float). sqrtF (squared (f 0) (f 1)) ∷ l) (between-distances n (λ j. f (suc j))))
-
 pub squares-tab : (n : ℕ) (f : ℕ → List Float) → squares (tab (suc n) f) ≡ tab n (λ j. squared (f j) (f (suc j)))
 unfolding squares
 squares-tab n f = rw (tab-cons n f) (between-squares n f)
-
-pub path-tab : (n : ℕ) (f : ℕ → List Float) → pathLength (tab (suc n) f) ≡ foldl (λ s x. add binary64 s x) zeroF (tab n (λ j. sqrtF (squared (f j) (f (suc j)))))
-unfolding pathLength
-path-tab n f = rw (tab-cons n f) (ap (foldl (λ s x. add binary64 s x) zeroF) (between-distances n f))
 
 -- a double that equals itself is a number
 same-number : (x : Float) → eq x x ≡ true → T (number x)
@@ -343,12 +334,12 @@ unfolding steps extent
 exceeds-yes dim zero points f l t s h m L p e a b = absurd (omega arith)
 exceeds-yes dim (suc n) points f l t s h m L p e a b =
     let q : ℕ → Float = λ j. squared (f j) (f (suc j)) in
+    let good : (j : ℕ) → Step (q j) = λ j. squared-step (f j) (f (suc j)) in
+    let y = pathOf q good n in
     let w : squares (map (λ q. cartesian dim q) points) ≡ tab n q = ap squares m ∙ squares-tab n f in
-    let g : pathLength (map (λ q. cartesian dim q) points) ≡ pathOf q (λ j. squared-step (f j) (f (suc j))) n = ap pathLength m ∙ path-tab n f in
-    let T1 : s .total ≡ totalOf q (λ j. squared-step (f j) (f (suc j))) n = ap (λ (z : Squares). z .total) e ∙ ap (foldl (λ s x. add binary64 s x) zeroF) w in
-    let T2 : s .top ≡ topOf q (λ j. squared-step (f j) (f (suc j))) n = ap (λ (z : Squares). z .top) e ∙ ap (foldl maxF zeroF) w in
-    let c : T (number (totalOf q (λ j. squared-step (f j) (f (suc j))) n)) = subst (λ (x : Float). T (number x)) T1 (same-number (s .total) b) in
-    let d : T (lt (mul binary64 (nextUp l) (nextUp l)) (topOf q (λ j. squared-step (f j) (f (suc j))) n)) = subst (λ (x : Float). T (lt (mul binary64 x x) (topOf q (λ j. squared-step (f j) (f (suc j))) n))) p (subst (λ (x : Float). T (lt (mul binary64 t t) x)) T2 (yes _ a)) in
-    let k = path-over q (λ j. squared-step (f j) (f (suc j))) l L n c d in
-    let y = pathOf q (λ j. squared-step (f j) (f (suc j))) n in
-    rw g (sym (is-true _ (lt-le l y (maxF zeroF y) k (max-second zeroF y (le-number-r l y (lt→le-f l y k))))))
+    let g : pathLength (map (λ q. cartesian dim q) points) ≡ y = path-roots (map (λ q. cartesian dim q) points) ∙ ap (foldl withRoot zeroF) w in
+    let o : s .total ≡ totalOf q good n = ap (λ (z : Squares). z .total) e ∙ ap (foldl (λ s x. add binary64 s x) zeroF) w in
+    let u : s .top ≡ topOf q good n = ap (λ (z : Squares). z .top) e ∙ ap (foldl maxF zeroF) w in
+    let k : T (lt l y) = path-over q good l L n (subst (λ (x : Float). T (number x)) o (same-number (s .total) b))
+    (subst (λ (x : Float). T (lt (mul binary64 x x) (topOf q good n))) p (subst (λ (x : Float). T (lt (mul binary64 t t) x)) u (yes _ a))) in
+    rw g (sym (is-true (lt l (maxF zeroF y)) (lt-le l y (maxF zeroF y) k (max-second zeroF y (le-number-r l y (lt→le-f l y k))))))

@@ -23,11 +23,7 @@ coordinate-at dim i k l h =
     let e : (dim + 1) * i + k ≡ suc dim * i + k = omega arith in
     ap (scalarAt l) e ∙ sym (getD-tab (suc dim) (λ j. scalarAt l (suc dim * i + j)) k absent (omega arith))
 
--- it lies within the list
-pub interval-in : (dim i k n : ℕ) → k ≤ dim → 2 * (suc dim * suc i) ≤ n → 2 * ((dim + 1) * i + k) + 2 ≤ n
-interval-in dim i k n h g = omega arith
-
--- a point before the last does
+-- a point before the last lies within the list
 pub point-in : (dim i count n : ℕ) → i < count → 2 * (suc dim * count) ≤ n → 2 * (suc dim * suc i) ≤ n
 point-in dim i count n h g = let e : suc dim * suc i ≤ suc dim * count = mul-le-mul-left (suc dim) h in omega arith
 

@@ -2,10 +2,10 @@
 use mathlib.Core.Path.{_≡_, refl, sym, ap, _∙_}
 use mathlib.Core.Bool.{Bool, true, false, cond, _&&_, _||_, false≢true}
 use mathlib.Core.List.{List, [], _∷_, map, zipWith}
-use Prim.Native.Nat.{ℕ, zero, suc, _+_, _-_, _≤_, _<_}
+use Prim.Native.Nat.{ℕ, zero, suc, _+_, _≤_, _<_}
 use native.Mathlib.Numerals.{add-one}
 use native.Mathlib.Omega.{arith}
-use lib.ListN.{length, take, drop, getD, drop-of-length-le}
+use lib.ListN.{take, drop, drop-of-length-le}
 use lib.Seq.{drop-cons}
 use lib.Dec.{ltb}
 use lib.Ieee.{Float, nan, inf, fin, binary64, isNan, add, sub, lt, ne, eq}
@@ -74,31 +74,27 @@ squared-three dim a b s t u h p q o =
     let g : Float → Float → Float = λ x y. square (sub binary64 y x) in
     rw (zip-three g dim a b h) (fold-three (λ s x. add binary64 s x) dim (λ k. g (number a k) (number b k)) zeroF s t u h p q o)
 
-pub distance-root : (a b : List Float) (s r : Float) → s ≡ squared a b → r ≡ sqrtF s → r ≡ distance a b
+-- the distance is its root
+pub distance-is : (a b : List Float) → sqrtF (squared a b) ≡ distance a b
 unfolding squared distance
-distance-root a b s r e f = f ∙ ap sqrtF e
+distance-is a b = refl
 
 -- ---- the path from point to point
 
--- what the places from number i on add to a sum, which began at the place before them
-pub pathFrom : List (List Float) → Float → List Float → ℕ → Float
-pathFrom l s a i = foldl (λ s x. add binary64 s x) s (distances a (drop i l))
+-- the root of the square is added
+abbrev pub withRoot : Float → Float → Float
+withRoot s x = add binary64 s (sqrtF x)
 
-pub path-start : (n : ℕ) (f : ℕ → List Float) (a : List Float) → 1 ≤ n → a ≡ f 0 → pathFrom (tab n f) zeroF a 1 ≡ pathLength (tab n f)
-unfolding pathFrom pathLength
-path-start zero f a h e = absurd (omega arith)
-path-start (suc n) f a h e = rw (tab-cons n f, e)
+-- the length of the path, by the squares of its steps
+roots-from : (s : Float) (a : List Float) (l : List (List Float)) → foldl (λ s x. add binary64 s x) s (distances a l) ≡ foldl withRoot s (squaresFrom a l)
+unfolding foldl distances distance squaresFrom squared
+roots-from s a [] = refl
+roots-from s a (b ∷ l) = roots-from (withRoot s (squared a b)) b l
 
-pub path-turn : (n : ℕ) (f : ℕ → List Float) (s d r : Float) (a b : List Float) (i : ℕ) (w : Float) → i < n → b ≡ f i → d ≡ distance a b → r ≡ add binary64 s d
-    → pathFrom (tab n f) s a i ≡ w → pathFrom (tab n f) r b (i + 1) ≡ w
-unfolding pathFrom distances foldl
-path-turn n f s d r a b i w h p q e inv =
-    let k : drop i (tab n f) ≡ f i ∷ drop (i + 1) (tab n f) = rw (add-one, drop-cons (tab n f) i [] (rw length-tab h), getD-tab n f i [] h) in
-    rw (e, q, p) (ap (λ (l : List (List Float)). foldl (λ s x. add binary64 s x) s (distances a l)) (sym k) ∙ inv)
-
-pub path-end : (n : ℕ) (f : ℕ → List Float) (s : Float) (a : List Float) (i : ℕ) → n ≤ i → pathFrom (tab n f) s a i ≡ s
-unfolding pathFrom distances foldl
-path-end n f s a i h = rw (drop-of-length-le (tab n f) {i = i} (rw length-tab h))
+pub path-roots : (l : List (List Float)) → pathLength l ≡ foldl withRoot zeroF (squares l)
+unfolding pathLength squares foldl
+path-roots [] = refl
+path-roots (a ∷ l) = roots-from zeroF a l
 
 -- what a fold over the squares of the steps makes of those from place i on
 pub stepsFrom : (Float → Float → Float) → List (List Float) → Float → List Float → ℕ → Float
@@ -193,10 +189,11 @@ pub places-of : (dim n : ℕ) (l : List Float) → map (λ q. cartesian dim q) (
 unfolding pointsOf
 places-of dim n l = map-tab (λ q. cartesian dim q) n (λ j. pointAt (suc dim) l j)
 
-pub extent-end : (dim n : ℕ) (l : List Float) (s m : Float) (a : List Float) (i : ℕ) → n ≤ i → pathFrom (tab n (places dim l)) s a i ≡ pathLength (tab n (places dim l)) → m ≡ maxF zeroF s
-    → m ≡ extent dim (pointsOf (suc dim) n l)
+pub extent-end : (dim n : ℕ) (l : List Float) (s m : Float) (a : List Float) (i : ℕ) → n ≤ i → stepsFrom withRoot (tab n (places dim l)) s a i ≡ foldl withRoot zeroF (squares (tab n (places dim l)))
+    → m ≡ maxF zeroF s → m ≡ extent dim (pointsOf (suc dim) n l)
 unfolding extent
-extent-end dim n l s m a i h inv e = e ∙ ap (maxF zeroF) (sym (path-end n (places dim l) s a i h) ∙ inv ∙ ap pathLength (sym (places-of dim n l)))
+extent-end dim n l s m a i h inv e =
+    e ∙ ap (maxF zeroF) (sym (steps-end withRoot n (places dim l) s a i h) ∙ inv ∙ sym (ap pathLength (places-of dim n l) ∙ path-roots (tab n (places dim l))))
 
 pub steps-done : (dim n : ℕ) (l : List Float) (t m : Float) (a : List Float) (i : ℕ) → n ≤ i
     → stepsFrom (λ s x. add binary64 s x) (tab n (places dim l)) t a i ≡ foldl (λ s x. add binary64 s x) zeroF (squares (tab n (places dim l)))

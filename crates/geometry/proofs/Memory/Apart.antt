@@ -15,7 +15,7 @@ use Rattle.lists.proofs.Read.{part-put, part-put-other, getD-put-other}
 use Rattle.geometry.specs.NurbCurve.{Piece}
 use Rattle.geometry.specs.Vector.{Vector}
 use Rattle.geometry.specs.Layout.{pointsOf, slotWords}
-use Rattle.geometry.specs.Slots.{pointWords, pointsFrom, word, countAt, vectorAt, pieceAt, placed, Sized, Fits, Inside, Held}
+use Rattle.geometry.specs.Slots.{pointWords, pointsFrom, word, countAt, vectorAt, pieceAt, placed, Sized, Fits, Inside, Held, Apart}
 use Rattle.geometry.specs.declared.slots.Shape.{Shape}
 use Rattle.geometry.proofs.Memory.Numbers.{points-tab, vector-part}
 use Rattle.geometry.proofs.Memory.Piece.{wordsOf, room, pieceOf, length-placed, placed-local}
@@ -78,11 +78,7 @@ module _ (s : Shape) (l : List Float) (base : ℕ) where
 
 -- ---- two slots
 
--- Two slots that share no word.
-abbrev pub Apart : Shape → ℕ → ℕ → Type 0
-Apart s a b = (a + slotWords (s .dim) (s .degree) (s .count) ≤ b) ⊎ (b + slotWords (s .dim) (s .degree) (s .count) ≤ a)
-
-other : (s : Shape) (a b : ℕ) → Apart s a b → Apart s b a
+pub other : (s : Shape) (a b : ℕ) → Apart s a b → Apart s b a
 other s a b (inl h) = inr h
 other s a b (inr h) = inl h
 

@@ -192,3 +192,7 @@ placed-local s l base c i f =
     ∙ ap (λ (k : List Float). put k (base + o) N) (put-inside l base b 0 A (omega arith) q)
     ∙ put-inside l base (put b 0 A) o N (omega arith) (omega arith)
     ∙ ap (λ (k : ℕ). put l base (put (put b 0 A) k N)) (sym y)
+
+-- the knots of a slot's piece
+pub knots-long : (s : Shape) (l : List Float) (base : ℕ) → Held s l base → length (pieceAt s l base .knots) ≡ countAt l base + s .degree + 1
+knots-long s l base h = fits-piece s l base h .knots ∙ ap (λ (n : ℕ). n + s .degree + 1) (count-points s l base h)

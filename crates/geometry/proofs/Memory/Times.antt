@@ -4,16 +4,13 @@ use mathlib.Core.Bool.{Bool, true, false, cond}
 use mathlib.Core.List.{List}
 use Prim.Native.Nat.{ℕ, zero, suc, _+_, _-_, _≤_, _<_}
 use native.Mathlib.Omega.{arith}
-use lib.ListN.{length, drop}
+use lib.ListN.{length}
 use lib.Ieee.{Float}
-use Rattle.lists.specs.Lists.{part}
 use Rattle.math.specs.Scalars.{geop}
 use Rattle.geometry.specs.NurbCurve.{Piece}
 use Rattle.geometry.specs.KnotInsertion.{holdsAt, highest, insertionSpan, insertOnce, insertTimes}
-use Rattle.geometry.specs.Layout.{pointsOf}
-use Rattle.geometry.specs.Slots.{pointsFrom, countAt, knotsAt, pieceAt, placed, Fits, Inside, Held}
+use Rattle.geometry.specs.Slots.{countAt, pieceAt, placed, Fits, Inside, Held}
 use Rattle.geometry.specs.declared.slots.Shape.{Shape}
-use Rattle.geometry.proofs.Memory.Numbers.{length-points}
 use Rattle.geometry.proofs.Memory.Piece.{length-placed, count-placed, piece-placed, held-placed, fits-piece, count-points, placed-piece, placed-again}
 use Rattle.geometry.proofs.Memory.Once.{once-count, fits-once}
 
@@ -41,6 +38,15 @@ pub span-bounds : (p n : ℕ) (ks : List Float) (t : Float) → p < n → (p ≤
 unfolding insertionSpan
 span-bounds p n ks t h = (highest-from ks t p (n - p), omega (arith, highest-upto ks t p (n - p)))
 
+-- the span that is found lies among those of the slot
+pub span-in-bounds : (s : Shape) (l : List Float) (base k : ℕ) (t : Float) → Held s l base → s .degree < countAt l base → k ≡ insertionSpan (s .degree) (length (pieceAt s l base .points)) (pieceAt s l base .knots) t
+    → (s .degree ≤ k) × (k < countAt l base)
+span-in-bounds s l base k t h d e =
+    let n : length (pieceAt s l base .points) ≡ countAt l base = count-points s l base h in
+    let b : (s .degree ≤ insertionSpan (s .degree) (length (pieceAt s l base .points)) (pieceAt s l base .knots) t) × (insertionSpan (s .degree) (length (pieceAt s l base .points)) (pieceAt s l base .knots) t < length (pieceAt s l base .points))
+    = span-bounds (s .degree) (length (pieceAt s l base .points)) (pieceAt s l base .knots) t (omega arith) in
+    (omega (arith, b .0), omega (arith, b .1))
+
 times-suc : (s : Shape) (t : Float) (n : ℕ) (c : Piece)
     → insertTimes geop (s .degree) t (suc n) c ≡ insertTimes geop (s .degree) t n (insertOnce geop (s .degree) (insertionSpan (s .degree) (length (c .points)) (c .knots) t) t c)
 unfolding insertTimes
@@ -63,18 +69,12 @@ module _ (s : Shape) (l : List Float) (base : ℕ) (t : Float) (times : ℕ) whe
       sub-zero : (n : ℕ) → n - 0 ≡ n
       sub-zero n = omega arith
 
-  -- the span that is found is the one that is meant
-  pub same-span : (w : List Float) (k : ℕ) → k ≡ insertionSpan (s .degree) (countAt w base) (knotsAt s w base (countAt w base)) t
-      → k ≡ insertionSpan (s .degree) (length (pieceAt s w base .points)) (pieceAt s w base .knots) t
-  unfolding pieceAt
-  same-span w k e = e ∙ ap (λ (n : ℕ). insertionSpan (s .degree) n (knotsAt s w base (countAt w base)) t) (sym (length-points (suc (s .dim)) (countAt w base) (drop (pointsFrom s base) w)))
-
   pub after-turn : (i k : ℕ) (w y : List Float) → Held s l base → After s l base t times i w → i < times → s .degree < countAt l base → countAt l base + times ≤ s .count + s .degree + 1
-      → k ≡ insertionSpan (s .degree) (countAt w base) (knotsAt s w base (countAt w base)) t → y ≡ placed s w base (insertOnce geop (s .degree) k t (pieceAt s w base)) → After s l base t times (i + 1) y
+      → k ≡ insertionSpan (s .degree) (length (pieceAt s w base .points)) (pieceAt s w base .knots) t → y ≡ placed s w base (insertOnce geop (s .degree) k t (pieceAt s w base)) → After s l base t times (i + 1) y
   after-turn i k w y h a q d r e f =
       let c : Piece = pieceAt s w base in
       let n : length (c .points) ≡ countAt w base = count-points s w base (a .held) in
-      let b : (s .degree ≤ k) × (k < countAt w base) = subst (λ (m : ℕ). (s .degree ≤ m) × (m < countAt w base)) (sym e) (span-bounds (s .degree) (countAt w base) (knotsAt s w base (countAt w base)) t (omega (arith, a .count))) in
+      let b : (s .degree ≤ k) × (k < countAt w base) = span-in-bounds s w base k t (a .held) (omega (arith, a .count)) e in
       let g : Fits s c = fits-piece s w base (a .held) in
       let kn : k < length (c .points) = omega (arith, b .1) in
       let next : Piece = insertOnce geop (s .degree) k t c in
@@ -89,7 +89,7 @@ module _ (s : Shape) (l : List Float) (base : ℕ) (t : Float) (times : ℕ) whe
         held = subst (λ (v : List Float). Held s v base) (sym f) (held-placed s w base ins next fit);
         count = ap (λ (v : List Float). countAt v base) f ∙ count-placed s w base ins next fit ∙ more ∙ nat (length (c .points)) (n ∙ a .count);
         memory = all ∙ ap (placed s l base) (sym got);
-        rest = ap (insertTimes geop (s .degree) t (times - (i + 1))) got ∙ once-more k c (same-span w k e) ∙ a .rest;
+        rest = ap (insertTimes geop (s .degree) t (times - (i + 1))) got ∙ once-more k c e ∙ a .rest;
       }
     where
       nat : (m : ℕ) → m ≡ countAt l base + i → suc m ≡ countAt l base + (i + 1)
@@ -107,15 +107,3 @@ module _ (s : Shape) (l : List Float) (base : ℕ) (t : Float) (times : ℕ) whe
   after-all i w a e =
       let z : times - i ≡ 0 = omega arith in
       a .memory ∙ ap (placed s l base) (sym (ap (λ (n : ℕ). insertTimes geop (s .degree) t n (pieceAt s w base)) z) ∙ a .rest)
-
--- the knots of a slot, cut out by the places of the code
-pub part-knots : (s : Shape) (l : List Float) (base m : ℕ) → part l (base + 1) (base + 1 + m + s .degree + 1 - (base + 1)) ≡ knotsAt s l base m
-part-knots s l base m = let e : base + 1 + m + s .degree + 1 - (base + 1) ≡ m + s .degree + 1 = omega arith in ap (part l (base + 1)) e
-
-pub span-code : (s : Shape) (l : List Float) (base m r : ℕ) (t : Float) → m ≡ countAt l base → r ≡ insertionSpan (s .degree) m (part l (base + 1) (base + 1 + m + s .degree + 1 - (base + 1))) t
-    → r ≡ insertionSpan (s .degree) (countAt l base) (knotsAt s l base (countAt l base)) t
-span-code s l base m r t e f = f ∙ ap (λ (k : List Float). insertionSpan (s .degree) m k t) (part-knots s l base m) ∙ (λ j. insertionSpan (s .degree) (e j) (knotsAt s l base (e j)) t)
-
--- the span that is found lies among those of the slot
-pub span-in-bounds : (s : Shape) (l : List Float) (base n k : ℕ) (t : Float) → s .degree < n → k ≡ insertionSpan (s .degree) n (knotsAt s l base n) t → (s .degree ≤ k) × (k < n)
-span-in-bounds s l base n k t h e = subst (λ (m : ℕ). (s .degree ≤ m) × (m < n)) (sym e) (span-bounds (s .degree) n (knotsAt s l base n) t h)

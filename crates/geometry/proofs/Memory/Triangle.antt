@@ -11,7 +11,7 @@ use lib.Seq.{getD-append-add}
 use lib.Ieee.{Float}
 use Rattle.lists.specs.Lists.{part, put, tab, lastD}
 use Rattle.lists.proofs.Tab.{tab-ext}
-use Rattle.lists.proofs.Put.{length-put, put-part, put-put, put-right, put-whole, put-swap, put-inside}
+use Rattle.lists.proofs.Put.{length-put, put-nil, put-part, put-put, put-right, put-whole, put-swap, put-inside}
 use Rattle.math.specs.declared.scalars.Scalar.{Scalar}
 use Rattle.math.specs.Scalars.{geop}
 use Rattle.geometry.specs.Vector.{Vector, interpolateV}
@@ -22,7 +22,7 @@ use Rattle.geometry.specs.Slots.{pointWords, pointsFrom, placeOf, vector
 use Rattle.geometry.specs.declared.slots.Shape.{Shape}
 use Rattle.geometry.proofs.Memory.Copies.{put-front}
 use Rattle.geometry.proofs.Memory.Counts.{place-at, place-add, place-le, place-next, place-room, place-within}
-use Rattle.geometry.proofs.Memory.Numbers.{length-flat, flat-vector, numbers-one, numbers-cons, numbers-append, length-numbers, wide-tail, length-points, wide-points, numbers-points, point-points, vector-written}
+use Rattle.geometry.proofs.Memory.Numbers.{length-flat, flat-vector, numbers-nil, numbers-cons, numbers-append, length-numbers, wide-tail, length-points, wide-points, numbers-points, vector-written}
 use Rattle.geometry.proofs.Memory.Wide.{wide-append, wide-cons}
 use Rattle.geometry.proofs.Memory.Blends.{vector-before}
 use Rattle.geometry.proofs.Memory.Levels.{rowAt, heads, lasts, level-tab, level-long, row-long, row-wide, heads-none, lasts-none, heads-more, lasts-more, heads-long, lasts-long, heads-wide, lasts-wide, last-wide, sides-are}
@@ -73,6 +73,24 @@ replaced D hs (q ∷ rest) new wh wr wn e =
     nat : suc (length rest) ≡ suc (length new) → length new ≡ length rest
     nat k = omega arith
 
+-- The first points of the rows before number r, and row r, over the first degree + 1 points of the slot.
+abbrev pub rowsTo : Shape → List Float → ℕ → Scalar → ℕ → List Vector
+rowsTo s l base α r =
+    let ps = pointsOf (suc (s .dim)) (suc (s .degree)) (drop (pointsFrom s base) l) in
+    heads geop α r ps ++ rowAt geop α r ps
+
+-- The memory when row r is there, and its last point behind.
+abbrev pub withLast : Shape → List Float → ℕ → Scalar → ℕ → List Float
+withLast s l base α r =
+    put (put l (pointsFrom s base) (numbers (rowsTo s l base α r))) (placeOf s base (2 * s .degree + 1 - r))
+    (numbers (lasts geop α (suc r) (pointsOf (suc (s .dim)) (suc (s .degree)) (drop (pointsFrom s base) l))))
+
+-- The memory when row r is there, and its last point not yet behind.
+abbrev pub withRow : Shape → List Float → ℕ → Scalar → ℕ → List Float
+withRow s l base α r =
+    put (put l (pointsFrom s base) (numbers (rowsTo s l base α r))) (placeOf s base (2 * s .degree + 2 - r))
+    (numbers (lasts geop α r (pointsOf (suc (s .dim)) (suc (s .degree)) (drop (pointsFrom s base) l))))
+
 module _ (s : Shape) (l : List Float) (base : ℕ) (α : Scalar) (ins : Inside s l base) (small : s .degree < s .count) where
   abbrev p : ℕ
   p = s .degree
@@ -87,13 +105,14 @@ module _ (s : Shape) (l : List Float) (base : ℕ) (α : Scalar) (ins : Inside s
   abbrev ps : List Vector
   ps = pointsOf (suc (s .dim)) (suc (s .degree)) (drop (pointsFrom s base) l)
 
-  -- The first points of the rows before number r, and row r.
   abbrev full : ℕ → List Vector
-  full r = heads geop α r ps ++ rowAt geop α r ps
+  full r = rowsTo s l base α r
 
-  -- The memory when row r is there.
-  abbrev pub state : ℕ → List Float
-  state r = put (put l P (numbers (full r))) (placeOf s base (2 * s .degree + 1 - r)) (numbers (lasts geop α (suc r) ps))
+  abbrev state : ℕ → List Float
+  state r = withLast s l base α r
+
+  abbrev early : ℕ → List Float
+  early r = withRow s l base α r
 
   ps-long : length ps ≡ suc p
   ps-long = length-points D (suc p) (drop P l)
@@ -198,49 +217,55 @@ module _ (s : Shape) (l : List Float) (base : ℕ) (α : Scalar) (ins : Inside s
       nat = omega arith
 
   -- the last of the first p + 1 points is the last of the row
-  last-of : (r : ℕ) → r < p → point (full (suc r)) p ≡ lastD (rowAt geop α (suc r) ps) []
+  last-of : (r : ℕ) → r ≤ p → point (full r) p ≡ lastD (rowAt geop α r ps) []
   last-of r h =
-      let z : p ≡ suc r + (p - suc r) = omega arith in
-      let k : p - suc r ≡ length (rowAt geop α (suc r) ps) - 1 = omega (arith, row-is (suc r) h) in
-      ap (point (full (suc r))) z ∙ in-row (suc r) (p - suc r) ∙ ap (point (rowAt geop α (suc r) ps)) k
+      let z : p ≡ r + (p - r) = omega arith in
+      let k : p - r ≡ length (rowAt geop α r ps) - 1 = omega (arith, row-is r h) in
+      ap (point (full r)) z ∙ in-row r (p - r) ∙ ap (point (rowAt geop α r ps)) k
 
-  -- the first copy
-  pub triangle-start : (w : List Float) → w ≡ put l (placeOf s base (2 * s .degree + 1)) (flat (vectorAt (suc (s .dim)) l (placeOf s base (s .degree)))) → w ≡ state 0
-  triangle-start w e =
-      let q : 2 * p + 1 - 0 ≡ 2 * p + 1 = omega arith in
+  -- before the first row
+  pub triangle-start : l ≡ withRow s l base α 0
+  triangle-start =
       let same : put l P (numbers (full 0)) ≡ l
       = ap (λ (v : List Vector). put l P (numbers (v ++ ps))) (heads-none geop α ps)
       ∙ ap (put l P) (numbers-points D (suc p) l P (omega (arith, place-at s base (suc p), mid-top)))
       ∙ put-part l P (pointWords s * suc p) (omega (arith, place-at s base (suc p), mid-top)) in
-      let n : length ps - 1 ≡ p = omega (arith, ps-long) in
-      let last : lastD ps [] ≡ vectorAt D l (placeOf s base p)
-      = ap (point ps) n ∙ point-points D (suc p) l P p (omega arith) ∙ ap (vectorAt D l) (sym (place-at s base p)) in
-      let one : numbers (lasts geop α 1 ps) ≡ flat (vectorAt D l (placeOf s base p))
-      = ap numbers (lasts-more geop α 0 ps ∙ (λ j. last j ∷ lasts-none geop α ps j)) ∙ numbers-one (vectorAt D l (placeOf s base p)) in
-      e ∙ sym (λ j. put (same j) (placeOf s base (q j)) (one j))
+      sym (ap (λ (v : List Vector). put (put l P (numbers (full 0))) (placeOf s base (2 * p + 2 - 0)) (numbers v)) (lasts-none geop α ps)
+      ∙ ap (put (put l P (numbers (full 0))) (placeOf s base (2 * p + 2 - 0))) numbers-nil
+      ∙ put-nil (put l P (numbers (full 0))) (placeOf s base (2 * p + 2 - 0))
+      ∙ same)
 
-  pub triangle-turn : (r : ℕ) (w w₁ w₂ : List Float) → r < s .degree → w ≡ state r → w₁ ≡ put w (placeOf s base (suc r)) (numbers (tab (s .degree - r) (λ j. betweenAt s w base α (r + j))))
-      → w₂ ≡ put w₁ (placeOf s base (2 * s .degree + 1 - (r + 1))) (flat (vectorAt (suc (s .dim)) w₁ (placeOf s base (s .degree)))) → w₂ ≡ state (r + 1)
-  triangle-turn r w w₁ w₂ h e e₁ e₂ =
-      let Q : ℕ = placeOf s base (2 * p + 1 - r) in
-      let Q₂ : ℕ = placeOf s base (2 * p + 1 - (r + 1)) in
-      let L : List Float = numbers (lasts geop α (suc r) ps) in
-      let X : Vector = lastD (rowAt geop α (suc r) ps) [] in
-      let m : List Float = put l P (numbers (full (suc r))) in
-      let lm : length m ≡ length l = length-put l P (numbers (full (suc r))) (omega (arith, end-full (suc r) h, mid-top)) in
-      let q : suc (2 * p + 1 - (r + 1)) ≡ 2 * p + 1 - r = omega arith in
-      let step : Q ≡ Q₂ + pointWords s = ap (placeOf s base) (sym q) ∙ place-next s base (2 * p + 1 - (r + 1)) in
-      let lx : length (flat X) ≡ pointWords s = length-flat X ∙ ap (λ (z : ℕ). 2 * z) (last-wide geop α D ps ps-wide (suc r) (omega (arith, ps-long))) in
-      let g₁ : w₁ ≡ put m Q L = e₁ ∙ (λ j. put (e j) (placeOf s base (suc r)) (numbers (tab (p - r) (λ i. betweenAt s (e j) base α (r + i)))))
-      ∙ ap (λ (v : List Vector). put (state r) (placeOf s base (suc r)) (numbers v)) (row-made r h) ∙ next-row r h in
-      let got : vectorAt D w₁ (placeOf s base p) ≡ X = ap (λ (v : List Float). vectorAt D v (placeOf s base p)) g₁
-      ∙ read (suc r) p Q L h (omega arith) (place-le s base (suc p) (2 * p + 1 - r) (omega arith)) (omega (arith, end-lasts r (omega arith), top)) ∙ last-of r h in
-      e₂ ∙ (λ j. put (g₁ j) Q₂ (flat (got j)))
-      ∙ put-front m Q₂ Q (flat X) L (omega arith) (omega (arith, end-lasts r (omega arith), top))
-      ∙ ap (put m Q₂) (sym (ap numbers (lasts-more geop α (suc r) ps) ∙ numbers-cons X (lasts geop α (suc r) ps)))
-      ∙ (λ j. put (put l P (numbers (full (sym (add-one r) j)))) (placeOf s base (2 * p + 1 - (r + 1))) (numbers (lasts geop α (suc (sym (add-one r) j)) ps)))
+  -- the last point of a row is copied behind
+  pub triangle-copy : (r : ℕ) (w w₁ : List Float) → r ≤ s .degree → w ≡ withRow s l base α r → w₁ ≡ put w (placeOf s base (2 * s .degree + 1 - r)) (flat (vectorAt (suc (s .dim)) w (placeOf s base (s .degree)))) → w₁ ≡ withLast s l base α r
+  triangle-copy r w w₁ h e e₁ =
+      let Q : ℕ = placeOf s base (2 * p + 2 - r) in
+      let Q₁ : ℕ = placeOf s base (2 * p + 1 - r) in
+      let L : List Float = numbers (lasts geop α r ps) in
+      let X : Vector = lastD (rowAt geop α r ps) [] in
+      let m : List Float = put l P (numbers (full r)) in
+      let lm : length m ≡ length l = length-put l P (numbers (full r)) (omega (arith, end-full r h, mid-top)) in
+      let q : suc (2 * p + 1 - r) ≡ 2 * p + 2 - r = omega arith in
+      let step : Q ≡ Q₁ + pointWords s = ap (placeOf s base) (sym q) ∙ place-next s base (2 * p + 1 - r) in
+      let lx : length (flat X) ≡ pointWords s = length-flat X ∙ ap (λ (z : ℕ). 2 * z) (last-wide geop α D ps ps-wide r (omega (arith, ps-long))) in
+      let more : numbers (lasts geop α (suc r) ps) ≡ flat X ++ L = ap numbers (lasts-more geop α r ps) ∙ numbers-cons X (lasts geop α r ps) in
+      let ends : Q + length L ≤ length l = omega (arith, end-lasts r h, top, ap length more, length-append (flat X) L) in
+      let got : vectorAt D w (placeOf s base p) ≡ X = ap (λ (v : List Float). vectorAt D v (placeOf s base p)) e
+      ∙ read r p Q L h (omega arith) (place-le s base (suc p) (2 * p + 2 - r) (omega arith)) (omega arith) ∙ last-of r h in
+      e₁ ∙ (λ j. put (e j) Q₁ (flat (got j)))
+      ∙ put-front m Q₁ Q (flat X) L (omega arith) (omega arith)
+      ∙ ap (put m Q₁) (sym more)
 
-  pub triangle-done : (r : ℕ) → r ≡ s .degree → state r ≡ put l (pointsFrom s base) (numbers (sides (triangle geop α (suc (s .degree)) ps)))
+  -- the next row
+  pub triangle-row : (r : ℕ) (w w₁ : List Float) → r < s .degree → w ≡ withLast s l base α r → w₁ ≡ put w (placeOf s base (suc r)) (numbers (tab (s .degree - r) (λ j. betweenAt s w base α (r + j)))) → w₁ ≡ withRow s l base α (r + 1)
+  triangle-row r w w₁ h e e₁ =
+      let q : 2 * p + 1 - r ≡ 2 * p + 2 - (r + 1) = omega arith in
+      e₁ ∙ (λ j. put (e j) (placeOf s base (suc r)) (numbers (tab (p - r) (λ i. betweenAt s (e j) base α (r + i)))))
+      ∙ ap (λ (v : List Vector). put (state r) (placeOf s base (suc r)) (numbers v)) (row-made r h)
+      ∙ next-row r h
+      ∙ (λ j. put (put l P (numbers (full (sym (add-one r) j)))) (placeOf s base (q j)) (numbers (lasts geop α (sym (add-one r) j) ps)))
+
+  pub triangle-done : (r : ℕ) → r ≡ s .degree
+      → withLast s l base α r ≡ put l (pointsFrom s base) (numbers (sides (triangle geop α (suc (s .degree)) (pointsOf (suc (s .dim)) (suc (s .degree)) (drop (pointsFrom s base) l)))))
   triangle-done r e =
       let q : 2 * p + 1 - p ≡ suc p = omega arith in
       let one : rowAt geop α p ps ≡ point (rowAt geop α p ps) 0 ∷ [] = single (rowAt geop α p ps) (row-is p (omega arith) ∙ nat) in

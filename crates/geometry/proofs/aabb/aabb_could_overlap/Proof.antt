@@ -1,13 +1,11 @@
 -- `aabb_could_overlap` equals its definition. The invariant: what is left to test answers for the whole.
 use mathlib.Core.Path.{_≡_}
-use mathlib.Core.List.{map}
-use Prim.Native.Nat.{suc, _≤_, _-_}
+use Prim.Native.Nat.{_≤_, _-_}
 use native.Mathlib.Omega.{arith}
 use borrow.Author.Tests.{not-true, not-false}
 use Rattle.lists.specs.Lists.{tab}
-use Rattle.math.specs.Scalars.{geop}
-use Rattle.geometry.specs.Layout.{scalarAt, pointsOf}
-use Rattle.geometry.specs.Aabb.{unions, place, aabb, couldOverlap}
+use Rattle.geometry.specs.Layout.{scalarAt}
+use Rattle.geometry.specs.Aabb.{aabb, couldOverlap}
 use Rattle.geometry.proofs.Kernels.Boxes.{axisAt, overlapFrom, overlap-start, overlap-keep, overlap-stop, overlap-end}
 use Rattle.geometry.proofs.aabb.aabb_could_overlap.Statement.{statement}
 use Rattle.geometry.proofs.aabb.aabb_could_overlap.Tie as tie

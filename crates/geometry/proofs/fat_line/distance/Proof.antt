@@ -1,5 +1,7 @@
 -- `distance` equals its definition: the root of the square.
-use Rattle.geometry.proofs.Kernels.Sizes.{distance-root}
+use mathlib.Core.Path.{ap, _∙_}
+use Rattle.math.specs.Root.{sqrtF}
+use Rattle.geometry.proofs.Kernels.Sizes.{distance-is}
 use borrow.Author.Needs.{needs}
 use Rattle.geometry.proofs.fat_line.distance.Statement.{statement}
 use Rattle.geometry.proofs.fat_line.distance.Tie as tie
@@ -11,7 +13,7 @@ sqrt-requires : tie.Need-sqrt-requires
 sqrt-requires c κs = search needs
 
 returns : tie.Need-returns
-returns c = distance-root _ _ _ _ (c .before .squared .ensures) (c .sqrt .ensures)
+returns c = c .sqrt .ensures ∙ ap sqrtF (c .before .squared .ensures) ∙ distance-is _ _
 
 pub distance-spec : {M : Type 1} → statement M
 distance-spec = tie.close (tie.spec squared-requires sqrt-requires returns)

@@ -1,20 +1,20 @@
 -- `extent` equals its definition. The invariant: what the points from i on add to the sum is the whole length.
-use mathlib.Core.Path.{_≡_, refl}
+use mathlib.Core.Path.{_≡_, refl, sym, ap, _∙_}
 use Prim.Native.Nat.{_≤_, _-_}
 use native.Mathlib.Omega.{arith}
 use lib.ListN.{length}
-use lib.Ieee.{ofBits}
-use Rattle.lists.specs.Lists.{tab}
-use Rattle.geometry.specs.Sizes.{positionOf}
-use Rattle.geometry.specs.FatLine.{pathLength}
+use lib.Ieee.{binary64, add, ofBits}
+use Rattle.lists.specs.Lists.{tab, foldl}
+use Rattle.math.specs.Scalars.{zeroF}
+use Rattle.geometry.specs.Sizes.{positionOf, squares}
 use Rattle.geometry.proofs.Kernels.Points.{point-in}
-use Rattle.geometry.proofs.Kernels.Sizes.{places, pathFrom, path-start, path-turn, extent-end}
+use Rattle.geometry.proofs.Kernels.Sizes.{places, withRoot, stepsFrom, steps-start, steps-turn, distance-is, extent-end}
 use Rattle.geometry.proofs.fat_line.extent.Statement.{statement}
 use Rattle.geometry.proofs.fat_line.extent.Tie as tie
 
 abbrev Inv-loop : tie.InvT-loop
 Inv-loop points dim count at₀ sum₀ i₀ at sum i =
-    (1 ≤ i) × (i ≤ count) × (pathFrom (tab count (places dim points)) sum (positionOf dim at) i ≡ pathLength (tab count (places dim points)))
+    (1 ≤ i) × (i ≤ count) × (stepsFrom withRoot (tab count (places dim points)) sum (positionOf dim at) i ≡ foldl withRoot zeroF (squares (tab count (places dim points))))
 
 abbrev μ-loop : tie.MeasureT-loop
 μ-loop points dim count at₀ sum₀ i₀ at sum i = count - i
@@ -26,7 +26,7 @@ loop-holds : tie.Need-loop-holds Inv-loop μ-loop
 unfolding ofBits
 loop-holds c =
     let a = c .before .before .args in
-    (omega arith, omega arith, path-start (a .count) (places (a .dim) (a .points .now)) (positionOf (a .dim) (c .cartesian .result)) (omega arith) (c .cartesian .ensures))
+    (omega arith, omega arith, steps-start withRoot (a .count) (places (a .dim) (a .points .now)) (positionOf (a .dim) (c .cartesian .result)) zeroF (omega arith) (c .cartesian .ensures))
 
 cartesian-requires-2 : tie.Need-cartesian-requires-2 Inv-loop μ-loop
 cartesian-requires-2 c κs =
@@ -49,8 +49,8 @@ loop-again c =
     let a = l .before .before .before .args in (
       omega arith,
       omega arith,
-      path-turn (a .count) (places (a .dim) (a .points .now)) (l .loop .sum) _ _ (positionOf (a .dim) (l .loop .at)) (positionOf (a .dim) (c .before .cartesian2 .result)) (l .loop .i) _
-          (omega arith) (c .before .cartesian2 .ensures) (c .distance .ensures) refl (l .loop .inv .2),
+      steps-turn withRoot (a .count) (places (a .dim) (a .points .now)) (l .loop .sum) _ _ (positionOf (a .dim) (l .loop .at)) (positionOf (a .dim) (c .before .cartesian2 .result)) (l .loop .i) _
+          (omega arith) (c .before .cartesian2 .ensures) refl (ap (add binary64 (l .loop .sum)) (c .distance .ensures ∙ sym (distance-is _ _))) (l .loop .inv .2),
     )
 
 max-requires : tie.Need-max-requires Inv-loop μ-loop

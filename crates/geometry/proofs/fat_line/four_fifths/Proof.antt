@@ -1,6 +1,5 @@
 -- `four_fifths` equals its definition: the quotient of 4 and 5, which does not fail.
 use mathlib.Core.Path.{ap, _∙_}
-use lib.Ieee.{ofBits}
 use Rattle.math.specs.Scalars.{ENTIRE, valueOr, fromRatio, fourFifthsS}
 use Rattle.math.specs.declared.scalars.Divided.{Divided}
 use borrow.Author.Needs.{needs}

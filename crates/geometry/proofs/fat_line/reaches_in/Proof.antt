@@ -1,6 +1,4 @@
 -- `reaches_in` equals its definition: both tests, the second where the first failed.
-use mathlib.Core.Path.{sym, ap, _∙_}
-use mathlib.Core.Bool.{Bool, _||_}
 use Rattle.geometry.proofs.Kernels.Sizes.{or-yes, or-no}
 use borrow.Author.Needs.{needs}
 use Rattle.geometry.proofs.fat_line.reaches_in.Statement.{statement}

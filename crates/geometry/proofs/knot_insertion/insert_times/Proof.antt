@@ -21,7 +21,7 @@ insert-once-requires : tie.Need-insert-once-requires Inv-loop μ-loop
 insert-once-requires c κs =
     let k = c .before .before .before .before .before .before in
     let a = c .before .before .before .before .loop .inv in
-    let b = span-in-bounds (k .args .s) (c .before .before .before .before .loop .work) (k .args .base) _ _ (k .args .t) (omega (arith, a .count, k .pre .1)) (c .before .span-in .ensures) in
+    let b = span-in-bounds (k .args .s) (c .before .before .before .before .loop .work) (k .args .base) _ (k .args .t) (a .held) (omega (arith, a .count, k .pre .1)) (c .before .span-in .ensures) in
     (a .held, b .0, b .1, omega (arith, a .count, k .pre .2))
 
 add-i : tie.Need-add-i Inv-loop μ-loop

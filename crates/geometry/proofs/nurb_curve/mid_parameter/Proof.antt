@@ -1,5 +1,5 @@
 -- `mid_parameter` equals its definition: its six calls, one after the other.
-use mathlib.Core.Path.{sym, ap, _∙_}
+use mathlib.Core.Path.{ap, _∙_}
 use lib.Ieee.{ofBits}
 use Rattle.math.specs.Scalars.{TWO, ENTIRE, addS, divS, middle, valueOr}
 use Rattle.math.specs.declared.scalars.Scalar.{Scalar}

@@ -1,7 +1,5 @@
 -- `value_or_entire` equals its definition, case by case.
-use mathlib.Core.Path.{sym, ap, _∙_}
-use Rattle.math.specs.Scalars.{ENTIRE, valueOr}
-use Rattle.math.specs.declared.scalars.Divided.{Divided}
+use Rattle.math.specs.Scalars.{valueOr}
 use borrow.Author.Needs.{needs}
 use Rattle.geometry.proofs.nurb_curve.value_or_entire.Statement.{statement}
 use Rattle.geometry.proofs.nurb_curve.value_or_entire.Tie as tie
