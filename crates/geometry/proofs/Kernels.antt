@@ -8,3 +8,8 @@ pub mod Call
 pub mod Flat
 pub mod Walks
 pub mod Widening
+pub mod Fit
+pub mod Plan
+pub mod Run
+pub mod Turns
+pub mod Visit

@@ -18,3 +18,4 @@ pub mod Cuts
 pub mod Moves
 pub mod Separate
 pub mod Splits
+pub mod Ring

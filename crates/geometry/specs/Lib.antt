@@ -11,6 +11,9 @@ pub mod Layout
 pub mod Sizes
 pub mod Boxes
 pub mod Slots
+pub mod Plan
+pub mod Turns
+pub mod Waiting
 pub mod Call
 pub mod Paper
 pub mod Enclosure

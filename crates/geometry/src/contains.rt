@@ -1,8 +1,20 @@
 // contains/curve.rs: the search for the parameters at which a curve passes through a box.
 
+use crate::aabb::aabb_could_overlap;
 use crate::fat_line::Hat;
+use crate::fat_line::bisects;
+use crate::fat_line::carried;
+use crate::fat_line::cuts_down;
 use crate::fat_line::fat_line_zeros;
+use crate::fat_line::greville_abscissae;
+use crate::nurb_curve::domain;
 use crate::nurb_curve::scalar_at;
+use crate::nurb_curve::weighted;
+use crate::slots::Shape;
+use crate::slots::count_at;
+use crate::slots::knots_in;
+use crate::slots::points_in;
+use crate::subdivide::Reports;
 use math::scalars::Scalar;
 ghost use mathlib.Core.Path.{_≡_};
 ghost use mathlib.Core.Bool.{true, _&&_};
@@ -12,9 +24,14 @@ ghost use lib.Ieee.{lt};
 ghost use Rattle.lists.specs.Lists.{put};
 ghost use Rattle.math.specs.Scalars.{geop, zeroF, mulS, isSame};
 ghost use Rattle.geometry.specs.Layout.{scalarAt, scalarsOf, pointsOf, flat};
-ghost use Rattle.geometry.specs.NurbCurve.{domain};
+ghost use Rattle.geometry.specs.NurbCurve.{domain, weighted};
 ghost use Rattle.geometry.specs.FatLine.{fatLineZeros};
 ghost use Rattle.geometry.specs.Contains.{axis, narrowed, clip};
+ghost use Rattle.geometry.specs.Subdivide.{plain, complete};
+ghost use Rattle.geometry.specs.Slots.{countAt, pieceAt, Held};
+ghost use Rattle.geometry.specs.Turns.{foundOf, Fit};
+ghost use Rattle.geometry.specs.Plan.{planHat, planClip, planned};
+ghost use Rattle.geometry.specs.FatLine.{greville};
 
 // The answer to a call. The visited count is last in every case.
 pub enum Found {
@@ -152,4 +169,127 @@ pub(crate) fn clip(
         k += 1;
     }
     Hat::Over(hat)
+}
+
+// ---- the plan of a visit
+
+// What a visit is to make of its piece.
+pub enum Plan {
+    // It holds nothing.
+    Skip,
+    // It cannot be made smaller: its hat.
+    Report(Scalar),
+    // It is to be cut down to its hat.
+    Restrict(Scalar),
+    // It is to be cut in two: its hat, for where it cannot be.
+    Halve(Scalar),
+}
+
+// What to make of a piece with a hat, on a domain from a to b.
+fn plan_hat(
+    points: &[f64],
+    point_box: &[f64],
+    dim: usize,
+    count: usize,
+    a: f64,
+    b: f64,
+    hat: Scalar,
+    resolution: f64,
+) -> Plan
+    requires { ⌜ (dim ≤ 3) × (1 ≤ count) × (count ≤ 32) × (2 * (suc dim * count) ≤ length (now points)) × (2 * dim ≤ length (now «point_box»)) ⌝ }
+    ensures { λ r. ⌜ r ≡ planHat geop dim (scalarsOf dim (now («point_box» .entry))) resolution a b (pointsOf (suc dim) count (now (points .entry))) hat ⌝ }
+{
+    let w = carried(points, point_box, dim, count);
+    if cuts_down(points, dim, count, a, b, hat, w) {
+        return Plan::Restrict(hat);
+    }
+    if bisects(points, dim, count, a, b, w, resolution) {
+        return Plan::Halve(hat);
+    }
+    Plan::Report(hat)
+}
+
+// What to make of a piece whose box does not miss.
+fn plan_clip(
+    knots: &[f64],
+    points: &[f64],
+    point_box: &[f64],
+    dim: usize,
+    degree: usize,
+    count: usize,
+    resolution: f64,
+) -> Plan
+    requires { ⌜ (dim ≤ 3) × (1 ≤ count) × (count ≤ 32) × (2 * (suc dim * count) ≤ length (now points)) × (2 * dim ≤ length (now «point_box»)) ⌝ }
+    requires { ⌜ (degree ≤ 7) × (count + degree + 1 ≤ length (now knots)) ⌝ }
+    ensures { λ r. ⌜ r ≡ planClip geop dim degree (scalarsOf dim (now («point_box» .entry))) resolution (record { knots = now (knots .entry); points = pointsOf (suc dim) count (now (points .entry)) }) (greville geop degree count (now (knots .entry))) ⌝ }
+{
+    let a = knots[degree];
+    let b = knots[count];
+    if degree == 0 {
+        return Plan::Report(domain(a, b));
+    }
+    let xi = greville_abscissae(knots, degree, count);
+    let Hat::Over(hat) = clip(&xi.at, points, point_box, dim, count, a, b) else {
+        return Plan::Skip;
+    };
+    plan_hat(points, point_box, dim, count, a, b, hat, resolution)
+}
+
+// What a visit is to make of the piece with these knots and count points.
+pub(crate) fn planned(
+    knots: &[f64],
+    points: &[f64],
+    point_box: &[f64],
+    dim: usize,
+    degree: usize,
+    count: usize,
+    resolution: f64,
+) -> Plan
+    requires { ⌜ (dim ≤ 3) × (1 ≤ count) × (count ≤ 32) × (2 * (suc dim * count) ≤ length (now points)) × (2 * dim ≤ length (now «point_box»)) ⌝ }
+    requires { ⌜ (degree ≤ 7) × (count + degree + 1 ≤ length (now knots)) ⌝ }
+    ensures { λ r. ⌜ r ≡ planned geop dim degree (scalarsOf dim (now («point_box» .entry))) resolution (record { knots = now (knots .entry); points = pointsOf (suc dim) count (now (points .entry)) }) ⌝ }
+{
+    if !aabb_could_overlap(points, point_box, dim, count) {
+        return Plan::Skip;
+    }
+    plan_clip(knots, points, point_box, dim, degree, count, resolution)
+}
+
+// What a visit is to make of the piece in the slot at base.
+fn plan_in(work: &[f64], base: usize, s: Shape, point_box: &[f64], resolution: f64) -> Plan
+    requires { ⌜ Held s (now work) base × Fit s (pieceAt s (now work) base) × (2 * s .dim ≤ length (now «point_box»)) ⌝ }
+    ensures { λ r. ⌜ r ≡ planned geop (s .dim) (s .degree) (scalarsOf (s .dim) (now («point_box» .entry))) resolution (pieceAt s (now (work .entry)) base) ⌝ }
+{
+    let n = count_at(work, base);
+    let knots = knots_in(work, base, s);
+    let points = points_in(work, base, s);
+    planned(knots, points, point_box, s.dim, s.degree, n, resolution)
+}
+
+// Every weight of the piece in the slot at base has its lo above zero.
+fn weighted_in(work: &[f64], base: usize, s: Shape) -> bool
+    requires { ⌜ Held s (now work) base × (countAt (now work) base ≤ 32) ⌝ }
+    ensures { λ r. ⌜ r ≡ weighted (s .dim) (pieceAt s (now (work .entry)) base .points) ⌝ }
+{
+    let n = count_at(work, base);
+    weighted(points_in(work, base, s), s.dim, n)
+}
+
+// ---- the answer
+
+// A bound as it is given out, with no negative zero.
+fn plain(x: f64) -> f64
+    ensures { λ r. ⌜ r ≡ plain x ⌝ }
+{
+    if x == 0.0 { 0.0 } else { x }
+}
+
+// The answer when every piece was visited.
+fn completed(f: Reports, visited: usize) -> Found
+    ensures { λ r. ⌜ r ≡ complete (foundOf f) visited ⌝ }
+{
+    match f {
+        Reports::Silent => Found::Nothing(visited),
+        Reports::Union(t) => Found::Enclosed(plain(t.lo), plain(t.hi), visited),
+    }
 }

@@ -1,4 +1,5 @@
-// x
+// Where a spline passes through a box: what the search needs of geop-core-geometry, in modules named after its files.
+
 mod aabb;
 mod call;
 pub mod contains;
@@ -6,4 +7,5 @@ mod fat_line;
 mod knot_insertion;
 mod nurb_curve;
 mod slots;
+mod subdivide;
 mod vector;
