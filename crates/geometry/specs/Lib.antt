@@ -1,4 +1,4 @@
--- The search, leaves first. Vector to Contains have the names of the Rust's files; Layout, Call, Paper and Enclosure are the port's own; Slots, Sizes and Boxes serve the code alone.
+-- The search, leaves first. Vector to Contains have the names of the Rust's files; Layout, Call, Paper and Enclosure are the port's own; Slots, Sizes, Boxes, Waiting, Plan and Turns serve the code alone.
 pub mod Vector
 pub mod NurbCurve
 pub mod KnotInsertion

@@ -12,8 +12,8 @@ use Rattle.math.specs.declared.scalars.Scalar.{Scalar}
 use Rattle.math.specs.Scalars.{geop}
 use Rattle.geometry.specs.Vector.{Vector, interpolateV}
 use Rattle.geometry.specs.NurbCurve.{Piece, point, start, end, inDomain}
-use Rattle.geometry.specs.KnotInsertion.{alpha, blend, fullCut, leftOf, rightOf}
-use Rattle.geometry.specs.Split.{Halves, uncut, both, split, fromBy, restrict}
+use Rattle.geometry.specs.KnotInsertion.{Cut, alpha, blend, fullCut, leftOf, rightOf}
+use Rattle.geometry.specs.Split.{Halves, uncut, both, split, fromBy, upToBy, restrict}
 use Rattle.geometry.specs.Layout.{scalarsOf, flat, pointsOf, slotWords}
 use Rattle.geometry.specs.declared.slots.Shape.{Shape}
 
@@ -113,6 +113,15 @@ Apart s a b = (a + slotWords (s .dim) (s .degree) (s .count) ≤ b) ⊎ (b + slo
 
 -- ---- what a cut leaves in the memory
 
+-- The cut k is written into the slot at base, and r is the number of the point at which it separates.
+pub record CutAt (s : Shape) (l m : List Float) (base : ℕ) (k : Cut) (r : ℕ) : Type 0 where
+  pub memory : m ≡ placed s l base (k .piece)
+  pub at : r ≡ k .at
+
+-- The parameter t lies strictly inside the domain of the piece c.
+abbrev pub within : ℕ → Piece → Float → Bool
+within p c t = inDomain (start p c) (end c) t
+
 -- The memory m differs from l in the slot at a alone.
 abbrev pub OnlyAt : Shape → List Float → List Float → ℕ → Type 0
 OnlyAt s l m a = (i w : ℕ) → (i + w ≤ a) ⊎ (a + slotWords (s .dim) (s .degree) (s .count) ≤ i) → part m i w ≡ part l i w
@@ -145,23 +154,33 @@ splitInto s l a b t c false = l
 -- What `split` leaves: the memory m, and the result r.
 pub record SplitAt (s : Shape) (l m : List Float) (a b : ℕ) (t : Float) (c : Piece) (r : Bool) : Type 0 where
   pub cut : r ≡ wasCut (split geop (s .degree) t c)
-  pub memory : m ≡ splitInto s l a b t c (inDomain (start (s .degree) c) (end c) t)
+  pub memory : m ≡ splitInto s l a b t c (within (s .degree) c t)
   pub halves : HoldingBoth s m a b (split geop (s .degree) t c)
   pub others : OnlyAtBoth s l m a b
 
--- A cut at t in the slot at a, of whose two parts one is kept.
+-- The slot at a is cut, and of the cut k the part d is kept; or there is no cut.
 unfoldable pub keepInto : Shape → List Float → ℕ → Piece → Piece → Bool → List Float
 keepInto s l a k d true = placed s (placed s l a k) a d
 keepInto s l a k d false = l
+
+-- What is right of t is kept in the slot at a, and r is the number of cuts.
+pub record FromAt (s : Shape) (l m : List Float) (a : ℕ) (t : Float) (c : Piece) (r : ℕ) : Type 0 where
+  pub cuts : r ≡ fromBy geop (s .degree) t c (within (s .degree) c t) .cuts
+  pub memory : m ≡ keepInto s l a (fullCut geop (s .degree) t c .piece) (rightOf (fullCut geop (s .degree) t c)) (within (s .degree) c t)
+
+-- What is left of t is kept in the slot at a, and r is the number of cuts.
+pub record UpToAt (s : Shape) (l m : List Float) (a : ℕ) (t : Float) (c : Piece) (r : ℕ) : Type 0 where
+  pub cuts : r ≡ upToBy geop (s .degree) t c (within (s .degree) c t) .cuts
+  pub memory : m ≡ keepInto s l a (fullCut geop (s .degree) t c .piece) (leftOf (s .degree) (fullCut geop (s .degree) t c)) (within (s .degree) c t)
 
 -- `restrict` copies the piece c into the slot at a and cuts it there, at lo and then at hi.
 unfoldable pub restrictInto : Shape → List Float → ℕ → Float → Float → Piece → List Float
 restrictInto s l a lo hi c =
     let p = s .degree in
     let k = fullCut geop p lo c in
-    let d = fromBy geop p lo c (inDomain (start p c) (end c) lo) .piece in
+    let d = fromBy geop p lo c (within p c lo) .piece in
     let h = fullCut geop p hi d in
-    keepInto s (keepInto s (placed s l a c) a (k .piece) (rightOf k) (inDomain (start p c) (end c) lo)) a (h .piece) (leftOf p h) (inDomain (start p d) (end d) hi)
+    keepInto s (keepInto s (placed s l a c) a (k .piece) (rightOf k) (within p c lo)) a (h .piece) (leftOf p h) (within p d hi)
 
 -- What `restrict` leaves: the memory m, and the number r of cuts.
 pub record RestrictAt (s : Shape) (l m : List Float) (a : ℕ) (lo hi : Float) (c : Piece) (r : ℕ) : Type 0 where

@@ -21,7 +21,7 @@ ghost use Rattle.math.specs.Scalars.{geop, isSame, sharp, subS, divS};
 ghost use Rattle.geometry.specs.NurbCurve.{knot};
 ghost use Rattle.geometry.specs.KnotInsertion.{holdsAt, insertionSpan, alpha, blend, knotsWith, insertOnce, insertTimes, triangle, sides, bezierKnots, bezierCut, multiplicity, isBezier, boehmCut, fullCut};
 ghost use Rattle.geometry.specs.Layout.{flat, pointsOf};
-ghost use Rattle.geometry.specs.Slots.{pointsFrom, pointWords, placeOf, countAt, knotsAt, vectorAt, blendAt, betweenAt, numbers, pieceAt, placed, Inside, Held};
+ghost use Rattle.geometry.specs.Slots.{pointsFrom, pointWords, placeOf, countAt, knotsAt, vectorAt, blendAt, betweenAt, numbers, pieceAt, placed, Inside, Held, CutAt};
 
 // The parameter t is at or above knot k, and below the next.
 fn holds_at(knots: &[f64], t: f64, k: usize) -> bool
@@ -328,7 +328,7 @@ fn position_in(work: &[f64], base: usize, s: Shape, t: f64) -> usize
 // The piece in the slot at base is cut at t by as many insertions as are missing.
 fn boehm_cut(work: &mut [f64], base: usize, s: Shape, t: f64) -> usize
     requires { ⌜ Held s (now work) base × (s .degree < countAt (now work) base) × (countAt (now work) base ≤ s .count) ⌝ }
-    ensures { λ r. ⌜ (now (work .exit) ≡ placed s (now (work .entry)) base (boehmCut geop (s .degree) t (pieceAt s (now (work .entry)) base) .piece)) × (r ≡ boehmCut geop (s .degree) t (pieceAt s (now (work .entry)) base) .at) ⌝ }
+    ensures { λ r. ⌜ CutAt s (now (work .entry)) (now (work .exit)) base (boehmCut geop (s .degree) t (pieceAt s (now (work .entry)) base)) r ⌝ }
 {
     let times = missing_in(work, base, s, t);
     insert_times(work, base, s, t, times);
@@ -359,7 +359,7 @@ fn along_in(work: &[f64], base: usize, s: Shape, t: f64) -> Divided
 // The parameter t, strictly inside the domain, is raised to multiplicity degree + 1 in the slot at base. The result is the number of the point at which the piece separates.
 pub(crate) fn insert_to_full_multiplicity(work: &mut [f64], base: usize, s: Shape, t: f64) -> usize
     requires { ⌜ Held s (now work) base × (s .degree < countAt (now work) base) × (countAt (now work) base ≤ s .count) ⌝ }
-    ensures { λ r. ⌜ (now (work .exit) ≡ placed s (now (work .entry)) base (fullCut geop (s .degree) t (pieceAt s (now (work .entry)) base) .piece)) × (r ≡ fullCut geop (s .degree) t (pieceAt s (now (work .entry)) base) .at) ⌝ }
+    ensures { λ r. ⌜ CutAt s (now (work .entry)) (now (work .exit)) base (fullCut geop (s .degree) t (pieceAt s (now (work .entry)) base)) r ⌝ }
 {
     if !is_bezier_in(work, base, s, t) {
         return boehm_cut(work, base, s, t);

@@ -7,5 +7,6 @@ mod fat_line;
 mod knot_insertion;
 mod nurb_curve;
 mod slots;
+mod split;
 mod subdivide;
 mod vector;

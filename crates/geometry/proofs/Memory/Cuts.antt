@@ -22,7 +22,7 @@ use Rattle.geometry.specs.Vector.{Vector}
 use Rattle.geometry.specs.NurbCurve.{Piece, knot, point}
 use Rattle.geometry.specs.KnotInsertion.{Cut, triangle, sides, insertionSpan, insertOnce, insertTimes, bezierKnots, bezierCut, multiplicity, isBezier, boehmCut, cutBy, fullCut}
 use Rattle.geometry.specs.Layout.{pointsOf}
-use Rattle.geometry.specs.Slots.{pointsFrom, word, countAt, numbers, pieceAt, placed, Wide, Fits, Inside, Held}
+use Rattle.geometry.specs.Slots.{pointsFrom, word, countAt, numbers, pieceAt, placed, Wide, Fits, Inside, Held, CutAt}
 use Rattle.geometry.specs.declared.slots.Shape.{Shape}
 use Rattle.geometry.proofs.Memory.Counts.{from-room}
 use Rattle.geometry.proofs.Memory.Piece.{fits-piece, count-points, piece-placed, held-placed, length-placed}
@@ -219,9 +219,8 @@ module _ (p : ℕ) (t : Float) (c : Piece) where
           never q = let z : _≡_ {A = ℕ} 0 1 = cc in omega arith
 
 -- the cut of a slot's piece, as it comes from one of the two
-pub full-from : (s : Shape) (l w : List Float) (base k : ℕ) (t : Float) (c : Cut) → c ≡ fullCut geop (s .degree) t (pieceAt s l base) → w ≡ placed s l base (c .piece) → k ≡ c .at
-    → (w ≡ placed s l base (fullCut geop (s .degree) t (pieceAt s l base) .piece)) × (k ≡ fullCut geop (s .degree) t (pieceAt s l base) .at)
-full-from s l w base k t c e f g = (f ∙ ap (λ (d : Cut). placed s l base (d .piece)) e, g ∙ ap (λ (d : Cut). d .at) e)
+pub full-from : (s : Shape) (l w : List Float) (base k : ℕ) (t : Float) (c : Cut) → c ≡ fullCut geop (s .degree) t (pieceAt s l base) → CutAt s l w base c k → CutAt s l w base (fullCut geop (s .degree) t (pieceAt s l base)) k
+full-from s l w base k t c e f = subst (λ (d : Cut). CutAt s l w base d k) e f
 
 pub bezier-at : (p : ℕ) (t : Float) (α : Scalar) (c : Piece) → p + 1 ≡ bezierCut geop p t α c .at
 unfolding bezierCut

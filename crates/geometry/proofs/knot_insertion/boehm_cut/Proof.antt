@@ -22,10 +22,11 @@ same-length c = search needs
 returns : tie.Need-returns
 returns c =
     let k = c .before .before .before .before .before .before .before .before .before in
-    let g = k .args in (
-      boehm-memory (g .s) (g .work .now) _ (g .base) (g .t) (k .pre .0) (k .pre .1) (k .pre .2) _ (c .before .before .before .before .before .before .missing-in .ensures) (c .before .before .before .before .insert-times .ensures),
-      boehm-at (g .s) (g .work .now) _ (g .base) (g .t) (k .pre .0) (k .pre .1) (k .pre .2) _ (c .before .before .before .before .before .before .missing-in .ensures) (c .before .before .before .before .insert-times .ensures) _ (c .position-in .ensures),
-    )
+    let g = k .args in
+    record {
+      memory = boehm-memory (g .s) (g .work .now) _ (g .base) (g .t) (k .pre .0) (k .pre .1) (k .pre .2) _ (c .before .before .before .before .before .before .missing-in .ensures) (c .before .before .before .before .insert-times .ensures);
+      at = boehm-at (g .s) (g .work .now) _ (g .base) (g .t) (k .pre .0) (k .pre .1) (k .pre .2) _ (c .before .before .before .before .before .before .missing-in .ensures) (c .before .before .before .before .insert-times .ensures) _ (c .position-in .ensures);
+    }
 
 pub boehm-cut-spec : {M : Type 1} → statement M
 boehm-cut-spec =

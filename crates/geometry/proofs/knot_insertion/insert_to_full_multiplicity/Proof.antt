@@ -21,7 +21,7 @@ same-length c = search needs
 returns : tie.Need-returns
 returns c =
     let g = c .before .before .before .before .before .before .before .before .args in
-    full-from (g .s) (g .work .now) _ (g .base) _ (g .t) _ (full-boehm (g .s .degree) (g .t) _ (sym (c .before .before .before .before .before .is-bezier-in .ensures) ∙ not-true _ (c .before .before .before .before .if1 .taken))) (c .before .before .boehm-cut .ensures .0) (c .before .before .boehm-cut .ensures .1)
+    full-from (g .s) (g .work .now) _ (g .base) _ (g .t) _ (full-boehm (g .s .degree) (g .t) _ (sym (c .before .before .before .before .before .is-bezier-in .ensures) ∙ not-true _ (c .before .before .before .before .if1 .taken))) (c .before .before .boehm-cut .ensures)
 
 along-in-requires : tie.Need-along-in-requires
 along-in-requires c κs = search needs
@@ -52,7 +52,7 @@ returns-2 c =
     let g = c .before .before .before .before .before .before .before .before .before .before .before .before .before .before .args in
     full-from (g .s) (g .work .now) _ (g .base) _ (g .t) _
     (full-bezier (g .s .degree) (g .t) _ _ (sym (c .before .before .before .before .before .before .before .before .before .before .before .is-bezier-in .ensures) ∙ not-false _ (c .before .before .before .before .before .before .before .before .before .before .if1 .left)) (sym (c .before .before .before .before .before .before .before .before .along-in .ensures) ∙ c .before .before .before .before .before .before .along .given .1))
-    (c .before .before .before .split-bezier-span .ensures) (bezier-at (g .s .degree) (g .t) _ _)
+    (record { memory = c .before .before .before .split-bezier-span .ensures; at = bezier-at (g .s .degree) (g .t) _ _ })
 
 same-length-3 : tie.Need-same-length-3
 same-length-3 c = search needs
@@ -62,7 +62,7 @@ returns-3 c =
     let g = c .before .before .before .before .before .before .before .before .before .before .before .before .args in
     full-from (g .s) (g .work .now) _ (g .base) _ (g .t) _
     (full-failed (g .s .degree) (g .t) _ (sym (c .before .before .before .before .before .before .before .before .before .is-bezier-in .ensures) ∙ not-false _ (c .before .before .before .before .before .before .before .before .if1 .left)) (sym (c .before .before .before .before .before .before .along-in .ensures) ∙ c .before .before .before .before .enum-told .given .1))
-    (c .before .before .boehm-cut2 .ensures .0) (c .before .before .boehm-cut2 .ensures .1)
+    (c .before .before .boehm-cut2 .ensures)
 
 pub insert-to-full-multiplicity-spec : {M : Type 1} → statement M
 insert-to-full-multiplicity-spec =

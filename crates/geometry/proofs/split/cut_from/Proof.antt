@@ -1,0 +1,55 @@
+-- `cut_from` equals its definition: nothing where t does not lie inside, and else the cut of which what is right is kept.
+use mathlib.Core.Path.{refl, sym, _∙_}
+use mathlib.Core.Logic.{inr}
+use borrow.Author.Tests.{not-true, not-false}
+use Rattle.geometry.proofs.Memory.Splits.{whole-count, cut-held, cut-upto, from-kept, from-none}
+use borrow.Author.Needs.{needs}
+use Rattle.geometry.proofs.split.cut_from.Statement.{statement}
+use Rattle.geometry.proofs.split.cut_from.Tie as tie
+
+in-domain-requires : tie.Need-in-domain-requires
+in-domain-requires c κs = search needs
+
+same-length : tie.Need-same-length
+same-length c = search needs
+
+returns : tie.Need-returns
+returns c = let g = c .before .before .before .before .args in from-none (g .s) (g .work .now) (g .base) (g .t) (sym (c .before .in-domain .ensures) ∙ not-true _ (c .if1 .taken))
+
+insert-to-full-multiplicity-requires : tie.Need-insert-to-full-multiplicity-requires
+insert-to-full-multiplicity-requires c κs =
+    let k = c .before .before .before .before .before in
+    let q = whole-count (k .args .s) (k .args .work .now) (k .args .base) (k .pre .0) (k .pre .1) in
+    (k .pre .0, q .0, q .1)
+
+copy-right-requires : tie.Need-copy-right-requires
+copy-right-requires c κs =
+    let k = c .before .before .before .before .before .before .before .before .before in
+    let g = k .args in
+    let d = sym (c .before .before .before .before .before .before .in-domain .ensures) ∙ not-false _ (c .before .before .before .before .before .if1 .left) in
+    let i = c .before .before .before .insert-to-full-multiplicity .ensures in
+    let h = cut-held (g .s) (g .work .now) (g .base) (g .t) (k .pre .0) (k .pre .1) d _ _ i in
+    ((h, h .inside, cut-upto (g .s) (g .work .now) (g .base) (g .t) (k .pre .0) (k .pre .1) d _ _ i), inr refl)
+
+same-length-2 : tie.Need-same-length-2
+same-length-2 c = search needs
+
+returns-2 : tie.Need-returns-2
+returns-2 c =
+    let k = c .before .before .before .before .before .before .before .before .before .before .before .before in
+    let g = k .args in
+    let d = sym (c .before .before .before .before .before .before .before .before .before .in-domain .ensures) ∙ not-false _ (c .before .before .before .before .before .before .before .before .if1 .left) in
+    let i = c .before .before .before .before .before .before .insert-to-full-multiplicity .ensures in
+    from-kept (g .s) (g .work .now) (g .base) (g .t) (k .pre .0) (k .pre .1) d _ _ i _ _ (c .before .before .copy-right .ensures) refl
+
+pub cut-from-spec : {M : Type 1} → statement M
+cut-from-spec =
+    tie.close
+    (tie.spec
+    in-domain-requires
+    same-length
+    returns
+    insert-to-full-multiplicity-requires
+    copy-right-requires
+    same-length-2
+    returns-2)

@@ -1,0 +1,53 @@
+-- `restrict` equals its definition: a copy, cut at lo and then at hi.
+use mathlib.Core.Logic.{inl}
+use Rattle.geometry.proofs.Memory.Splits.{copied, copied-whole, cut-down, cut-down-whole, restricted, from-few, upto-few}
+use borrow.Author.Needs.{needs}
+use native.Mathlib.Omega.{arith}
+use Rattle.geometry.proofs.split.restrict.Statement.{statement}
+use Rattle.geometry.proofs.split.restrict.Tie as tie
+
+copy-right-requires : tie.Need-copy-right-requires
+copy-right-requires c κs = let k = c .before .before in ((k .pre .0 .0, k .pre .0 .2, omega arith), inl (k .pre .0 .3))
+
+cut-from-requires : tie.Need-cut-from-requires
+cut-from-requires c κs =
+    let k = c .before .before .before .before .before .before in
+    let g = k .args in (
+      copied (g .s) (g .work .now) (g .src) (g .to) (g .lo) (g .hi) (k .pre .0 .0) (k .pre .0 .1) (k .pre .0 .2) (k .pre .1) _ (c .before .before .before .copy-right .ensures) .held,
+      copied-whole (g .s) (g .work .now) (g .src) (g .to) (g .lo) (g .hi) (k .pre .0 .0) (k .pre .0 .1) (k .pre .0 .2) (k .pre .1) _ (c .before .before .before .copy-right .ensures),
+    )
+
+cut-up-to-requires : tie.Need-cut-up-to-requires
+cut-up-to-requires c κs =
+    let k = c .before .before .before .before .before .before .before .before .before .before in
+    let g = k .args in (
+      cut-down (g .s) (g .work .now) (g .src) (g .to) (g .lo) (g .hi) (k .pre .0 .0) (k .pre .0 .1) (k .pre .0 .2) (k .pre .1) _ (c .before .before .before .before .before .before .before .copy-right .ensures) _ _ (c .before .before .before .cut-from .ensures) .held,
+      cut-down-whole (g .s) (g .work .now) (g .src) (g .to) (g .lo) (g .hi) (k .pre .0 .0) (k .pre .0 .1) (k .pre .0 .2) (k .pre .1) _ (c .before .before .before .before .before .before .before .copy-right .ensures) _ _ (c .before .before .before .cut-from .ensures),
+    )
+
+add-result : tie.Need-add-result
+add-result c =
+    let g = c .before .before .before .before .before .before .before .before .before .before .before .before .before .args in
+    let a = from-few (g .s .degree) _ (g .lo) _ _ (c .before .before .before .before .before .before .cut-from .ensures .cuts) in
+    let b = upto-few (g .s .degree) _ (g .hi) _ _ (c .before .before .cut-up-to .ensures .cuts) in
+    omega (arith, a, b)
+
+same-length : tie.Need-same-length
+same-length c = search needs
+
+returns : tie.Need-returns
+returns c =
+    let k = c .before .before .before .before .before .before .before .before .before .before .before .before .before in
+    let g = k .args in
+    restricted (g .s) (g .work .now) (g .src) (g .to) (g .lo) (g .hi) (k .pre .0 .0) (k .pre .0 .1) (k .pre .0 .2) (k .pre .1) _ (c .before .before .before .before .before .before .before .before .before .before .copy-right .ensures) _ _ (c .before .before .before .before .before .before .cut-from .ensures) _ _ (c .before .before .cut-up-to .ensures)
+
+pub restrict-spec : {M : Type 1} → statement M
+restrict-spec =
+    tie.close
+    (tie.spec
+    copy-right-requires
+    cut-from-requires
+    cut-up-to-requires
+    add-result
+    same-length
+    returns)

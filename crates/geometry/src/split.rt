@@ -1,0 +1,95 @@
+// nurb_curve/split.rs: a piece cut in two, and a piece cut down to a hat, in the slots of the work area.
+use crate::knot_insertion::insert_to_full_multiplicity;
+use crate::nurb_curve::mid_parameter;
+use crate::slots::Shape;
+use crate::slots::copy_right;
+use crate::slots::count_at;
+use crate::slots::keep_left;
+ghost use mathlib.Core.Path.{_≡_};
+ghost use Rattle.math.specs.Scalars.{geop};
+ghost use Rattle.geometry.specs.NurbCurve.{start, end, midParameter};
+ghost use Rattle.geometry.specs.Split.{fromBy};
+ghost use Rattle.geometry.specs.Slots.{pieceAt, Inside, Held, Apart, Whole, within, SplitAt, FromAt, UpToAt, RestrictAt};
+
+// The parameter t lies strictly inside the domain of the piece in the slot at base.
+pub(crate) fn in_domain(work: &[f64], base: usize, s: Shape, t: f64) -> bool
+    requires { ⌜ Held s (now work) base ⌝ }
+    ensures { λ r. ⌜ r ≡ within (s .degree) (pieceAt s (now (work .entry)) base) t ⌝ }
+{
+    let n = count_at(work, base);
+    let first = base + 1;
+    work[first + s.degree] < t && t < work[first + n]
+}
+
+// The piece in the slot at src is cut at t, in the slot at left; what is right of t goes to the slot at right. There is no cut unless t lies strictly inside the domain.
+pub(crate) fn split(
+    work: &mut [f64],
+    src: usize,
+    left: usize,
+    right: usize,
+    s: Shape,
+    t: f64,
+) -> bool
+    requires { ⌜ Held s (now work) src × Whole s (pieceAt s (now work) src) × Inside s (now work) left × Inside s (now work) right ⌝ }
+    requires { ⌜ Apart s src left × Apart s src right × Apart s left right ⌝ }
+    ensures { λ r. ⌜ SplitAt s (now (work .entry)) (now (work .exit)) left right t (pieceAt s (now (work .entry)) src) r ⌝ }
+{
+    if !in_domain(work, src, s, t) {
+        return false;
+    }
+    copy_right(work, src, left, s, 0);
+    let at = insert_to_full_multiplicity(work, left, s, t);
+    copy_right(work, left, right, s, at);
+    keep_left(work, left, s, at);
+    true
+}
+
+// The piece in the slot at src is cut at the middle of its domain.
+pub(crate) fn split_mid(work: &mut [f64], src: usize, left: usize, right: usize, s: Shape) -> bool
+    requires { ⌜ Held s (now work) src × Whole s (pieceAt s (now work) src) × Inside s (now work) left × Inside s (now work) right ⌝ }
+    requires { ⌜ Apart s src left × Apart s src right × Apart s left right ⌝ }
+    ensures { λ r. ⌜ SplitAt s (now (work .entry)) (now (work .exit)) left right (midParameter geop (start (s .degree) (pieceAt s (now (work .entry)) src)) (end (pieceAt s (now (work .entry)) src))) (pieceAt s (now (work .entry)) src) r ⌝ }
+{
+    let n = count_at(work, src);
+    let first = src + 1;
+    let t = mid_parameter(work[first + s.degree], work[first + n]);
+    split(work, src, left, right, s, t)
+}
+
+// The piece in the slot at base becomes what is right of t, where t lies strictly inside its domain. The result is the number of cuts.
+fn cut_from(work: &mut [f64], base: usize, s: Shape, t: f64) -> usize
+    requires { ⌜ Held s (now work) base × Whole s (pieceAt s (now work) base) ⌝ }
+    ensures { λ r. ⌜ FromAt s (now (work .entry)) (now (work .exit)) base t (pieceAt s (now (work .entry)) base) r ⌝ }
+{
+    if !in_domain(work, base, s, t) {
+        return 0;
+    }
+    let at = insert_to_full_multiplicity(work, base, s, t);
+    copy_right(work, base, base, s, at);
+    1
+}
+
+// The piece in the slot at base becomes what is left of t, where t lies strictly inside its domain. The result is the number of cuts.
+fn cut_up_to(work: &mut [f64], base: usize, s: Shape, t: f64) -> usize
+    requires { ⌜ Held s (now work) base × Whole s (pieceAt s (now work) base) ⌝ }
+    ensures { λ r. ⌜ UpToAt s (now (work .entry)) (now (work .exit)) base t (pieceAt s (now (work .entry)) base) r ⌝ }
+{
+    if !in_domain(work, base, s, t) {
+        return 0;
+    }
+    let at = insert_to_full_multiplicity(work, base, s, t);
+    keep_left(work, base, s, at);
+    1
+}
+
+// The piece in the slot at src, cut down to lo and hi in the slot at to. The result is the number of cuts.
+pub(crate) fn restrict(work: &mut [f64], src: usize, to: usize, s: Shape, lo: f64, hi: f64) -> usize
+    requires { ⌜ Held s (now work) src × Whole s (pieceAt s (now work) src) × Inside s (now work) to × Apart s src to ⌝ }
+    requires { ⌜ Whole s (fromBy geop (s .degree) lo (pieceAt s (now work) src) (within (s .degree) (pieceAt s (now work) src) lo) .piece) ⌝ }
+    ensures { λ r. ⌜ RestrictAt s (now (work .entry)) (now (work .exit)) to lo hi (pieceAt s (now (work .entry)) src) r ⌝ }
+{
+    copy_right(work, src, to, s, 0);
+    let from = cut_from(work, to, s, lo);
+    let up_to = cut_up_to(work, to, s, hi);
+    from + up_to
+}
