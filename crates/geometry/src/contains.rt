@@ -1,6 +1,7 @@
 // contains/curve.rs: the search for the parameters at which a curve passes through a box.
 
 use crate::aabb::aabb_could_overlap;
+use crate::fat_line::Greville;
 use crate::fat_line::Hat;
 use crate::fat_line::bisects;
 use crate::fat_line::carried;
@@ -225,11 +226,13 @@ fn plan_clip(
 {
     let a = knots[degree];
     let b = knots[count];
-    if degree == 0 {
-        return Plan::Report(domain(a, b));
-    }
     let xi = greville_abscissae(knots, degree, count);
-    let Hat::Over(hat) = clip(&xi.at, points, point_box, dim, count, a, b) else {
+    let has = xi.has;
+    let Greville::Some = has else {
+        return Plan::Report(domain(a, b));
+    };
+    let at = xi.at;
+    let Hat::Over(hat) = clip(&at, points, point_box, dim, count, a, b) else {
         return Plan::Skip;
     };
     plan_hat(points, point_box, dim, count, a, b, hat, resolution)

@@ -94,6 +94,23 @@ none-greville ar (suc p) n knots r e h = let z : Some ≡ None = sym (ap (λ (a 
     never : Some ≡ None → _≡_ {A = ℕ} 0 1
     never z = cc
 
+-- degree 0 has none, and it alone
+pub none-degree : (ar : Arithmetic) (p n : ℕ) (knots : List Float) (r : Abscissae) → r ≡ held (greville ar p n knots) → r .has ≡ None → p ≡ 0
+unfolding held greville
+none-degree ar zero n knots r e h = refl
+none-degree ar (suc p) n knots r e h = let z : Some ≡ None = sym (ap (λ (a : Abscissae). a .has) e) ∙ h in absurd (omega (arith, never z))
+  where
+    never : Some ≡ None → _≡_ {A = ℕ} 0 1
+    never z = cc
+
+pub some-degree : (ar : Arithmetic) (p n : ℕ) (knots : List Float) (r : Abscissae) → r ≡ held (greville ar p n knots) → r .has ≡ Some → p ≡ 0 → ⊥
+unfolding held greville
+some-degree ar zero n knots r e h z = let y : None ≡ Some = sym (ap (λ (a : Abscissae). a .has) e) ∙ h in absurd (omega (arith, never y))
+  where
+    never : None ≡ Some → _≡_ {A = ℕ} 0 1
+    never z = cc
+some-degree ar (suc p) n knots r e h z = absurd (omega (arith, z))
+
 -- Where it says some, the first intervals of the array are the abscissae.
 pub some-greville : (ar : Arithmetic) (p n : ℕ) (knots : List Float) (r : Abscissae) → r ≡ held (greville ar p n knots) → r .has ≡ Some → greville ar p n knots ≡ some (scalarsOf n (r .at))
 unfolding held greville
