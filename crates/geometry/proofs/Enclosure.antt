@@ -118,7 +118,7 @@ module _ (c : Call) (d : Doubles c) (acc : Accepted c) where
   whole-lined : Lined (c .degree) (length (curve c .points)) (c .knots)
   whole-lined = subst (λ (m : ℕ). Lined p m (c .knots)) (sym (points-long c)) (record { long = ch .long; known = ch .known; sorted = sorted p n (c .knots) (ch .long) (ch .room) (ch .known) (ch .sound-knots); room = ch .room })
 
-  whole-ok : 1 ≤ c .degree → Ok (c .dim) (c .degree) (c .count) (value (start (c .degree) (curve c))) (value (end (curve c))) (curve c)
+  pub whole-ok : 1 ≤ c .degree → Ok (c .dim) (c .degree) (c .count) (value (start (c .degree) (curve c))) (value (end (curve c))) (curve c)
   whole-ok one = record {
     knots = subst (λ (m : ℕ). Knots p m (c .knots)) (sym (points-long c)) (record { long = ch .long; known = ch .known; good = good p n (c .knots) (ch .long) (ch .room) (ch .known) (ch .sound-knots) one });
     small = omega (arith, points-long c);

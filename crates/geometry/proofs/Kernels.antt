@@ -9,6 +9,8 @@ pub mod Flat
 pub mod Walks
 pub mod Widening
 pub mod Fit
+pub mod Handed
+pub mod Answer
 pub mod Plan
 pub mod Run
 pub mod Turns

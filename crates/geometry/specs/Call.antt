@@ -1,10 +1,10 @@
 -- What the caller lends, the refusals 1 to 10 in their order, and what a call gives and leaves. Definitions only.
-use Prim.Native.Nat.{ℕ, zero, suc, _+_, _*_, max}
+use Prim.Native.Nat.{ℕ, zero, suc, _+_, _*_, _<_, max}
 use mathlib.Core.Bool.{Bool, true, cond, _&&_, _||_}
 use mathlib.Core.List.{List, [], _∷_}
 use lib.ListN.{length, getD}
-use lib.Dec.{leb, eqb}
-use lib.Ieee.{Float, nan, lt, le, eq}
+use lib.Dec.{T, leb, eqb}
+use lib.Ieee.{Float, nan, binary64, fits, lt, le, eq}
 use Rattle.lists.specs.Lists.{all, count, cleared}
 use Rattle.math.specs.declared.scalars.Scalar.{Scalar}
 use Rattle.math.specs.Scalars.{Arithmetic, zeroF}
@@ -28,6 +28,11 @@ pub record Call : Type 0 where
   pub nodes : ℕ
   -- the length of the work area
   pub room : ℕ
+
+-- The call of these arguments, with the work area `area`.
+abbrev pub lent : ℕ → ℕ → ℕ → List Float → List Float → List Float → Float → ℕ → List Float → Call
+lent dim degree count knots points box resolution nodes area =
+    record { dim = dim; degree = degree; count = count; knots = knots; points = points; box = box; resolution = resolution; nodes = nodes; room = length area }
 
 -- The curve that is lent.
 abbrev pub curve : Call → Piece
@@ -61,6 +66,10 @@ lengthsFit c =
     eqb (length (c .knots)) (c .count + c .degree + 1)
     && eqb (length (c .points)) (2 * suc (c .dim) * c .count)
     && eqb (length (c .box)) (2 * c .dim)
+
+-- Each number of a list is a double, as every f64 is.
+abbrev pub AllDoubles : List Float → Type 0
+AllDoubles l = (i : ℕ) → i < length l → T (fits binary64 (getD l i nan))
 
 -- A number, and at most 2 ^ 100 in size: what the laws of `Encloses` ask of a knot.
 abbrev pub usable : Float → Bool

@@ -4,8 +4,8 @@ use mathlib.Core.Path.{_≡_}
 use mathlib.Core.Bool.{_&&_}
 use mathlib.Core.List.{List, [], _∷_}
 use lib.Dec.{T}
-use lib.ListN.{length, getD}
-use lib.Ieee.{Float, nan, binary64, le, eq, fits}
+use lib.ListN.{length}
+use lib.Ieee.{Float, le, eq}
 use Rattle.exact.specs.Rational.{ℚ, _*ℚ_, invℚ}
 use Rattle.exact.specs.Spline.{Traced}
 use Rattle.exact.specs.Cut.{Counted}
@@ -15,7 +15,7 @@ use Rattle.geometry.specs.NurbCurve.{Piece, knot, start, end, weighted}
 use Rattle.geometry.specs.Subdivide.{Step, going, over, advance}
 use Rattle.geometry.specs.Contains.{visit, begun}
 use Rattle.geometry.specs.Layout.{scalarAt}
-use Rattle.geometry.specs.Call.{Call, curve, question, refusal, searched}
+use Rattle.geometry.specs.Call.{Call, AllDoubles, curve, question, refusal, searched}
 use Rattle.geometry.specs.declared.contains.Found.{Found}
 use Rattle.geometry.specs.declared.contains.Found.the-variants.{Nothing, Enclosed, Spent, Refused}
 
@@ -50,10 +50,10 @@ pub record HitAt (c : Call) (t : ℚ) : Type 0 where
 
 -- ---- the call and its result
 
--- The knots and the bounds of the box are doubles, as every f64 is. Of the points nothing of the kind is needed.
+-- The knots and the bounds of the box are doubles. Of the points nothing of the kind is needed.
 pub record Doubles (c : Call) : Type 0 where
-  pub knots : (i : ℕ) → i < length (c .knots) → T (fits binary64 (getD (c .knots) i nan))
-  pub box : (i : ℕ) → i < length (c .box) → T (fits binary64 (getD (c .box) i nan))
+  pub knots : AllDoubles (c .knots)
+  pub box : AllDoubles (c .box)
 
 -- "A curve is accepted when its call is refused by no number, or only by 11."
 abbrev pub Accepted : Call → Type 0
@@ -97,9 +97,13 @@ BoundsPlain (Refused n v) = Unit {0}
 
 -- ---- demand 3
 
--- On a completed search of an accepted curve, every exact hit lies between the bounds; and of any call, no bound lies outside the domain, and none is a negative zero.
+-- On a completed search of an accepted curve, every exact hit lies between the bounds.
+abbrev pub HitsEnclosed : Call → Found → Type 0
+HitsEnclosed c r = Accepted c → Completes r → (t : ℚ) → HitAt c t → BoundsHold r t
+
+-- Every exact hit is enclosed; and of any call, no bound lies outside the domain, and none is a negative zero.
 pub record Enclosure (ar : Arithmetic) : Type 0 where
-  pub hits : (c : Call) → Doubles c → Accepted c → Completes (searched ar c) → (t : ℚ) → HitAt c t → BoundsHold (searched ar c) t
+  pub hits : (c : Call) → Doubles c → HitsEnclosed c (searched ar c)
   pub bounds : (c : Call) → Doubles c → BoundsInDomain (curve c) (c .degree) (searched ar c)
   pub zeros : (c : Call) → BoundsPlain (searched ar c)
 

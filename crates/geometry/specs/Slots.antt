@@ -4,9 +4,10 @@ use mathlib.Core.Path.{_≡_}
 use mathlib.Core.Bool.{Bool, true, false}
 use mathlib.Core.Logic.{_⊎_}
 use mathlib.Core.List.{List, [], _∷_, _++_}
+use lib.Dec.{T}
 use lib.ListN.{length, drop, getD}
 use lib.IntN.{pos}
-use lib.Ieee.{Float, nan, ofInt, toUnsigned, binary64}
+use lib.Ieee.{Float, nan, ofInt, toUnsigned, binary64, fits}
 use Rattle.lists.specs.Lists.{part, put}
 use Rattle.math.specs.declared.scalars.Scalar.{Scalar}
 use Rattle.math.specs.Scalars.{geop}
@@ -111,16 +112,28 @@ pub record Held (s : Shape) (l : List Float) (base : ℕ) : Type 0 where
 abbrev pub Apart : Shape → ℕ → ℕ → Type 0
 Apart s a b = (a + slotWords (s .dim) (s .degree) (s .count) ≤ b) ⊎ (b + slotWords (s .dim) (s .degree) (s .count) ≤ a)
 
+-- ---- what can be cut
+
+-- The piece has more points than its degree, and no more than the whole curve.
+pub record Whole (s : Shape) (c : Piece) : Type 0 where
+  pub enough : s .degree < length (c .points)
+  pub bounded : length (c .points) ≤ s .count
+
+-- The parameter t lies strictly inside the domain of the piece c.
+abbrev pub within : ℕ → Piece → Float → Bool
+within p c t = inDomain (start p c) (end c) t
+
+-- A piece that a visit can take: it can be cut, and for a degree of at least 1, what a cut at any double leaves right of it can be cut again.
+pub record Fit (s : Shape) (c : Piece) : Type 0 where
+  pub whole : Whole s c
+  pub again : 1 ≤ s .degree → (t : Float) → T (fits binary64 t) → Whole s (fromBy geop (s .degree) t c (within (s .degree) c t) .piece)
+
 -- ---- what a cut leaves in the memory
 
 -- The cut k is written into the slot at base, and r is the number of the point at which it separates.
 pub record CutAt (s : Shape) (l m : List Float) (base : ℕ) (k : Cut) (r : ℕ) : Type 0 where
   pub memory : m ≡ placed s l base (k .piece)
   pub at : r ≡ k .at
-
--- The parameter t lies strictly inside the domain of the piece c.
-abbrev pub within : ℕ → Piece → Float → Bool
-within p c t = inDomain (start p c) (end c) t
 
 -- The memory m differs from l in the slot at a alone.
 abbrev pub OnlyAt : Shape → List Float → List Float → ℕ → Type 0
@@ -188,8 +201,3 @@ pub record RestrictAt (s : Shape) (l m : List Float) (a : ℕ) (lo hi : Float) (
   pub memory : m ≡ restrictInto s l a lo hi c
   pub held : Holding s m a (restrict geop (s .degree) lo hi c .piece)
   pub others : OnlyAt s l m a
-
--- The piece has enough points to be cut, and no more than the whole curve.
-pub record Whole (s : Shape) (c : Piece) : Type 0 where
-  pub enough : s .degree < length (c .points)
-  pub bounded : length (c .points) ≤ s .count

@@ -1,19 +1,17 @@
 -- How the state of the code is read as the state of the search: what a visit made of its piece, what was reported, and the pieces that wait in the ring. Definitions only.
-use Prim.Native.Nat.{ℕ, suc, _+_, _-_, _≤_, _<_}
+use Prim.Native.Nat.{ℕ, suc, _+_, _-_, _≤_}
 use mathlib.Core.Path.{_≡_}
 use mathlib.Core.Bool.{Bool, true, false}
 use mathlib.Core.List.{List}
 use mathlib.Core.Option.{Option, none, some}
-use lib.ListN.{length}
 use lib.Ieee.{Float}
 use Rattle.lists.specs.Ring.{wrapped}
 use Rattle.math.specs.declared.scalars.Scalar.{Scalar}
 use Rattle.math.specs.Scalars.{geop}
-use Rattle.geometry.specs.NurbCurve.{Piece}
 use Rattle.geometry.specs.Subdivide.{Question, Visit, dropped, reported, restricted, halved, badWeight, State, Step, going, over, joined, advance}
 use Rattle.geometry.specs.Contains.{visit, begun}
 use Rattle.geometry.specs.Enclosure.{Every}
-use Rattle.geometry.specs.Slots.{pieceAt, Held}
+use Rattle.geometry.specs.Slots.{pieceAt, Held, Fit}
 use Rattle.geometry.specs.Waiting.{waiting, Ring, Beside}
 use Rattle.geometry.specs.declared.slots.Shape.{Shape}
 use Rattle.geometry.specs.declared.subdivide.Outcome.{Outcome}
@@ -36,18 +34,18 @@ outcomeOf s l a b Halved = halved (pieceAt s l a) (pieceAt s l b)
 outcomeOf s l a b BadWeight = badWeight
 
 -- The slots of what is handed on hold pieces.
-abbrev pub Holding : Shape → List Float → ℕ → ℕ → Outcome → Type 0
-Holding s l a b Dropped = Unit {0}
-Holding s l a b (Reported t) = Unit {0}
-Holding s l a b (Restricted n) = Held s l a
-Holding s l a b Halved = Held s l a × Held s l b
-Holding s l a b BadWeight = Unit {0}
+abbrev pub HandedOn : Shape → List Float → ℕ → ℕ → Outcome → Type 0
+HandedOn s l a b Dropped = Unit {0}
+HandedOn s l a b (Reported t) = Unit {0}
+HandedOn s l a b (Restricted n) = Held s l a
+HandedOn s l a b Halved = Held s l a × Held s l b
+HandedOn s l a b BadWeight = Unit {0}
 
 -- The visit of the piece c that came out as o: what it is read as, and that it wrote to the slots at a and b alone.
 pub record Visited (see : Visit) (s : Shape) (a b : ℕ) (l m : List Float) (o : Outcome) : Type 0 where
   pub is : outcomeOf s m a b o ≡ see
   pub beside : Beside s a b l m
-  pub holding : Holding s m a b o
+  pub holding : HandedOn s m a b o
 
 -- How many pieces a visit hands on.
 unfoldable pub handed : Outcome → ℕ
@@ -85,11 +83,6 @@ pub record Next (cap : ℕ) (x : Search) (o : Outcome) (y : Search) : Type 0 whe
   pub found : foundOf (y .found) ≡ heard (foundOf (x .found)) o
 
 -- ---- what a search over the ring begins with
-
--- A piece that a visit can take: more points than its degree, and no more than the whole curve.
-pub record Fit (s : Shape) (c : Piece) : Type 0 where
-  pub low : s .degree < length (c .points)
-  pub high : length (c .points) ≤ s .count
 
 -- Where a search stands, every piece that waits is such a piece.
 abbrev pub AllFit : Shape → Step → Type 0

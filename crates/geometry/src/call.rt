@@ -4,17 +4,18 @@ use crate::nurb_curve::weighted;
 ghost use mathlib.Core.Path.{_≡_};
 ghost use Prim.Native.Nat.{suc, max, _+_, _*_, _≤_, _<_};
 ghost use lib.ListN.{length};
-ghost use lib.Dec.{leb, eqb};
-ghost use lib.Ieee.{lt, le, eq};
-ghost use mathlib.Core.Bool.{_&&_, _||_};
+ghost use lib.Dec.{T, leb, eqb};
+ghost use lib.Ieee.{binary64, fits, lt, le, eq};
+ghost use mathlib.Core.Bool.{true, _&&_, _||_};
 ghost use Rattle.lists.specs.Lists.{all};
 ghost use Rattle.math.specs.Scalars.{zeroF};
 ghost use Rattle.geometry.specs.Layout.{scalarsOf, slotWords};
-ghost use Rattle.geometry.specs.Call.{usable, ordered, rising, seldom, sound, refusal};
+ghost use Rattle.geometry.specs.Call.{AllDoubles, usable, ordered, rising, seldom, sound, refusal};
 
 // A number, and at most 2^100 in size.
 fn usable(x: f64) -> bool
-    ensures { λ r. ⌜ r ≡ usable x ⌝ }
+    ensures equal { λ r. ⌜ r ≡ usable x ⌝ }
+    ensures double { λ _. ⌜ T (fits binary64 x) ⌝ }
 {
     let most = f64::from_bits(0x4630_0000_0000_0000);
     -most <= x && x <= most
@@ -22,7 +23,8 @@ fn usable(x: f64) -> bool
 
 // Every number of a list is usable.
 fn all_usable(l: &[f64]) -> bool
-    ensures { λ r. ⌜ r ≡ all usable (now (l .entry)) ⌝ }
+    ensures equal { λ r. ⌜ r ≡ all usable (now (l .entry)) ⌝ }
+    ensures doubles { λ r. ⌜ (r ≡ true → AllDoubles (now (l .entry))) ⌝ }
 {
     let mut i = 0;
     while i < l.len() {
@@ -168,7 +170,8 @@ fn lengths_fit(
 
 // Check 5: every number is usable, and the resolution is not below 0.
 fn numbers_usable(knots: &[f64], points: &[f64], point_box: &[f64], resolution: f64) -> bool
-    ensures { λ r. ⌜ r ≡ all usable (now (knots .entry)) && all usable (now (points .entry)) && all usable (now («point_box» .entry)) && usable resolution && le zeroF resolution ⌝ }
+    ensures equal { λ r. ⌜ r ≡ all usable (now (knots .entry)) && all usable (now (points .entry)) && all usable (now («point_box» .entry)) && usable resolution && le zeroF resolution ⌝ }
+    ensures doubles { λ r. ⌜ (r ≡ true → AllDoubles (now (knots .entry)) × AllDoubles (now («point_box» .entry))) ⌝ }
 {
     if !all_usable(knots) {
         return false;
@@ -216,7 +219,8 @@ pub(crate) fn refusal(
     nodes: usize,
     room: usize,
 ) -> usize
-    ensures { λ r. ⌜ r ≡ refusal (record { dim = dim; degree = degree; count = count; knots = now (knots .entry); points = now (points .entry); box = now («point_box» .entry); resolution = resolution; nodes = nodes; room = room }) ⌝ }
+    ensures equal { λ r. ⌜ r ≡ refusal (record { dim = dim; degree = degree; count = count; knots = now (knots .entry); points = now (points .entry); box = now («point_box» .entry); resolution = resolution; nodes = nodes; room = room }) ⌝ }
+    ensures doubles { λ r. ⌜ (r ≡ 0 → AllDoubles (now (knots .entry)) × AllDoubles (now («point_box» .entry))) ⌝ }
 {
     if !dim_fits(dim) {
         return 1;

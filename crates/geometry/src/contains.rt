@@ -1,6 +1,9 @@
 // contains/curve.rs: the search for the parameters at which a curve passes through a box.
 
 use crate::aabb::aabb_could_overlap;
+use crate::aabb::curve_could_meet_aabb;
+use crate::call::refusal;
+use crate::call::slot_words;
 use crate::fat_line::Greville;
 use crate::fat_line::Hat;
 use crate::fat_line::bisects;
@@ -13,24 +16,37 @@ use crate::nurb_curve::scalar_at;
 use crate::nurb_curve::weighted;
 use crate::slots::Shape;
 use crate::slots::count_at;
+use crate::slots::fill;
 use crate::slots::knots_in;
+use crate::slots::load;
 use crate::slots::points_in;
+use crate::split::restrict;
+use crate::split::split_mid;
+use crate::subdivide::Outcome;
 use crate::subdivide::Reports;
+use crate::subdivide::Search;
+use crate::subdivide::after_visit;
+use crate::subdivide::is_bad;
+use crate::subdivide::wrap;
 use math::scalars::Scalar;
 ghost use mathlib.Core.Path.{_≡_};
 ghost use mathlib.Core.Bool.{true, _&&_};
-ghost use Prim.Native.Nat.{suc, _+_, _*_, _≤_, _<_};
-ghost use lib.ListN.{length};
+ghost use Prim.Native.Nat.{ℕ, suc, _+_, _*_, _≤_, _<_};
+ghost use lib.ListN.{length, drop};
 ghost use lib.Ieee.{lt};
 ghost use Rattle.lists.specs.Lists.{put};
 ghost use Rattle.math.specs.Scalars.{geop, zeroF, mulS, isSame};
-ghost use Rattle.geometry.specs.Layout.{scalarAt, scalarsOf, pointsOf, flat};
+ghost use Rattle.geometry.specs.Layout.{scalarAt, scalarsOf, pointsOf, flat, slotWords};
 ghost use Rattle.geometry.specs.NurbCurve.{domain, weighted};
 ghost use Rattle.geometry.specs.FatLine.{fatLineZeros};
-ghost use Rattle.geometry.specs.Contains.{axis, narrowed, clip};
-ghost use Rattle.geometry.specs.Subdivide.{plain, complete};
-ghost use Rattle.geometry.specs.Slots.{countAt, pieceAt, Held};
-ghost use Rattle.geometry.specs.Turns.{foundOf, Fit};
+ghost use Rattle.geometry.specs.Split.{splitMid, restrict};
+ghost use Rattle.geometry.specs.Contains.{axis, narrowed, clip, handOn, handBoth, visit, begun};
+ghost use Rattle.geometry.specs.Subdivide.{plain, complete, advance, answered};
+ghost use Rattle.geometry.specs.Slots.{pieceAt, Inside, Held, Apart, Whole, Fit};
+ghost use Rattle.geometry.specs.Waiting.{baseOf, ringBase, Ring};
+ghost use Rattle.geometry.specs.Call.{AllDoubles, curve, lent, searched, areaAfter};
+ghost use Rattle.geometry.specs.Enclosure.{Accepted, HitsEnclosed, BoundsInDomain, BoundsPlain};
+ghost use Rattle.geometry.specs.Turns.{foundOf, Visited, Begins};
 ghost use Rattle.geometry.specs.Plan.{planHat, planClip, planned};
 ghost use Rattle.geometry.specs.FatLine.{greville};
 
@@ -271,7 +287,7 @@ fn plan_in(work: &[f64], base: usize, s: Shape, point_box: &[f64], resolution: f
 
 // Every weight of the piece in the slot at base has its lo above zero.
 fn weighted_in(work: &[f64], base: usize, s: Shape) -> bool
-    requires { ⌜ Held s (now work) base × (countAt (now work) base ≤ 32) ⌝ }
+    requires { ⌜ Held s (now work) base ⌝ }
     ensures { λ r. ⌜ r ≡ weighted (s .dim) (pieceAt s (now (work .entry)) base .points) ⌝ }
 {
     let n = count_at(work, base);
@@ -295,4 +311,181 @@ fn completed(f: Reports, visited: usize) -> Found
         Reports::Silent => Found::Nothing(visited),
         Reports::Union(t) => Found::Enclosed(plain(t.lo), plain(t.hi), visited),
     }
+}
+
+// ---- the visit
+
+// The piece in the slot at base is cut down to its hat, and handed on in the slot at a.
+fn hand_on(work: &mut [f64], base: usize, a: usize, s: Shape, hat: Scalar) -> Outcome
+    requires { ⌜ Held s (now work) base × Fit s (pieceAt s (now work) base) × Inside s (now work) a × Apart s base a × (1 ≤ s .degree) ⌝ }
+    ensures { λ r. ⌜ ((b : ℕ) → Visited (handOn (s .dim) (restrict geop (s .degree) (hat .lo) (hat .hi) (pieceAt s (now (work .entry)) base))) s a b (now (work .entry)) (now (work .exit)) r) ⌝ }
+{
+    let cuts = restrict(work, base, a, s, hat.lo, hat.hi);
+    if !weighted_in(work, a, s) {
+        return Outcome::BadWeight;
+    }
+    Outcome::Restricted(cuts)
+}
+
+// The piece in the slot at base is cut in two, and the halves are handed on in the slots at a and b. Where there is no cut the hat is reported.
+fn hand_both(work: &mut [f64], base: usize, a: usize, b: usize, s: Shape, hat: Scalar) -> Outcome
+    requires { ⌜ Held s (now work) base × Whole s (pieceAt s (now work) base) × Inside s (now work) a × Inside s (now work) b ⌝ }
+    requires { ⌜ Apart s base a × Apart s base b × Apart s a b ⌝ }
+    ensures { λ r. ⌜ Visited (handBoth (s .dim) hat (splitMid geop (s .degree) (pieceAt s (now (work .entry)) base))) s a b (now (work .entry)) (now (work .exit)) r ⌝ }
+{
+    if !split_mid(work, base, a, b, s) {
+        return Outcome::Reported(hat);
+    }
+    if !weighted_in(work, a, s) {
+        return Outcome::BadWeight;
+    }
+    if !weighted_in(work, b, s) {
+        return Outcome::BadWeight;
+    }
+    Outcome::Halved
+}
+
+// The visit of the piece in the slot at base. What it hands on stands in the slots at a and b.
+fn visit(
+    work: &mut [f64],
+    base: usize,
+    a: usize,
+    b: usize,
+    s: Shape,
+    point_box: &[f64],
+    resolution: f64,
+) -> Outcome
+    requires { ⌜ Held s (now work) base × Fit s (pieceAt s (now work) base) × (2 * s .dim ≤ length (now «point_box»)) ⌝ }
+    requires { ⌜ Inside s (now work) a × Inside s (now work) b × Apart s base a × Apart s base b × Apart s a b ⌝ }
+    ensures { λ r. ⌜ Visited (visit geop (record { dim = s .dim; degree = s .degree; box = scalarsOf (s .dim) (now («point_box» .entry)); resolution = resolution; nodes = 0 }) (pieceAt s (now (work .entry)) base)) s a b (now (work .entry)) (now (work .exit)) r ⌝ }
+{
+    match plan_in(work, base, s, point_box, resolution) {
+        Plan::Skip => Outcome::Dropped,
+        Plan::Report(t) => Outcome::Reported(t),
+        Plan::Restrict(hat) => hand_on(work, base, a, s, hat),
+        Plan::Halve(hat) => hand_both(work, base, a, b, s, hat),
+    }
+}
+
+// ---- the search
+
+// The visit of the first piece that waits, where w is the words of a slot.
+fn turn(
+    work: &mut [f64],
+    q: Search,
+    s: Shape,
+    point_box: &[f64],
+    resolution: f64,
+    cap: usize,
+    w: usize,
+) -> Outcome
+    requires { ⌜ Ring s (now work) cap (q .head) (q .count) × (1 ≤ q .count) × (q .count + 1 < cap) × (cap ≤ 0x1000_0000) ⌝ }
+    requires { ⌜ (w ≡ slotWords (s .dim) (s .degree) (s .count)) × Fit s (pieceAt s (now work) (baseOf s (q .head))) × (2 * s .dim ≤ length (now «point_box»)) ⌝ }
+    ensures { λ r. ⌜ Visited (visit geop (record { dim = s .dim; degree = s .degree; box = scalarsOf (s .dim) (now («point_box» .entry)); resolution = resolution; nodes = 0 }) (pieceAt s (now (work .entry)) (baseOf s (q .head)))) s (ringBase s cap (q .head) (q .count)) (ringBase s cap (q .head) (q .count + 1)) (now (work .entry)) (now (work .exit)) r ⌝ }
+{
+    let head = q.head;
+    let count = q.count;
+    let a = wrap(head + count, cap) * w;
+    let b = wrap(head + (count + 1), cap) * w;
+    visit(work, head * w, a, b, s, point_box, resolution)
+}
+
+// The search of the piece in slot 0, over a ring of nodes + 3 slots.
+fn run(work: &mut [f64], s: Shape, point_box: &[f64], resolution: f64, nodes: usize) -> Found
+    requires { ⌜ Begins s (record { dim = s .dim; degree = s .degree; box = scalarsOf (s .dim) (now «point_box»); resolution = resolution; nodes = nodes }) (now work) × (2 * s .dim ≤ length (now «point_box»)) ⌝ }
+    ensures found { λ r. ⌜ r ≡ answered (advance (visit geop (record { dim = s .dim; degree = s .degree; box = scalarsOf (s .dim) (now («point_box» .entry)); resolution = resolution; nodes = nodes })) nodes nodes (begun (pieceAt s (now (work .entry)) 0))) ⌝ }
+    ensures rest { λ _. ⌜ drop ((nodes + 3) * slotWords (s .dim) (s .degree) (s .count)) (now (work .exit)) ≡ drop ((nodes + 3) * slotWords (s .dim) (s .degree) (s .count)) (now (work .entry)) ⌝ }
+{
+    let w = slot_words(s.dim, s.degree, s.count);
+    let cap = nodes + 3;
+    let mut q = Search {
+        head: 0,
+        count: 1,
+        visited: 0,
+        found: Reports::Silent,
+    };
+    while 0 < q.count {
+        if q.visited == nodes {
+            return Found::Spent(q.count, q.visited);
+        }
+        let o = turn(work, q, s, point_box, resolution, cap, w);
+        if is_bad(o) {
+            return Found::Refused(11, q.visited + 1);
+        }
+        q = after_visit(q, o, cap);
+    }
+    let f = q.found;
+    completed(f, q.visited)
+}
+
+// The search of a call that nothing is wrong with. The stated words of the work area are 0 at its end.
+fn answer(
+    dim: usize,
+    degree: usize,
+    count: usize,
+    knots: &[f64],
+    points: &[f64],
+    point_box: &[f64],
+    resolution: f64,
+    nodes: usize,
+    work: &mut [f64],
+) -> Found
+    requires { ⌜ Accepted (lent dim degree count (now knots) (now points) (now «point_box») resolution nodes (now work)) × AllDoubles (now knots) × AllDoubles (now «point_box») ⌝ }
+    ensures { λ r. ⌜ r ≡ searched geop (lent dim degree count (now (knots .entry)) (now (points .entry)) (now («point_box» .entry)) resolution nodes (now (work .entry))) ⌝ }
+    ensures { λ _. ⌜ now (work .exit) ≡ areaAfter (lent dim degree count (now (knots .entry)) (now (points .entry)) (now («point_box» .entry)) resolution nodes (now (work .entry))) (now (work .entry)) ⌝ }
+{
+    let words = (nodes + 3) * slot_words(dim, degree, count);
+    if !curve_could_meet_aabb(points, point_box, dim, degree, count) {
+        fill(work, 0, words, 0.0);
+        return Found::Nothing(0);
+    }
+    let s = Shape { dim, degree, count };
+    load(work, 0, s, knots, points);
+    let r = run(work, s, point_box, resolution, nodes);
+    fill(work, 0, words, 0.0);
+    r
+}
+
+// Where the curve passes through the box.
+pub fn curve_could_contain(
+    dim: usize,
+    degree: usize,
+    count: usize,
+    knots: &[f64],
+    points: &[f64],
+    point_box: &[f64],
+    resolution: f64,
+    nodes: usize,
+    work: &mut [f64],
+) -> Found
+    ensures result { λ r. ⌜ r ≡ searched geop (lent dim degree count (now (knots .entry)) (now (points .entry)) (now («point_box» .entry)) resolution nodes (now (work .entry))) ⌝ }
+    ensures memory { λ _. ⌜ now (work .exit) ≡ areaAfter (lent dim degree count (now (knots .entry)) (now (points .entry)) (now («point_box» .entry)) resolution nodes (now (work .entry))) (now (work .entry)) ⌝ }
+    ensures encloses { λ r. ⌜ HitsEnclosed (lent dim degree count (now (knots .entry)) (now (points .entry)) (now («point_box» .entry)) resolution nodes (now (work .entry))) r ⌝ }
+    ensures within { λ r. ⌜ BoundsInDomain (curve (lent dim degree count (now (knots .entry)) (now (points .entry)) (now («point_box» .entry)) resolution nodes (now (work .entry)))) degree r × BoundsPlain r ⌝ }
+{
+    let number = refusal(
+        dim,
+        degree,
+        count,
+        knots,
+        points,
+        point_box,
+        resolution,
+        nodes,
+        work.len(),
+    );
+    if number != 0 {
+        return Found::Refused(number as u64, 0);
+    }
+    answer(
+        dim,
+        degree,
+        count,
+        knots,
+        points,
+        point_box,
+        resolution,
+        nodes,
+        work,
+    )
 }

@@ -23,7 +23,7 @@ pub(crate) fn scalar_at(l: &[f64], j: usize) -> Scalar
 
 // Interval number k of point i, of dim + 1 intervals; the weight is number dim.
 pub(crate) fn coordinate(points: &[f64], dim: usize, i: usize, k: usize) -> Scalar
-    requires { ⌜ (dim ≤ 3) × (i < 32) × (k ≤ dim) × (2 * (suc dim * suc i) ≤ length (now points)) ⌝ }
+    requires { ⌜ (dim ≤ 3) × (i < 64) × (k ≤ dim) × (2 * (suc dim * suc i) ≤ length (now points)) ⌝ }
     ensures { λ r. ⌜ r ≡ coordinate (pointAt (suc dim) (now (points .entry)) i) k ⌝ }
 {
     scalar_at(points, (dim + 1) * i + k)
@@ -63,7 +63,7 @@ pub(crate) fn mid_parameter(a: f64, b: f64) -> f64
 
 // Every point's weight has its lo above zero.
 pub(crate) fn weighted(points: &[f64], dim: usize, count: usize) -> bool
-    requires { ⌜ (dim ≤ 3) × (count ≤ 32) × (2 * (suc dim * count) ≤ length (now points)) ⌝ }
+    requires { ⌜ (dim ≤ 3) × (count ≤ 64) × (2 * (suc dim * count) ≤ length (now points)) ⌝ }
     ensures { λ r. ⌜ r ≡ weighted dim (pointsOf (suc dim) count (now (points .entry))) ⌝ }
 {
     let mut i = 0;

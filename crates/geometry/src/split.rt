@@ -6,10 +6,10 @@ use crate::slots::copy_right;
 use crate::slots::count_at;
 use crate::slots::keep_left;
 ghost use mathlib.Core.Path.{_≡_};
+ghost use Prim.Native.Nat.{_≤_};
 ghost use Rattle.math.specs.Scalars.{geop};
 ghost use Rattle.geometry.specs.NurbCurve.{start, end, midParameter};
-ghost use Rattle.geometry.specs.Split.{fromBy};
-ghost use Rattle.geometry.specs.Slots.{pieceAt, Inside, Held, Apart, Whole, within, SplitAt, FromAt, UpToAt, RestrictAt};
+ghost use Rattle.geometry.specs.Slots.{pieceAt, Inside, Held, Apart, Whole, Fit, within, SplitAt, FromAt, UpToAt, RestrictAt};
 
 // The parameter t lies strictly inside the domain of the piece in the slot at base.
 pub(crate) fn in_domain(work: &[f64], base: usize, s: Shape, t: f64) -> bool
@@ -84,8 +84,7 @@ fn cut_up_to(work: &mut [f64], base: usize, s: Shape, t: f64) -> usize
 
 // The piece in the slot at src, cut down to lo and hi in the slot at to. The result is the number of cuts.
 pub(crate) fn restrict(work: &mut [f64], src: usize, to: usize, s: Shape, lo: f64, hi: f64) -> usize
-    requires { ⌜ Held s (now work) src × Whole s (pieceAt s (now work) src) × Inside s (now work) to × Apart s src to ⌝ }
-    requires { ⌜ Whole s (fromBy geop (s .degree) lo (pieceAt s (now work) src) (within (s .degree) (pieceAt s (now work) src) lo) .piece) ⌝ }
+    requires { ⌜ Held s (now work) src × Fit s (pieceAt s (now work) src) × Inside s (now work) to × Apart s src to × (1 ≤ s .degree) ⌝ }
     ensures { λ r. ⌜ RestrictAt s (now (work .entry)) (now (work .exit)) to lo hi (pieceAt s (now (work .entry)) src) r ⌝ }
 {
     copy_right(work, src, to, s, 0);

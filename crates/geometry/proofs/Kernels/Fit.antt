@@ -1,4 +1,4 @@
--- Every piece that the search of an accepted call comes to can be visited: it has more points than its degree, and no more than the curve. Leans on Enclosure.antt.
+-- Every piece that the search of an accepted call comes to can be visited. Leans on Enclosure.antt.
 use mathlib.Core.Path.{_≡_, refl, sym, ap, _∙_, subst}
 use mathlib.Core.List.{List, [], _∷_}
 use mathlib.Core.Option.{Option, none}
@@ -6,23 +6,27 @@ use Prim.Native.Nat.{ℕ, zero, suc, _+_, _≤_, _<_}
 use native.Mathlib.Omega.{arith}
 use lib.ListN.{length}
 use lib.Ieee.{Float}
+use Rattle.exact.specs.Rational.{ℚ}
 use Rattle.math.specs.declared.scalars.Scalar.{Scalar}
 use Rattle.math.specs.Scalars.{Arithmetic, geop, unionS}
+use Rattle.math.specs.Values.{value}
 use Rattle.math.proofs.Bools.{pick}
-use Rattle.geometry.specs.NurbCurve.{Piece}
+use Rattle.math.proofs.Intervals.Instance.{geop-encloses}
+use Rattle.geometry.specs.NurbCurve.{Piece, start, end}
 use Rattle.geometry.specs.Aabb.{aabb, couldOverlap}
 use Rattle.geometry.specs.FatLine.{greville}
 use Rattle.geometry.specs.Subdivide.{Question, Visit, dropped, Step, going, over, advance}
 use Rattle.geometry.specs.Contains.{clipped, visit, begun}
 use Rattle.geometry.specs.Call.{Call, curve, question}
-use Rattle.geometry.specs.Enclosure.{Doubles, Accepted, Every, PieceOf, PiecesKept}
-use Rattle.geometry.specs.Slots.{pieceAt}
-use Rattle.geometry.specs.Waiting.{Ring}
-use Rattle.geometry.specs.Turns.{Fit, AllFit, Begins}
+use Rattle.geometry.specs.Enclosure.{Doubles, Accepted, Every}
+use Rattle.geometry.specs.Slots.{within, Whole, Fit}
+use Rattle.geometry.specs.Turns.{AllFit}
 use Rattle.geometry.specs.declared.slots.Shape.{Shape}
 use Rattle.geometry.proofs.Sound.Search.{Fine, Ready, Stands, stands}
-use Rattle.geometry.proofs.Sound.Accepted.{Checked, checked}
-use Rattle.geometry.proofs.Enclosure.{geop-pieces}
+use Rattle.geometry.proofs.Sound.Accepted.{checked}
+use Rattle.geometry.proofs.Sound.Restrict.{Sub, sub-self, from-sub, strict}
+use Rattle.geometry.proofs.Sound.Visits.{Inner, inner-union, Ok, visit-fine}
+use Rattle.geometry.proofs.Enclosure.{whole-ok}
 use Rattle.geometry.proofs.Memory.Numbers.{length-points}
 
 -- ---- degree 0: no piece is handed on
@@ -50,29 +54,48 @@ module _ (c : Call) (d : Doubles c) (acc : Accepted c) where
   abbrev pub shapeOf : Shape
   shapeOf = record { dim = c .dim; degree = c .degree; count = c .count }
 
-  ch : Checked c
-  ch = checked c d acc
+  -- The ends of its domain.
+  abbrev a : ℚ
+  a = value (start (c .degree) (curve c))
 
-  whole-fit : Fit shapeOf (curve c)
-  whole-fit = let e : length (curve c .points) ≡ c .count = length-points (suc (c .dim)) (c .count) (c .points) in record { low = omega (arith, e, ch .room); high = omega (arith, e) }
+  abbrev b : ℚ
+  b = value (end (curve c))
 
-  every-fit : (l : List Piece) → Every (PieceOf c) l → Every (Fit shapeOf) l
+  -- a piece of an accepted one can be cut
+  sub-whole : (s r : Piece) → length (s .points) ≤ c .count → Sub (c .degree) s r → Whole shapeOf r
+  sub-whole s r n h = record { enough = h .knots .good .room; bounded = omega (arith, n, h .small) }
+
+  ok-fit : (s : Piece) → Ok (c .dim) (c .degree) (c .count) a b s → Fit shapeOf s
+  ok-fit s k = record {
+    whole = sub-whole s s (k .small) (sub-self (c .degree) s (k .knots));
+    again = λ _ t f. sub-whole s _ (k .small) (from-sub geop geop-encloses (c .degree) s t (k .knots) (within (c .degree) s t) (strict (c .degree) s t (k .knots) f));
+  }
+
+  whole-fit : c .degree ≡ 0 → Fit shapeOf (curve c)
+  whole-fit z =
+      let e : length (curve c .points) ≡ c .count = length-points (suc (c .dim)) (c .count) (c .points) in
+      record { whole = record { enough = omega (arith, e, checked c d acc .room); bounded = omega (arith, e) }; again = λ one. absurd (omega (arith, z, one)) }
+
+  every-fit : (l : List Piece) → Every (Ok (c .dim) (c .degree) (c .count) a b) l → Every (Fit shapeOf) l
   every-fit [] h = tt
-  every-fit (s ∷ l) h = (record { low = h .0 .knots .room; high = h .0 .small }, every-fit l (h .1))
-
-  kept-fit : (z : Step) → PiecesKept c z → AllFit shapeOf z
-  kept-fit (going s) h = every-fit (s .queue) h
-  kept-fit (over r) h = tt
+  every-fit (s ∷ l) h = (ok-fit s (h .0), every-fit l (h .1))
 
   -- EVERY PIECE CAN BE VISITED
   pub all-fit : (k : ℕ) → AllFit shapeOf (advance (visit geop (question c)) (c .nodes) k (begun (curve c)))
   all-fit k = go (c .degree) refl
     where
       go : (m : ℕ) → c .degree ≡ m → AllFit shapeOf (advance (visit geop (question c)) (c .nodes) k (begun (curve c)))
-      go (suc m) e = kept-fit (advance (visit geop (question c)) (c .nodes) k (begun (curve c))) (geop-pieces .kept c d acc (omega (arith, e)) k)
+      go (suc m) e =
+          by (advance (visit geop (question c)) (c .nodes) k (begun (curve c)))
+          (stands (visit geop (question c)) (c .nodes) (Inner a b) (Ok (c .dim) (c .degree) (c .count) a b) (inner-union a b) (visit-fine geop geop-encloses (question c) (c .count) a b) k (begun (curve c))
+          (record { pieces = (whole-ok c d acc (omega (arith, e)), tt); inside = tt }))
+        where
+          by : (z : Step) → Stands (visit geop (question c)) (c .nodes) (Inner a b) (Ok (c .dim) (c .degree) (c .count) a b) (inner-union a b) (visit-fine geop geop-encloses (question c) (c .count) a b) z → AllFit shapeOf z
+          by (going s) h = every-fit (s .queue) (h .pieces)
+          by (over r) h = tt
       go zero e =
           by (advance (visit geop (question c)) (c .nodes) k (begun (curve c)))
-          (stands (visit geop (question c)) (c .nodes) (λ t. Unit {0}) (Fit shapeOf) (λ s t h g. tt) (visit-flat geop (question c) (Fit shapeOf) e) k (begun (curve c)) (record { pieces = (whole-fit, tt); inside = tt }))
+          (stands (visit geop (question c)) (c .nodes) (λ t. Unit {0}) (Fit shapeOf) (λ s t h g. tt) (visit-flat geop (question c) (Fit shapeOf) e) k (begun (curve c)) (record { pieces = (whole-fit e, tt); inside = tt }))
         where
           by : (z : Step) → Stands (visit geop (question c)) (c .nodes) (λ t. Unit {0}) (Fit shapeOf) (λ s t h g. tt) (visit-flat geop (question c) (Fit shapeOf) e) z → AllFit shapeOf z
           by (going s) h = h .pieces

@@ -17,9 +17,9 @@ use Rattle.geometry.specs.Layout.{slotWords}
 use Rattle.geometry.specs.Subdivide.{Question, Visit, State, Step, going, over, complete, ended, step, advance, answered}
 use Rattle.geometry.specs.Contains.{visit, begun}
 use Rattle.geometry.specs.Enclosure.{Every}
-use Rattle.geometry.specs.Slots.{pieceAt, Held, countAt}
+use Rattle.geometry.specs.Slots.{pieceAt, Held, countAt, Fit}
 use Rattle.geometry.specs.Waiting.{baseOf, ringBase, waiting, Ring}
-use Rattle.geometry.specs.Turns.{foundOf, stateOf, isBad, Next, Visited, Fit, AllFit, Begins}
+use Rattle.geometry.specs.Turns.{foundOf, stateOf, isBad, Next, Visited, AllFit, Begins}
 use Rattle.geometry.specs.declared.contains.Found.{Found}
 use Rattle.geometry.specs.declared.contains.Found.the-variants.{Spent, Refused}
 use Rattle.geometry.specs.declared.slots.Shape.{Shape}
@@ -29,7 +29,15 @@ use Rattle.geometry.specs.declared.subdivide.Search.{Search}
 use Rattle.geometry.proofs.Pause.{ends, once, fails, waits}
 use Rattle.geometry.proofs.Memory.Piece.{count-points}
 use Rattle.geometry.proofs.Memory.Ring.{length-waiting, waiting-none, waiting-pop, head-held}
+use Rattle.geometry.proofs.Kernels.Plan.{visit-nodes}
 use Rattle.geometry.proofs.Kernels.Turns.{Turn, turn-on, turn-bad, turn-behind}
+
+-- ---- a visit does not look at the nodes
+
+pub turned : (s : Shape) (box : List Scalar) (resolution : Float) (nodes : ℕ) (c : Piece) (a b : ℕ) (l m : List Float) (o : Outcome)
+    → Visited (visit geop (record { dim = s .dim; degree = s .degree; box = box; resolution = resolution; nodes = 0 }) c) s a b l m o
+    → Visited (visit geop (record { dim = s .dim; degree = s .degree; box = box; resolution = resolution; nodes = nodes }) c) s a b l m o
+turned s box resolution nodes c a b l m o h = subst (λ (v : Visit). Visited v s a b l m o) (visit-nodes geop (s .dim) (s .degree) box resolution 0 nodes c) h
 
 -- ---- whether it is over
 

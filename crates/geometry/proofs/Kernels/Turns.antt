@@ -14,9 +14,9 @@ use Rattle.math.proofs.Bools.{yes, no}
 use Rattle.geometry.specs.NurbCurve.{Piece}
 use Rattle.geometry.specs.Layout.{slotWords}
 use Rattle.geometry.specs.Subdivide.{Visit, State, Step, going, over, after, step}
-use Rattle.geometry.specs.Slots.{pieceAt, Inside, Held, Apart}
+use Rattle.geometry.specs.Slots.{pieceAt, Inside, Held, Apart, Fit}
 use Rattle.geometry.specs.Waiting.{baseOf, ringBase, waiting, Ring, Beside}
-use Rattle.geometry.specs.Turns.{foundOf, outcomeOf, Holding, Visited, handed, heard, isBad, stateOf, Next, Fit}
+use Rattle.geometry.specs.Turns.{foundOf, outcomeOf, HandedOn, Visited, handed, heard, isBad, stateOf, Next}
 use Rattle.geometry.specs.declared.contains.Found.the-variants.{Refused}
 use Rattle.geometry.specs.declared.slots.Shape.{Shape}
 use Rattle.geometry.specs.declared.subdivide.Outcome.{Outcome}
@@ -45,7 +45,7 @@ module _ (s : Shape) (l m : List Float) (cap h n : ℕ) (r : Ring s l cap h n) (
 
   module _ (d : Beside s (ringBase s cap h n) (ringBase s cap h (n + 1)) l m) where
     -- the ring that is left
-    ring-after : (o : Outcome) → Holding s m (ringBase s cap h n) (ringBase s cap h (n + 1)) o → Ring s m cap h (n + handed o)
+    ring-after : (o : Outcome) → HandedOn s m (ringBase s cap h n) (ringBase s cap h (n + 1)) o → Ring s m cap h (n + handed o)
     unfolding handed
     ring-after Dropped k = rw (add-zero n) (ring-none s l m cap h n r room d)
     ring-after (Reported t) k = rw (add-zero n) (ring-none s l m cap h n r room d)
@@ -58,7 +58,7 @@ module _ (s : Shape) (l m : List Float) (cap h n : ℕ) (r : Ring s l cap h n) (
     left v f o = record { queue = waiting s m cap h (n + handed o); visited = v; found = heard f o }
 
     -- and what waits in it
-    after-goes : (v : ℕ) (f : Option Scalar) (o : Outcome) → isBad o ≡ false → Holding s m (ringBase s cap h n) (ringBase s cap h (n + 1)) o
+    after-goes : (v : ℕ) (f : Option Scalar) (o : Outcome) → isBad o ≡ false → HandedOn s m (ringBase s cap h n) (ringBase s cap h (n + 1)) o
         → after (waiting s l cap h n) v f (outcomeOf s m (ringBase s cap h n) (ringBase s cap h (n + 1)) o) ≡ going (left v f o)
     unfolding after outcomeOf handed heard isBad
     after-goes v f Dropped e k = rw (add-zero n) (ap (λ (q : List Piece). going (record { queue = q; visited = v; found = f })) (sym (push-none s l m cap h n r room d)))

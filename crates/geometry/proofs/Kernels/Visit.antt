@@ -10,17 +10,13 @@ use Rattle.math.specs.declared.scalars.Scalar.{Scalar}
 use Rattle.math.specs.Scalars.{geop}
 use Rattle.geometry.specs.NurbCurve.{Piece}
 use Rattle.geometry.specs.Layout.{pointsOf}
-use Rattle.geometry.specs.Slots.{countAt, numbers, pieceAt, Sized, Held}
-use Rattle.geometry.specs.Turns.{Fit}
+use Rattle.geometry.specs.Slots.{countAt, numbers, pieceAt, Sized, Held, Whole}
 use Rattle.geometry.specs.declared.slots.Shape.{Shape}
 use Rattle.geometry.proofs.Memory.Numbers.{length-numbers, points-numbers}
 use Rattle.geometry.proofs.Memory.Piece.{count-points, fits-piece}
+use Rattle.geometry.proofs.Memory.Splits.{whole-count}
 
 module _ (s : Shape) (l : List Float) (base : ℕ) (h : Held s l base) where
-  -- how many points a slot's piece has that can be visited
-  pub fit-count : Fit s (pieceAt s l base) → (s .degree < countAt l base) × (countAt l base ≤ s .count)
-  fit-count f = (omega (arith, f .low, count-points s l base h), omega (arith, f .high, count-points s l base h))
-
   module _ (n : ℕ) (N : n ≡ countAt l base) (ps : List Float) (P : ps ≡ numbers (pieceAt s l base .points)) where
     pub points-back : pointsOf (suc (s .dim)) n ps ≡ pieceAt s l base .points
     points-back =
@@ -43,5 +39,5 @@ module _ (s : Shape) (l : List Float) (base : ℕ) (h : Held s l base) where
       piece-back = λ i. record { knots = K i; points = points-back i }
 
       -- what a visit asks of a piece
-      pub visit-asks : Fit s (pieceAt s l base) → (s .dim ≤ 3) × (1 ≤ n) × (n ≤ 32) × (s .degree ≤ 7)
-      visit-asks f = (h .inside .sized .dim, omega (arith, N, fit-count f .0), omega (arith, N, fit-count f .1, h .inside .sized .count), h .inside .sized .degree)
+      pub visit-asks : Whole s (pieceAt s l base) → (s .dim ≤ 3) × (1 ≤ n) × (n ≤ 32) × (s .degree ≤ 7)
+      visit-asks w = let k = whole-count s l base h w in (h .inside .sized .dim, omega (arith, N, k .0), omega (arith, N, k .1, h .inside .sized .count), h .inside .sized .degree)

@@ -21,7 +21,7 @@ use Rattle.lists.proofs.Fold.{all-getD}
 use Rattle.math.specs.Scalars.{zeroF}
 use Rattle.math.proofs.Bools.{and-l, and-r, and-i, or-l, or-r, or-split}
 use Rattle.geometry.specs.NurbCurve.{knot, weighted}
-use Rattle.geometry.specs.Call.{Call, curve, degreeFits, countFits, lengthsFit, usable, numbersUsable, weightsAbove, rising, seldom, sound, knotsSound, checks, firstFailed, refusal}
+use Rattle.geometry.specs.Call.{Call, AllDoubles, curve, dimFits, degreeFits, countFits, lengthsFit, usable, numbersUsable, weightsAbove, rising, seldom, sound, knotsSound, nodesFit, stated, areaFits, checks, firstFailed, refusal}
 use Rattle.geometry.specs.Enclosure.{Doubles, Every}
 use Rattle.geometry.proofs.Sound.Base.{values, Known}
 use Rattle.geometry.proofs.Sound.Known.{lt-known, eq-known, known-eq, lt-value, le-value}
@@ -129,30 +129,34 @@ module _ (p n : ℕ) (ks : List Float) (long : length ks ≡ suc (n + p)) (room 
   })
 
 -- ---- what is left of a call that no check stops
-pub record Checked (c : Call) : Type 0 where
-  pub low-degree : c .degree ≤ 7
+
+-- Its sizes.
+pub record Sizes (c : Call) : Type 0 where
+  pub dim : c .dim ≤ 3
+  pub degree : c .degree ≤ 7
   pub room : c .degree < c .count
-  pub long : length (c .knots) ≡ suc (c .count + c .degree)
-  pub box-long : length (c .box) ≡ 2 * c .dim
-  pub known : (i : ℕ) → i < length (c .knots) → Known (getD (c .knots) i nan)
-  pub box-known : (i : ℕ) → i < length (c .box) → Known (getD (c .box) i nan)
-  pub weights : T (weighted (c .dim) (curve c .points))
-  pub sound-knots : T (sound (c .degree) (c .count) (c .knots))
+  pub count : c .count ≤ 32
+  pub knots : length (c .knots) ≡ c .count + c .degree + 1
+  pub points : length (c .points) ≡ 2 * suc (c .dim) * c .count
+  pub box : length (c .box) ≡ 2 * c .dim
+  pub nodes : c .nodes ≤ 4096
+  pub area : stated c ≤ c .room
 
-usables : (l : List Float) → ((i : ℕ) → i < length l → T (fits binary64 (getD l i nan))) → T (all usable l) → (i : ℕ) → i < length l → Known (getD l i nan)
-usables l f u i h = record { double = f i h; moderate = subst T (sym (all-getD usable l i nan (is-true _ u) h)) tt }
+dim-least : (d : ℕ) → T (eqb d 2 || eqb d 3) → d ≤ 3
+dim-least d t = elim (or-split (eqb d 2) (eqb d 3) t) [ inl e ↦ omega (arith, eqb→eq d 2 e) | inr e ↦ omega (arith, eqb→eq d 3 e) ]
 
-pub checked : (c : Call) → Doubles c → refusal c ≡ 0 → Checked c
-unfolding refusal degreeFits countFits lengthsFit numbersUsable weightsAbove knotsSound
-checked c d e = record {
-  low-degree = leb→le (c .degree) 7 (h .1 .0);
+pub sizes : (c : Call) → refusal c ≡ 0 → Sizes c
+unfolding refusal dimFits degreeFits countFits lengthsFit nodesFit areaFits
+sizes c e = record {
+  dim = dim-least (c .dim) (h .0);
+  degree = leb→le (c .degree) 7 (h .1 .0);
   room = omega (arith, leb→le (c .degree + 1) (c .count) (and-l (leb (c .degree + 1) (c .count)) (leb (c .count) 32) (h .1 .1 .0)));
-  long = omega (arith, eqb→eq (length (c .knots)) (c .count + c .degree + 1) (and-l KL PL (and-l (KL && PL) BL sizes)));
-  box-long = eqb→eq (length (c .box)) (2 * c .dim) (and-r (KL && PL) BL sizes);
-  known = usables (c .knots) (d .knots) (and-l KN PN (and-l (KN && PN) BN (and-l (KN && PN && BN) RN (and-l (KN && PN && BN && RN) RP numbers))));
-  box-known = usables (c .box) (d .box) (and-r (KN && PN) BN (and-l (KN && PN && BN) RN (and-l (KN && PN && BN && RN) RP numbers)));
-  weights = h .1 .1 .1 .1 .1 .1 .0;
-  sound-knots = h .1 .1 .1 .1 .1 .1 .1 .0;
+  count = leb→le (c .count) 32 (and-r (leb (c .degree + 1) (c .count)) (leb (c .count) 32) (h .1 .1 .0));
+  knots = eqb→eq (length (c .knots)) (c .count + c .degree + 1) (and-l KL PL (and-l (KL && PL) BL lengths));
+  points = eqb→eq (length (c .points)) (2 * suc (c .dim) * c .count) (and-r KL PL (and-l (KL && PL) BL lengths));
+  box = eqb→eq (length (c .box)) (2 * c .dim) (and-r (KL && PL) BL lengths);
+  nodes = leb→le (c .nodes) 4096 (h .1 .1 .1 .1 .1 .1 .1 .1 .0);
+  area = leb→le (stated c) (c .room) (h .1 .1 .1 .1 .1 .1 .1 .1 .1 .0);
 }
   where
     h : Every (λ check. T (check c)) checks
@@ -167,8 +171,41 @@ checked c d e = record {
     BL : Bool
     BL = eqb (length (c .box)) (2 * c .dim)
 
-    sizes : T (eqb (length (c .knots)) (c .count + c .degree + 1) && eqb (length (c .points)) (2 * suc (c .dim) * c .count) && eqb (length (c .box)) (2 * c .dim))
-    sizes = h .1 .1 .1 .0
+    lengths : T (eqb (length (c .knots)) (c .count + c .degree + 1) && eqb (length (c .points)) (2 * suc (c .dim) * c .count) && eqb (length (c .box)) (2 * c .dim))
+    lengths = h .1 .1 .1 .0
+
+-- Its numbers.
+pub record Checked (c : Call) : Type 0 where
+  pub low-degree : c .degree ≤ 7
+  pub room : c .degree < c .count
+  pub long : length (c .knots) ≡ suc (c .count + c .degree)
+  pub box-long : length (c .box) ≡ 2 * c .dim
+  pub known : (i : ℕ) → i < length (c .knots) → Known (getD (c .knots) i nan)
+  pub box-known : (i : ℕ) → i < length (c .box) → Known (getD (c .box) i nan)
+  pub weights : T (weighted (c .dim) (curve c .points))
+  pub sound-knots : T (sound (c .degree) (c .count) (c .knots))
+
+usables : (l : List Float) → AllDoubles l → T (all usable l) → (i : ℕ) → i < length l → Known (getD l i nan)
+usables l f u i h = record { double = f i h; moderate = subst T (sym (all-getD usable l i nan (is-true _ u) h)) tt }
+
+pub checked : (c : Call) → Doubles c → refusal c ≡ 0 → Checked c
+unfolding refusal numbersUsable weightsAbove knotsSound
+checked c d e = record {
+  low-degree = z .degree;
+  room = z .room;
+  long = omega (arith, z .knots);
+  box-long = z .box;
+  known = usables (c .knots) (d .knots) (and-l KN PN (and-l (KN && PN) BN (and-l (KN && PN && BN) RN (and-l (KN && PN && BN && RN) RP numbers))));
+  box-known = usables (c .box) (d .box) (and-r (KN && PN) BN (and-l (KN && PN && BN) RN (and-l (KN && PN && BN && RN) RP numbers)));
+  weights = h .1 .1 .1 .1 .1 .1 .0;
+  sound-knots = h .1 .1 .1 .1 .1 .1 .1 .0;
+}
+  where
+    z : Sizes c
+    z = sizes c e
+
+    h : Every (λ check. T (check c)) checks
+    h = passed c 0 checks e
 
     KN : Bool
     KN = all usable (c .knots)

@@ -112,7 +112,7 @@ module _ (ar : Arithmetic) (E : Encloses ar) (p : ℕ) where
   keeps D t v c x k s h = cut-keeps ar E D p x c (h .exact) k (h .inside) (s .known) (s .from) (s .upto) t v (h .on)
 
   -- ---- an end that is cut only where it lies strictly inside
-  from-sub : (c : Piece) (x : Float) → Knots p (length (c .points)) (c .knots) → (b : Bool) → (T b → Strict p c x) → Sub p c (fromBy ar p x c b .piece)
+  pub from-sub : (c : Piece) (x : Float) → Knots p (length (c .points)) (c .knots) → (b : Bool) → (T b → Strict p c x) → Sub p c (fromBy ar p x c b .piece)
   unfolding fromBy
   from-sub c x k true s = right-sub c x k (s tt)
   from-sub c x k false s = sub-self p c k

@@ -1,69 +1,62 @@
 -- `all_usable` equals its definition. The invariant: what is left to test answers for the whole.
 use mathlib.Core.Path.{_≡_, refl, sym, ap, _∙_}
+use mathlib.Core.Bool.{false}
 use Prim.Native.Nat.{_+_, _-_, _*_, _≤_, _<_}
 use native.Mathlib.Omega.{arith}
 use lib.ListN.{length, drop, getD}
-use lib.Ieee.{nan}
+use lib.Dec.{T}
+use lib.Ieee.{nan, binary64, fits}
 use Rattle.lists.specs.Lists.{all}
 use Rattle.geometry.specs.Call.{usable}
-use Rattle.geometry.proofs.Kernels.Walks.{all-keep, all-stop, all-end}
+use Rattle.geometry.proofs.Kernels.Walks.{all-keep, all-stop, all-end, KnownTo, known-on}
+use Rattle.math.proofs.Bools.{yes}
 use borrow.Author.Tests.{not-true, not-false}
 use Rattle.geometry.proofs.call.all_usable.Statement.{statement}
 use Rattle.geometry.proofs.call.all_usable.Tie as tie
-use Rattle.geometry.proofs.call.all_usable.Reads as reads
-use Rattle.geometry.proofs.call.all_usable.Lts as lts
-use Rattle.geometry.proofs.call.usable.Reads as usable-reads
 
 abbrev Inv-loop : tie.InvT-loop
-Inv-loop l i₀ i = (i ≤ length l) × (all usable (drop i l) ≡ all usable l)
+Inv-loop l i₀ i = (i ≤ length l) × (all usable (drop i l) ≡ all usable l) × KnownTo nan (λ x. T (fits binary64 x)) l i
 
 abbrev μ-loop : tie.MeasureT-loop
 μ-loop l i₀ i = length l - i
 
--- src/call.rt:23:5
 loop-holds : tie.Need-loop-holds Inv-loop μ-loop
-loop-holds c = (omega arith, refl)
+loop-holds c = (omega arith, refl, λ j h. absurd (omega arith))
 
--- src/call.rt:24:20
 mul-usable : tie.Need-mul-usable Inv-loop μ-loop
 mul-usable c = omega arith
 
--- src/call.rt:24:20
 shared-slice-read-usable : tie.Need-shared-slice-read-usable Inv-loop μ-loop
 shared-slice-read-usable c = omega arith
 
--- src/call.rt:24:13
 usable-requires : tie.Need-usable-requires Inv-loop μ-loop
 usable-requires c κs = tt
 
--- src/call.rt:25:13
 returns : tie.Need-returns Inv-loop μ-loop
 returns c =
     let l = c .before .before .before .before in
-    let a = l .before .before .args in
-    all-stop usable (a .l .now) (l .loop .i) _ (l .loop .inv .1) nan (omega arith) (sym (c .before .usable .ensures) ∙ not-true _ (c .if1 .taken))
+    let a = l .before .before .args in (
+      all-stop usable (a .l .now) (l .loop .i) _ (l .loop .inv .1) nan (omega arith) (sym (c .before .usable .ensures .0) ∙ not-true _ (c .if1 .taken)),
+      λ e. absurd (yes false e),
+    )
 
--- src/call.rt:27:9
 add-i : tie.Need-add-i Inv-loop μ-loop
 add-i c = omega arith
 
--- src/call.rt:23:5
 loop-less : tie.Need-loop-less Inv-loop μ-loop
 loop-less c = omega arith
 
--- src/call.rt:23:5
 loop-again : tie.Need-loop-again Inv-loop μ-loop
 loop-again c =
     let l = c .before .before .before .before in
     let a = l .before .before .args in
-    (omega arith, all-keep usable (a .l .now) (l .loop .i) _ (l .loop .inv .1) nan (omega arith) (sym (c .before .usable .ensures) ∙ not-false _ (c .if1 .left)))
+    (omega arith, all-keep usable (a .l .now) (l .loop .i) _ (l .loop .inv .1) nan (omega arith) (sym (c .before .usable .ensures .0) ∙ not-false _ (c .if1 .left)), known-on nan (λ x. T (fits binary64 x)) (a .l .now) (l .loop .i) (l .loop .inv .2) (c .before .usable .ensures .1))
 
--- src/call.rt:19:1
 returns-2 : tie.Need-returns-2 Inv-loop μ-loop
 returns-2 c =
     let l = c .before in
     let a = l .before .before .args in
-    all-end usable (a .l .now) (l .loop .i) _ (l .loop .inv .1) (omega arith)
+    (all-end usable (a .l .now) (l .loop .i) _ (l .loop .inv .1) (omega arith), λ _ j h. l .loop .inv .2 j (omega arith))
 
 pub all-usable-spec : {M : Type 1} → statement M
 all-usable-spec =

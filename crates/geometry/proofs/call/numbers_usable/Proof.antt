@@ -7,59 +7,50 @@ use Rattle.lists.specs.Lists.{all}
 use lib.Ieee.{le, ofBits}
 use borrow.Author.Tests.{not-true, not-false}
 use mathlib.Core.Path.{sym, _∙_}
+use mathlib.Core.Bool.{false}
+use Rattle.math.proofs.Bools.{yes}
 use Rattle.geometry.proofs.call.numbers_usable.Statement.{statement}
 use Rattle.geometry.proofs.call.numbers_usable.Tie as tie
-use Rattle.geometry.proofs.call.numbers_usable.Reads as reads
-use Rattle.geometry.proofs.call.numbers_usable.Lts as lts
-use Rattle.geometry.proofs.call.all_usable.Reads as all-usable-reads
-use Rattle.geometry.proofs.call.usable.Reads as usable-reads
 
--- src/call.rt:166:9
 all-usable-requires : tie.Need-all-usable-requires
 all-usable-requires c κs = search needs
 
--- src/call.rt:167:9
 returns : tie.Need-returns
 returns c =
     let g = c .before .before .before .before .before .args in
-    five-1 (all usable (g .knots .now)) (all usable (g .points .now)) (all usable (g .point-box .now)) (usable (g .resolution)) (le zeroF (g .resolution)) (sym (c .before .all-usable .ensures) ∙ not-true _ (c .if1 .taken))
+    (five-1 (all usable (g .knots .now)) (all usable (g .points .now)) (all usable (g .point-box .now)) (usable (g .resolution)) (le zeroF (g .resolution)) (sym (c .before .all-usable .ensures .0) ∙ not-true _ (c .if1 .taken)), λ e. absurd (yes false e))
 
--- src/call.rt:169:9
 all-usable-requires-2 : tie.Need-all-usable-requires-2
 all-usable-requires-2 c κs = search needs
 
--- src/call.rt:170:9
 returns-2 : tie.Need-returns-2
 returns-2 c =
     let g = c .before .before .before .before .before .before .before .args in
-    five-2 (all usable (g .knots .now)) (all usable (g .points .now)) (all usable (g .point-box .now)) (usable (g .resolution)) (le zeroF (g .resolution)) (sym (c .before .all-usable2 .ensures) ∙ not-true _ (c .if2 .taken))
+    (five-2 (all usable (g .knots .now)) (all usable (g .points .now)) (all usable (g .point-box .now)) (usable (g .resolution)) (le zeroF (g .resolution)) (sym (c .before .all-usable2 .ensures .0) ∙ not-true _ (c .if2 .taken)), λ e. absurd (yes false e))
 
--- src/call.rt:172:9
 all-usable-requires-3 : tie.Need-all-usable-requires-3
 all-usable-requires-3 c κs = search needs
 
--- src/call.rt:173:9
 returns-3 : tie.Need-returns-3
 returns-3 c =
     let g = c .before .before .before .before .before .before .before .before .before .args in
-    five-3 (all usable (g .knots .now)) (all usable (g .points .now)) (all usable (g .point-box .now)) (usable (g .resolution)) (le zeroF (g .resolution)) (sym (c .before .all-usable3 .ensures) ∙ not-true _ (c .if3 .taken))
+    (five-3 (all usable (g .knots .now)) (all usable (g .points .now)) (all usable (g .point-box .now)) (usable (g .resolution)) (le zeroF (g .resolution)) (sym (c .before .all-usable3 .ensures .0) ∙ not-true _ (c .if3 .taken)), λ e. absurd (yes false e))
 
--- src/call.rt:175:9
 usable-requires : tie.Need-usable-requires
 usable-requires c κs = search needs
 
--- src/call.rt:176:9
 returns-4 : tie.Need-returns-4
 returns-4 c =
     let g = c .before .before .before .before .before .before .before .before .before .before .before .args in
-    five-4 (all usable (g .knots .now)) (all usable (g .points .now)) (all usable (g .point-box .now)) (usable (g .resolution)) (le zeroF (g .resolution)) (sym (c .before .usable .ensures) ∙ not-true _ (c .if4 .taken))
+    (five-4 (all usable (g .knots .now)) (all usable (g .points .now)) (all usable (g .point-box .now)) (usable (g .resolution)) (le zeroF (g .resolution)) (sym (c .before .usable .ensures .0) ∙ not-true _ (c .if4 .taken)), λ e. absurd (yes false e))
 
--- src/call.rt:163:1
 returns-5 : tie.Need-returns-5
 unfolding ofBits
 returns-5 c =
-    let g = c .before .before .before .before .before .before .before .before .before .before .before .args in
-    five-rest (all usable (g .knots .now)) (all usable (g .points .now)) (all usable (g .point-box .now)) (usable (g .resolution)) (le zeroF (g .resolution)) (sym (c .before .before .before .before .before .before .before .all-usable .ensures) ∙ not-false _ (c .before .before .before .before .before .before .if1 .left)) (sym (c .before .before .before .before .before .all-usable2 .ensures) ∙ not-false _ (c .before .before .before .before .if2 .left)) (sym (c .before .before .before .all-usable3 .ensures) ∙ not-false _ (c .before .before .if3 .left)) (sym (c .before .usable .ensures) ∙ not-false _ (c .if4 .left))
+    let g = c .before .before .before .before .before .before .before .before .before .before .before .args in (
+      five-rest (all usable (g .knots .now)) (all usable (g .points .now)) (all usable (g .point-box .now)) (usable (g .resolution)) (le zeroF (g .resolution)) (sym (c .before .before .before .before .before .before .before .all-usable .ensures .0) ∙ not-false _ (c .before .before .before .before .before .before .if1 .left)) (sym (c .before .before .before .before .before .all-usable2 .ensures .0) ∙ not-false _ (c .before .before .before .before .if2 .left)) (sym (c .before .before .before .all-usable3 .ensures .0) ∙ not-false _ (c .before .before .if3 .left)) (sym (c .before .usable .ensures .0) ∙ not-false _ (c .if4 .left)),
+      λ _. (c .before .before .before .before .before .before .before .all-usable .ensures .1 (not-false _ (c .before .before .before .before .before .before .if1 .left)), c .before .before .before .all-usable3 .ensures .1 (not-false _ (c .before .before .if3 .left))),
+    )
 
 pub numbers-usable-spec : {M : Type 1} → statement M
 numbers-usable-spec =

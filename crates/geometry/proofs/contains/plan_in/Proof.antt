@@ -23,7 +23,7 @@ planned-requires c κs =
     let n = c .before .before in
     let k = n .before .before .before in
     let a = k .args in
-    let v = visit-asks (a .s) (a .work .now) (a .base) (k .pre .0) (n .count-at .result) (n .count-at .ensures) _ (c .points-in .ensures) _ (c .before .knots-in .ensures) (k .pre .1) in
+    let v = visit-asks (a .s) (a .work .now) (a .base) (k .pre .0) (n .count-at .result) (n .count-at .ensures) _ (c .points-in .ensures) _ (c .before .knots-in .ensures) (k .pre .1 .whole) in
     ((v .0, v .1, v .2, points-room (a .s) (a .work .now) (a .base) (k .pre .0) (n .count-at .result) (n .count-at .ensures) _ (c .points-in .ensures), k .pre .2), (v .3, knots-room (a .s) (a .work .now) (a .base) (k .pre .0) (n .count-at .result) (n .count-at .ensures) _ (c .points-in .ensures) _ (c .before .knots-in .ensures)))
 
 returns : tie.Need-returns

@@ -9,7 +9,7 @@ use Rattle.geometry.proofs.contains.weighted_in.Statement.{statement}
 use Rattle.geometry.proofs.contains.weighted_in.Tie as tie
 
 count-at-requires : tie.Need-count-at-requires
-count-at-requires c κs = let k = c .before in count-readable (k .args .s) (k .args .work .now) (k .args .base) (k .pre .0)
+count-at-requires c κs = let k = c .before in count-readable (k .args .s) (k .args .work .now) (k .args .base) (k .pre)
 
 points-in-requires : tie.Need-points-in-requires
 points-in-requires c κs = search needs
@@ -19,7 +19,7 @@ weighted-requires c κs =
     let n = c .before in
     let k = n .before .before in
     let a = k .args in
-    (k .pre .0 .inside .sized .dim, omega (arith, n .count-at .ensures, k .pre .1), points-room (a .s) (a .work .now) (a .base) (k .pre .0) (n .count-at .result) (n .count-at .ensures) _ (c .points-in .ensures))
+    (k .pre .inside .sized .dim, omega (arith, n .count-at .ensures, k .pre .room, k .pre .inside .sized .degree, k .pre .inside .sized .count), points-room (a .s) (a .work .now) (a .base) (k .pre) (n .count-at .result) (n .count-at .ensures) _ (c .points-in .ensures))
 
 returns : tie.Need-returns
 returns c =
@@ -27,7 +27,7 @@ returns c =
     let n = p .before in
     let k = n .before .before in
     let a = k .args in
-    c .weighted .ensures ∙ ap (weighted (a .s .dim)) (points-back (a .s) (a .work .now) (a .base) (k .pre .0) (n .count-at .result) (n .count-at .ensures) _ (p .points-in .ensures))
+    c .weighted .ensures ∙ ap (weighted (a .s .dim)) (points-back (a .s) (a .work .now) (a .base) (k .pre) (n .count-at .result) (n .count-at .ensures) _ (p .points-in .ensures))
 
 pub weighted-in-spec : {M : Type 1} → statement M
 weighted-in-spec =

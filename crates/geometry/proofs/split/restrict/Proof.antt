@@ -1,28 +1,37 @@
 -- `restrict` equals its definition: a copy, cut at lo and then at hi.
+use mathlib.Core.Path.{sym, subst}
 use mathlib.Core.Logic.{inl}
+use lib.Dec.{T}
+use Rattle.math.specs.Scalars.{geop}
+use Rattle.geometry.specs.Split.{fromBy}
+use Rattle.geometry.specs.Slots.{pieceAt, Whole, within}
 use Rattle.geometry.proofs.Memory.Splits.{copied, copied-whole, cut-down, cut-down-whole, restricted, from-few, upto-few}
 use borrow.Author.Needs.{needs}
 use native.Mathlib.Omega.{arith}
 use Rattle.geometry.proofs.split.restrict.Statement.{statement}
 use Rattle.geometry.proofs.split.restrict.Tie as tie
 
+-- after the first cut the piece can be cut again, since lo is a double
+once : (c : tie.Start) → Whole (c .args .s) (fromBy geop (c .args .s .degree) (c .args .lo) (pieceAt (c .args .s) (c .args .work .now) (c .args .src)) (within (c .args .s .degree) (pieceAt (c .args .s) (c .args .work .now) (c .args .src)) (c .args .lo)) .piece)
+once c = c .pre .1 .again (c .pre .4) (c .args .lo) (subst T (sym (c .good .1 .1 .1 .1 .0 .1)) tt)
+
 copy-right-requires : tie.Need-copy-right-requires
-copy-right-requires c κs = let k = c .before .before in ((k .pre .0 .0, k .pre .0 .2, omega arith), inl (k .pre .0 .3))
+copy-right-requires c κs = let k = c .before .before in ((k .pre .0, k .pre .2, omega arith), inl (k .pre .3))
 
 cut-from-requires : tie.Need-cut-from-requires
 cut-from-requires c κs =
     let k = c .before .before .before .before .before .before in
     let g = k .args in (
-      copied (g .s) (g .work .now) (g .src) (g .to) (g .lo) (g .hi) (k .pre .0 .0) (k .pre .0 .1) (k .pre .0 .2) (k .pre .1) _ (c .before .before .before .copy-right .ensures) .held,
-      copied-whole (g .s) (g .work .now) (g .src) (g .to) (g .lo) (g .hi) (k .pre .0 .0) (k .pre .0 .1) (k .pre .0 .2) (k .pre .1) _ (c .before .before .before .copy-right .ensures),
+      copied (g .s) (g .work .now) (g .src) (g .to) (g .lo) (g .hi) (k .pre .0) (k .pre .1 .whole) (k .pre .2) (once k) _ (c .before .before .before .copy-right .ensures) .held,
+      copied-whole (g .s) (g .work .now) (g .src) (g .to) (g .lo) (g .hi) (k .pre .0) (k .pre .1 .whole) (k .pre .2) (once k) _ (c .before .before .before .copy-right .ensures),
     )
 
 cut-up-to-requires : tie.Need-cut-up-to-requires
 cut-up-to-requires c κs =
     let k = c .before .before .before .before .before .before .before .before .before .before in
     let g = k .args in (
-      cut-down (g .s) (g .work .now) (g .src) (g .to) (g .lo) (g .hi) (k .pre .0 .0) (k .pre .0 .1) (k .pre .0 .2) (k .pre .1) _ (c .before .before .before .before .before .before .before .copy-right .ensures) _ _ (c .before .before .before .cut-from .ensures) .held,
-      cut-down-whole (g .s) (g .work .now) (g .src) (g .to) (g .lo) (g .hi) (k .pre .0 .0) (k .pre .0 .1) (k .pre .0 .2) (k .pre .1) _ (c .before .before .before .before .before .before .before .copy-right .ensures) _ _ (c .before .before .before .cut-from .ensures),
+      cut-down (g .s) (g .work .now) (g .src) (g .to) (g .lo) (g .hi) (k .pre .0) (k .pre .1 .whole) (k .pre .2) (once k) _ (c .before .before .before .before .before .before .before .copy-right .ensures) _ _ (c .before .before .before .cut-from .ensures) .held,
+      cut-down-whole (g .s) (g .work .now) (g .src) (g .to) (g .lo) (g .hi) (k .pre .0) (k .pre .1 .whole) (k .pre .2) (once k) _ (c .before .before .before .before .before .before .before .copy-right .ensures) _ _ (c .before .before .before .cut-from .ensures),
     )
 
 add-result : tie.Need-add-result
@@ -39,7 +48,7 @@ returns : tie.Need-returns
 returns c =
     let k = c .before .before .before .before .before .before .before .before .before .before .before .before .before in
     let g = k .args in
-    restricted (g .s) (g .work .now) (g .src) (g .to) (g .lo) (g .hi) (k .pre .0 .0) (k .pre .0 .1) (k .pre .0 .2) (k .pre .1) _ (c .before .before .before .before .before .before .before .before .before .before .copy-right .ensures) _ _ (c .before .before .before .before .before .before .cut-from .ensures) _ _ (c .before .before .cut-up-to .ensures)
+    restricted (g .s) (g .work .now) (g .src) (g .to) (g .lo) (g .hi) (k .pre .0) (k .pre .1 .whole) (k .pre .2) (once k) _ (c .before .before .before .before .before .before .before .before .before .before .copy-right .ensures) _ _ (c .before .before .before .before .before .before .cut-from .ensures) _ _ (c .before .before .cut-up-to .ensures)
 
 pub restrict-spec : {M : Type 1} → statement M
 restrict-spec =
