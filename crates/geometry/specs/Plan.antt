@@ -15,8 +15,8 @@ use Rattle.geometry.specs.Subdivide.{Question, Visit, dropped, reported}
 use Rattle.geometry.specs.Contains.{clip, carried, handOn, handBoth}
 use Rattle.geometry.specs.declared.fat_line.Hat.{Hat}
 use Rattle.geometry.specs.declared.fat_line.Hat.the-variants.{Over, Missing}
-use Rattle.geometry.specs.declared.contains.Plan.{Plan}
-use Rattle.geometry.specs.declared.contains.Plan.the-variants.{Skip, Report, Restrict, Halve}
+use Rattle.geometry.specs.declared.visits.Plan.{Plan}
+use Rattle.geometry.specs.declared.visits.Plan.the-variants.{Skip, Report, Restrict, Halve}
 
 -- With a hat, on a domain from a to b: the points are cut down to it, or else halved, or else it is reported.
 unfoldable pub planHat : Arithmetic → ℕ → List Scalar → Float → Float → Float → List (List Scalar) → Scalar → Plan

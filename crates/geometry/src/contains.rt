@@ -1,54 +1,31 @@
 // contains/curve.rs: the search for the parameters at which a curve passes through a box.
 
-use crate::aabb::aabb_could_overlap;
 use crate::aabb::curve_could_meet_aabb;
 use crate::call::refusal;
 use crate::call::slot_words;
-use crate::fat_line::Greville;
-use crate::fat_line::Hat;
-use crate::fat_line::bisects;
-use crate::fat_line::carried;
-use crate::fat_line::cuts_down;
-use crate::fat_line::fat_line_zeros;
-use crate::fat_line::greville_abscissae;
-use crate::nurb_curve::domain;
-use crate::nurb_curve::scalar_at;
-use crate::nurb_curve::weighted;
 use crate::slots::Shape;
-use crate::slots::count_at;
 use crate::slots::fill;
-use crate::slots::knots_in;
 use crate::slots::load;
-use crate::slots::points_in;
-use crate::split::restrict;
-use crate::split::split_mid;
 use crate::subdivide::Outcome;
 use crate::subdivide::Reports;
 use crate::subdivide::Search;
 use crate::subdivide::after_visit;
 use crate::subdivide::is_bad;
 use crate::subdivide::wrap;
-use math::scalars::Scalar;
+use crate::visits::visit;
 ghost use mathlib.Core.Path.{_≡_};
-ghost use mathlib.Core.Bool.{true, _&&_};
-ghost use Prim.Native.Nat.{ℕ, suc, _+_, _*_, _≤_, _<_};
+ghost use Prim.Native.Nat.{_+_, _*_, _≤_, _<_};
 ghost use lib.ListN.{length, drop};
-ghost use lib.Ieee.{lt};
-ghost use Rattle.lists.specs.Lists.{put};
-ghost use Rattle.math.specs.Scalars.{geop, zeroF, mulS, isSame};
-ghost use Rattle.geometry.specs.Layout.{scalarAt, scalarsOf, pointsOf, flat, slotWords};
-ghost use Rattle.geometry.specs.NurbCurve.{domain, weighted};
-ghost use Rattle.geometry.specs.FatLine.{fatLineZeros};
-ghost use Rattle.geometry.specs.Split.{splitMid, restrict};
-ghost use Rattle.geometry.specs.Contains.{axis, narrowed, clip, handOn, handBoth, visit, begun};
+ghost use Rattle.math.specs.Scalars.{geop};
+ghost use Rattle.geometry.specs.Layout.{scalarsOf, slotWords};
+ghost use Rattle.geometry.specs.Contains.{visit, begun};
 ghost use Rattle.geometry.specs.Subdivide.{plain, complete, advance, answered};
-ghost use Rattle.geometry.specs.Slots.{pieceAt, Inside, Held, Apart, Whole, Fit};
+ghost use Rattle.geometry.specs.Slots.{pieceAt, Fit};
 ghost use Rattle.geometry.specs.Waiting.{baseOf, ringBase, Ring};
 ghost use Rattle.geometry.specs.Call.{AllDoubles, curve, lent, searched, areaAfter};
 ghost use Rattle.geometry.specs.Enclosure.{Accepted, HitsEnclosed, BoundsInDomain, BoundsPlain};
+ghost use Rattle.geometry.specs.Paper.{paper};
 ghost use Rattle.geometry.specs.Turns.{foundOf, Visited, Begins};
-ghost use Rattle.geometry.specs.Plan.{planHat, planClip, planned};
-ghost use Rattle.geometry.specs.FatLine.{greville};
 
 // The answer to a call. The visited count is last in every case.
 pub enum Found {
@@ -60,238 +37,6 @@ pub enum Found {
     Spent(usize, usize),
     // The call or the curve is refused: the number of the refusal, visited.
     Refused(u64, usize),
-}
-
-// Coordinate k of point i; the weight is number dim.
-fn coordinate(points: &[f64], dim: usize, i: usize, k: usize) -> Scalar
-    requires { ⌜ (k ≤ dim) × (2 * (suc dim * suc i) ≤ length (now points)) ⌝ }
-    ensures { λ r. ⌜ r ≡ scalarAt (now (points .entry)) (suc dim * i + k) ⌝ }
-{
-    scalar_at(points, (dim + 1) * i + k)
-}
-
-// Both bounds are above zero.
-fn positive(a: Scalar) -> bool
-    ensures { λ r. ⌜ r ≡ (lt zeroF (a .lo) && lt zeroF (a .hi)) ⌝ }
-{
-    0.0 < a.lo && 0.0 < a.hi
-}
-
-// The two are the same bound by bound, and above zero, since a zero may have either sign: then they are one interval.
-fn repeats(a: Scalar, b: Scalar) -> bool
-    ensures { λ r. ⌜ (r ≡ (isSame a b && (lt zeroF (a .lo) && lt zeroF (a .hi)))) × (r ≡ true → a ≡ b) ⌝ }
-{
-    if a.lo == b.lo && a.hi == b.hi {
-        return positive(a);
-    }
-    false
-}
-
-// A weight, beside its product with a factor.
-struct Weighed {
-    weight: Scalar,
-    product: Scalar,
-}
-
-// The weight w beside its product with e, which is taken over from the last weight where w repeats it.
-fn times_weight(e: Scalar, w: Scalar, last: Weighed) -> Weighed
-    requires { ⌜ last .product ≡ mulS e (last .weight) ⌝ }
-    ensures { λ r. ⌜ (r .weight ≡ w) × (r .product ≡ mulS e w) ⌝ }
-{
-    let v = last.weight;
-    if repeats(w, v) {
-        return last;
-    }
-    Weighed {
-        weight: w,
-        product: e.mul(w),
-    }
-}
-
-// The values of axis k, one for each point, written to the front of d: the coordinate less e times the weight.
-fn axis(points: &[f64], dim: usize, count: usize, k: usize, e: Scalar, d: &mut [f64])
-    requires { ⌜ ((0 < count) × (k < dim)) × ((2 * (suc dim * count) ≤ length (now points)) × (2 * count ≤ length (now d))) ⌝ }
-    ensures { λ _. ⌜ now (d .exit) ≡ put (now (d .entry)) 0 (flat (axis geop dim k e (pointsOf (suc dim) count (now (points .entry))))) ⌝ }
-{
-    let w = coordinate(points, dim, 0, dim);
-    let mut last = Weighed {
-        weight: w,
-        product: e.mul(w),
-    };
-    let mut i = 0;
-    while i < count {
-        last = times_weight(e, coordinate(points, dim, i, dim), last);
-        let p = last.product;
-        let v = coordinate(points, dim, i, k).sub(p);
-        d[2 * i] = v.lo;
-        d[2 * i + 1] = v.hi;
-        i += 1;
-    }
-}
-
-// The hat, held to the zeros of one axis more.
-fn narrowed(hat: Scalar, zeros: Hat) -> Hat
-    ensures { λ r. ⌜ r ≡ narrowed hat zeros ⌝ }
-{
-    let Hat::Over(z) = zeros else {
-        return Hat::Missing;
-    };
-    if z.could_be_equal(hat) {
-        return Hat::Over(hat.intersect(z));
-    }
-    Hat::Missing
-}
-
-// What axis k of the box leaves of a hat, where d is lent for the values of the axis.
-fn clip_axis(
-    xi: &[f64],
-    points: &[f64],
-    dim: usize,
-    count: usize,
-    k: usize,
-    e: Scalar,
-    hat: Scalar,
-    d: &mut [f64],
-) -> Hat
-    requires { ⌜ ((0 < count) × (2 * count ≤ length (now xi))) × ((k < dim) × ((2 * (suc dim * count) ≤ length (now points)) × (2 * count ≤ length (now d)))) ⌝ }
-    ensures { λ r. ⌜ r ≡ narrowed hat (fatLineZeros geop (scalarsOf count (now (xi .entry))) (axis geop dim k e (pointsOf (suc dim) count (now (points .entry))))) ⌝ }
-    ensures { λ _. ⌜ now (d .exit) ≡ put (now (d .entry)) 0 (flat (axis geop dim k e (pointsOf (suc dim) count (now (points .entry))))) ⌝ }
-{
-    axis(points, dim, count, k, e, d);
-    narrowed(hat, fat_line_zeros(xi, d, count))
-}
-
-// The hat that the axes of the box leave of the domain from start to end: no axis is taken once nothing is left.
-pub(crate) fn clip(
-    xi: &[f64],
-    points: &[f64],
-    point_box: &[f64],
-    dim: usize,
-    count: usize,
-    start: f64,
-    end: f64,
-) -> Hat
-    requires { ⌜ ((0 < count) × (count ≤ 32)) × ((2 * count ≤ length (now xi)) × ((2 * (suc dim * count) ≤ length (now points)) × (2 * dim ≤ length (now «point_box»)))) ⌝ }
-    ensures { λ r. ⌜ r ≡ clip geop dim (pointsOf (suc dim) count (now (points .entry))) (scalarsOf count (now (xi .entry))) (domain start end) 0 (scalarsOf dim (now («point_box» .entry))) ⌝ }
-{
-    let mut d = [0.0; 64];
-    let mut hat = Scalar::from_f64(start).union(Scalar::from_f64(end));
-    let mut k = 0;
-    while k < dim {
-        let e = scalar_at(point_box, k);
-        let Hat::Over(h) = clip_axis(xi, points, dim, count, k, e, hat, &mut d) else {
-            return Hat::Missing;
-        };
-        hat = h;
-        k += 1;
-    }
-    Hat::Over(hat)
-}
-
-// ---- the plan of a visit
-
-// What a visit is to make of its piece.
-pub enum Plan {
-    // It holds nothing.
-    Skip,
-    // It cannot be made smaller: its hat.
-    Report(Scalar),
-    // It is to be cut down to its hat.
-    Restrict(Scalar),
-    // It is to be cut in two: its hat, for where it cannot be.
-    Halve(Scalar),
-}
-
-// What to make of a piece with a hat, on a domain from a to b.
-fn plan_hat(
-    points: &[f64],
-    point_box: &[f64],
-    dim: usize,
-    count: usize,
-    a: f64,
-    b: f64,
-    hat: Scalar,
-    resolution: f64,
-) -> Plan
-    requires { ⌜ (dim ≤ 3) × (1 ≤ count) × (count ≤ 32) × (2 * (suc dim * count) ≤ length (now points)) × (2 * dim ≤ length (now «point_box»)) ⌝ }
-    ensures { λ r. ⌜ r ≡ planHat geop dim (scalarsOf dim (now («point_box» .entry))) resolution a b (pointsOf (suc dim) count (now (points .entry))) hat ⌝ }
-{
-    let w = carried(points, point_box, dim, count);
-    if cuts_down(points, dim, count, a, b, hat, w) {
-        return Plan::Restrict(hat);
-    }
-    if bisects(points, dim, count, a, b, w, resolution) {
-        return Plan::Halve(hat);
-    }
-    Plan::Report(hat)
-}
-
-// What to make of a piece whose box does not miss.
-fn plan_clip(
-    knots: &[f64],
-    points: &[f64],
-    point_box: &[f64],
-    dim: usize,
-    degree: usize,
-    count: usize,
-    resolution: f64,
-) -> Plan
-    requires { ⌜ (dim ≤ 3) × (1 ≤ count) × (count ≤ 32) × (2 * (suc dim * count) ≤ length (now points)) × (2 * dim ≤ length (now «point_box»)) ⌝ }
-    requires { ⌜ (degree ≤ 7) × (count + degree + 1 ≤ length (now knots)) ⌝ }
-    ensures { λ r. ⌜ r ≡ planClip geop dim degree (scalarsOf dim (now («point_box» .entry))) resolution (record { knots = now (knots .entry); points = pointsOf (suc dim) count (now (points .entry)) }) (greville geop degree count (now (knots .entry))) ⌝ }
-{
-    let a = knots[degree];
-    let b = knots[count];
-    let xi = greville_abscissae(knots, degree, count);
-    let has = xi.has;
-    let Greville::Some = has else {
-        return Plan::Report(domain(a, b));
-    };
-    let at = xi.at;
-    let Hat::Over(hat) = clip(&at, points, point_box, dim, count, a, b) else {
-        return Plan::Skip;
-    };
-    plan_hat(points, point_box, dim, count, a, b, hat, resolution)
-}
-
-// What a visit is to make of the piece with these knots and count points.
-pub(crate) fn planned(
-    knots: &[f64],
-    points: &[f64],
-    point_box: &[f64],
-    dim: usize,
-    degree: usize,
-    count: usize,
-    resolution: f64,
-) -> Plan
-    requires { ⌜ (dim ≤ 3) × (1 ≤ count) × (count ≤ 32) × (2 * (suc dim * count) ≤ length (now points)) × (2 * dim ≤ length (now «point_box»)) ⌝ }
-    requires { ⌜ (degree ≤ 7) × (count + degree + 1 ≤ length (now knots)) ⌝ }
-    ensures { λ r. ⌜ r ≡ planned geop dim degree (scalarsOf dim (now («point_box» .entry))) resolution (record { knots = now (knots .entry); points = pointsOf (suc dim) count (now (points .entry)) }) ⌝ }
-{
-    if !aabb_could_overlap(points, point_box, dim, count) {
-        return Plan::Skip;
-    }
-    plan_clip(knots, points, point_box, dim, degree, count, resolution)
-}
-
-// What a visit is to make of the piece in the slot at base.
-fn plan_in(work: &[f64], base: usize, s: Shape, point_box: &[f64], resolution: f64) -> Plan
-    requires { ⌜ Held s (now work) base × Fit s (pieceAt s (now work) base) × (2 * s .dim ≤ length (now «point_box»)) ⌝ }
-    ensures { λ r. ⌜ r ≡ planned geop (s .dim) (s .degree) (scalarsOf (s .dim) (now («point_box» .entry))) resolution (pieceAt s (now (work .entry)) base) ⌝ }
-{
-    let n = count_at(work, base);
-    let knots = knots_in(work, base, s);
-    let points = points_in(work, base, s);
-    planned(knots, points, point_box, s.dim, s.degree, n, resolution)
-}
-
-// Every weight of the piece in the slot at base has its lo above zero.
-fn weighted_in(work: &[f64], base: usize, s: Shape) -> bool
-    requires { ⌜ Held s (now work) base ⌝ }
-    ensures { λ r. ⌜ r ≡ weighted (s .dim) (pieceAt s (now (work .entry)) base .points) ⌝ }
-{
-    let n = count_at(work, base);
-    weighted(points_in(work, base, s), s.dim, n)
 }
 
 // ---- the answer
@@ -310,60 +55,6 @@ fn completed(f: Reports, visited: usize) -> Found
     match f {
         Reports::Silent => Found::Nothing(visited),
         Reports::Union(t) => Found::Enclosed(plain(t.lo), plain(t.hi), visited),
-    }
-}
-
-// ---- the visit
-
-// The piece in the slot at base is cut down to its hat, and handed on in the slot at a.
-fn hand_on(work: &mut [f64], base: usize, a: usize, s: Shape, hat: Scalar) -> Outcome
-    requires { ⌜ Held s (now work) base × Fit s (pieceAt s (now work) base) × Inside s (now work) a × Apart s base a × (1 ≤ s .degree) ⌝ }
-    ensures { λ r. ⌜ ((b : ℕ) → Visited (handOn (s .dim) (restrict geop (s .degree) (hat .lo) (hat .hi) (pieceAt s (now (work .entry)) base))) s a b (now (work .entry)) (now (work .exit)) r) ⌝ }
-{
-    let cuts = restrict(work, base, a, s, hat.lo, hat.hi);
-    if !weighted_in(work, a, s) {
-        return Outcome::BadWeight;
-    }
-    Outcome::Restricted(cuts)
-}
-
-// The piece in the slot at base is cut in two, and the halves are handed on in the slots at a and b. Where there is no cut the hat is reported.
-fn hand_both(work: &mut [f64], base: usize, a: usize, b: usize, s: Shape, hat: Scalar) -> Outcome
-    requires { ⌜ Held s (now work) base × Whole s (pieceAt s (now work) base) × Inside s (now work) a × Inside s (now work) b ⌝ }
-    requires { ⌜ Apart s base a × Apart s base b × Apart s a b ⌝ }
-    ensures { λ r. ⌜ Visited (handBoth (s .dim) hat (splitMid geop (s .degree) (pieceAt s (now (work .entry)) base))) s a b (now (work .entry)) (now (work .exit)) r ⌝ }
-{
-    if !split_mid(work, base, a, b, s) {
-        return Outcome::Reported(hat);
-    }
-    if !weighted_in(work, a, s) {
-        return Outcome::BadWeight;
-    }
-    if !weighted_in(work, b, s) {
-        return Outcome::BadWeight;
-    }
-    Outcome::Halved
-}
-
-// The visit of the piece in the slot at base. What it hands on stands in the slots at a and b.
-fn visit(
-    work: &mut [f64],
-    base: usize,
-    a: usize,
-    b: usize,
-    s: Shape,
-    point_box: &[f64],
-    resolution: f64,
-) -> Outcome
-    requires { ⌜ Held s (now work) base × Fit s (pieceAt s (now work) base) × (2 * s .dim ≤ length (now «point_box»)) ⌝ }
-    requires { ⌜ Inside s (now work) a × Inside s (now work) b × Apart s base a × Apart s base b × Apart s a b ⌝ }
-    ensures { λ r. ⌜ Visited (visit geop (record { dim = s .dim; degree = s .degree; box = scalarsOf (s .dim) (now («point_box» .entry)); resolution = resolution; nodes = 0 }) (pieceAt s (now (work .entry)) base)) s a b (now (work .entry)) (now (work .exit)) r ⌝ }
-{
-    match plan_in(work, base, s, point_box, resolution) {
-        Plan::Skip => Outcome::Dropped,
-        Plan::Report(t) => Outcome::Reported(t),
-        Plan::Restrict(hat) => hand_on(work, base, a, s, hat),
-        Plan::Halve(hat) => hand_both(work, base, a, b, s, hat),
     }
 }
 
@@ -446,7 +137,17 @@ fn answer(
     r
 }
 
-// Where the curve passes through the box.
+// Whether the curve passes through the box, and between which two parameters.
+//
+// The curve has `count` control points, of `dim` coordinates and a weight, and `degree`. `points` holds lo and hi of each coordinate and, last, of the weight, one point behind the other; each coordinate is multiplied by the weight.
+// `knots` are count + degree + 1 numbers. `point_box` holds lo and hi of the box on each axis. Pieces of the curve are cut down or halved until they are no larger than `resolution`, by at most `nodes` visits.
+// `work` is lent memory: (nodes + 3) * W words at least, W = 2 * (dim + 1) * (count + degree + 1) + 2 * (count + 2 * degree + 2). What it holds at the start changes nothing.
+//
+// Nothing is asked of the caller: every input comes to a result. The promises, in the words of specs/:
+// result: the answer is that of the definition, `searched`. paper: so are the word, the number and the values that document 01 gives for it.
+// memory: a call refused by 1 to 10 leaves `work` as it was; any other leaves the stated words 0 and the rest as it was.
+// encloses: when the search of an accepted curve completes, every exact parameter at which the exact curve meets the box lies between the bounds.
+// within: no bound lies outside the domain, and none is a negative zero.
 pub fn curve_could_contain(
     dim: usize,
     degree: usize,
@@ -459,6 +160,7 @@ pub fn curve_could_contain(
     work: &mut [f64],
 ) -> Found
     ensures result { λ r. ⌜ r ≡ searched geop (lent dim degree count (now (knots .entry)) (now (points .entry)) (now («point_box» .entry)) resolution nodes (now (work .entry))) ⌝ }
+    ensures paper { λ r. ⌜ paper r ≡ paper (searched geop (lent dim degree count (now (knots .entry)) (now (points .entry)) (now («point_box» .entry)) resolution nodes (now (work .entry)))) ⌝ }
     ensures memory { λ _. ⌜ now (work .exit) ≡ areaAfter (lent dim degree count (now (knots .entry)) (now (points .entry)) (now («point_box» .entry)) resolution nodes (now (work .entry))) (now (work .entry)) ⌝ }
     ensures encloses { λ r. ⌜ HitsEnclosed (lent dim degree count (now (knots .entry)) (now (points .entry)) (now («point_box» .entry)) resolution nodes (now (work .entry))) r ⌝ }
     ensures within { λ r. ⌜ BoundsInDomain (curve (lent dim degree count (now (knots .entry)) (now (points .entry)) (now («point_box» .entry)) resolution nodes (now (work .entry)))) degree r × BoundsPlain r ⌝ }

@@ -10,3 +10,4 @@ mod slots;
 mod split;
 mod subdivide;
 mod vector;
+mod visits;

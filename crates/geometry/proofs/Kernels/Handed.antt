@@ -25,8 +25,8 @@ use Rattle.geometry.specs.declared.slots.Shape.{Shape}
 use Rattle.geometry.specs.declared.subdivide.Outcome.{Outcome}
 use Rattle.geometry.specs.declared.subdivide.Outcome.the-variants.{Dropped, Reported, Halved, BadWeight}
 use Rattle.geometry.specs.declared.subdivide.Outcome.the-variants as outcome
-use Rattle.geometry.specs.declared.contains.Plan.{Plan}
-use Rattle.geometry.specs.declared.contains.Plan.the-variants.{Skip, Report, Restrict, Halve}
+use Rattle.geometry.specs.declared.visits.Plan.{Plan}
+use Rattle.geometry.specs.declared.visits.Plan.the-variants.{Skip, Report, Restrict, Halve}
 use Rattle.geometry.proofs.Memory.Ring.{beside-refl}
 use Rattle.geometry.proofs.Kernels.Plan.{visit-plan}
 

@@ -22,8 +22,8 @@ use Rattle.geometry.specs.declared.fat_line.Hat.{Hat}
 use Rattle.geometry.specs.declared.fat_line.Hat.the-variants.{Over, Missing}
 use Rattle.geometry.specs.declared.fat_line.Abscissae.{Abscissae}
 use Rattle.geometry.specs.declared.fat_line.Greville.the-variants.{Some}
-use Rattle.geometry.specs.declared.contains.Plan.{Plan}
-use Rattle.geometry.specs.declared.contains.Plan.the-variants.{Skip, Report, Restrict, Halve}
+use Rattle.geometry.specs.declared.visits.Plan.{Plan}
+use Rattle.geometry.specs.declared.visits.Plan.the-variants.{Skip, Report, Restrict, Halve}
 use Rattle.geometry.proofs.Kernels.Zeros.{some-greville}
 use Rattle.geometry.proofs.Memory.Numbers.{length-points}
 

@@ -1,6 +1,8 @@
 -- `curve_could_contain` keeps its promises: a refused call gives its number and writes nothing; the search of any other is `answer`, and every exact hit lies between its bounds.
+use mathlib.Core.Path.{ap}
 use native.Mathlib.Omega.{arith}
 use Rattle.geometry.specs.Call.{Call, lent}
+use Rattle.geometry.specs.Paper.{paper}
 use Rattle.geometry.proofs.Kernels.Answer.{refused, encloses}
 use borrow.Author.Needs.{needs}
 use Rattle.geometry.proofs.contains.curve_could_contain.Statement.{statement}
@@ -17,7 +19,7 @@ returns : tie.Need-returns
 returns c =
     let k = c .before .before .before .before .before .before in
     let r = refused (asked k) (k .args .work .now) _ (c .before .refusal .ensures .0) (c .if1 .taken) in
-    (r .0, (r .1, ((λ _ never. absurd never), (tt, tt))))
+    (r .0, (ap paper (r .0), (r .1, ((λ _ never. absurd never), (tt, tt)))))
 
 answer-requires : tie.Need-answer-requires
 answer-requires c κs =
@@ -34,7 +36,7 @@ returns-2 c =
     let a = c .before .before .answer in
     let d = c .before .before .before .before .before .refusal .ensures .1 (omega arith) in
     let e = encloses (asked k) _ (record { knots = d .0; box = d .1 }) (a .ensures .0) in
-    (a .ensures .0, (a .ensures .1, e))
+    (a .ensures .0, (ap paper (a .ensures .0), (a .ensures .1, e)))
 
 pub curve-could-contain-spec : {M : Type 1} → statement M
 curve-could-contain-spec =

@@ -1,0 +1,2 @@
+-- When a path is clear of a box.
+pub mod Clear

@@ -1,0 +1,103 @@
+-- `clip` equals its definition: what is left to clip from axis k on is what was to clip from the start.
+use mathlib.Core.Path.{_≡_, ap, _∙_}
+use Prim.Native.Nat.{suc, _-_, _≤_}
+use native.Mathlib.Omega.{arith}
+use lib.ListN.{length, length-replicate}
+use lib.Ieee.{binary64, ofBits}
+use Rattle.math.specs.Scalars.{geop, unionS}
+use Rattle.geometry.specs.Layout.{scalarsOf, pointsOf}
+use Rattle.geometry.specs.NurbCurve.{domain}
+use Rattle.geometry.specs.Contains.{clip}
+use Rattle.geometry.proofs.Kernels.Clip.{axis-kept, left, left-none, left-next, left-done}
+use borrow.Author.Needs.{needs}
+use Rattle.geometry.proofs.visits.clip.Statement.{statement}
+use Rattle.geometry.proofs.visits.clip.Tie as tie
+
+abbrev Inv-loop : tie.InvT-loop
+Inv-loop xi points point-box dim count start end d₀ hat₀ k₀ d hat k = (k ≤ dim) × ((length d ≡ 64) × (left dim (pointsOf (suc dim) count points) (scalarsOf count xi) point-box hat k ≡ clip geop dim (pointsOf (suc dim) count points) (scalarsOf count xi) (domain start end) 0 (scalarsOf dim point-box)))
+
+abbrev μ-loop : tie.MeasureT-loop
+μ-loop xi points point-box dim count start end d₀ hat₀ k₀ d hat k = dim - k
+
+from-f64-requires : tie.Need-from-f64-requires Inv-loop μ-loop
+from-f64-requires c κs = search needs
+
+from-f64-requires-2 : tie.Need-from-f64-requires-2 Inv-loop μ-loop
+from-f64-requires-2 c κs = search needs
+
+union-requires : tie.Need-union-requires Inv-loop μ-loop
+union-requires c κs = search needs
+
+loop-holds : tie.Need-loop-holds Inv-loop μ-loop
+unfolding domain
+loop-holds c =
+    let a = c .before .before .before .before .before .before .args in
+    (omega arith, (length-replicate 64 (ofBits binary64 0), ap (λ hat. left (a .dim) (pointsOf (suc (a .dim)) (a .count) (a .points .now)) (scalarsOf (a .count) (a .xi .now)) (a .point-box .now) hat 0) (c .union .ensures ∙ (λ i. unionS (c .before .before .from-f64 .ensures i) (c .before .from-f642 .ensures i)))))
+
+scalar-at-requires : tie.Need-scalar-at-requires Inv-loop μ-loop
+scalar-at-requires c κs = search needs
+
+slice-aggregate-clip-axis : tie.Need-slice-aggregate-clip-axis Inv-loop μ-loop
+slice-aggregate-clip-axis c = search needs
+
+clip-axis-requires : tie.Need-clip-axis-requires Inv-loop μ-loop
+clip-axis-requires c κs = search needs
+
+enum-known-h : tie.Need-enum-known-h Inv-loop μ-loop
+enum-known-h c = search needs
+
+enum-told : tie.Need-enum-told Inv-loop μ-loop
+enum-told c = search needs
+
+returns : tie.Need-returns Inv-loop μ-loop
+returns c =
+    let k = c .before .before .before in
+    let l = k .before .before .before .before in
+    let a = l .before .before .before .before .before .before .before .args in
+    left-none (a .dim) (pointsOf (suc (a .dim)) (a .count) (a .points .now)) (scalarsOf (a .count) (a .xi .now)) (a .point-box .now) (l .loop .hat) (k .before .before .scalar-at .result) _ (l .loop .k) (omega arith) (k .before .before .scalar-at .ensures) (k .clip-axis .ensures .0) _ (c .enum-told .given .1) (l .loop .inv .1 .1)
+
+add-k : tie.Need-add-k Inv-loop μ-loop
+add-k c = search needs
+
+loop-less : tie.Need-loop-less Inv-loop μ-loop
+loop-less c = search needs
+
+loop-again : tie.Need-loop-again Inv-loop μ-loop
+loop-again c =
+    let k = c .before .before .before .before in
+    let l = k .before .before .before .before in
+    let s = l .before .before .before .before .before .before .before in
+    let a = s .args in (
+      omega (arith, k .before .before .before .loop-test .taken),
+      (
+        axis-kept (a .points .now) (l .loop .d) _ (a .dim) (a .count) (l .loop .k) 64 (k .before .before .scalar-at .result) (k .before .before .before .loop-test .taken) (omega (arith, s .pre .0 .1, l .loop .inv .1 .0)) (k .clip-axis .ensures .1) (l .loop .inv .1 .0),
+        left-next (a .dim) (pointsOf (suc (a .dim)) (a .count) (a .points .now)) (scalarsOf (a .count) (a .xi .now)) (a .point-box .now) (l .loop .hat) (k .before .before .scalar-at .result) _ (l .loop .k) (omega arith) (k .before .before .scalar-at .ensures) (k .clip-axis .ensures .0) _ _ (c .before .h .given .1) (l .loop .inv .1 .1),
+      ),
+    )
+
+returns-2 : tie.Need-returns-2 Inv-loop μ-loop
+returns-2 c =
+    let l = c .before in
+    let a = l .before .before .before .before .before .before .before .args in
+    left-done (a .dim) (pointsOf (suc (a .dim)) (a .count) (a .points .now)) (scalarsOf (a .count) (a .xi .now)) (a .point-box .now) (l .loop .hat) (l .loop .k) _ (omega arith) (l .loop .inv .1 .1)
+
+pub clip-spec : {M : Type 1} → statement M
+clip-spec =
+    tie.close
+    (tie.spec
+    Inv-loop
+    μ-loop
+    from-f64-requires
+    from-f64-requires-2
+    union-requires
+    loop-holds
+    scalar-at-requires
+    slice-aggregate-clip-axis
+    clip-axis-requires
+    enum-known-h
+    enum-told
+    returns
+    add-k
+    loop-less
+    loop-again
+    returns-2)
