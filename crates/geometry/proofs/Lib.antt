@@ -1,9 +1,3 @@
--- Document 01's cases by computation, and laws of the search.
-pub mod Rows
-pub mod Table
-pub mod Pause
-pub mod Counts
-pub mod Sound
-pub mod Enclosure
+-- Laws behind the function proofs. The other folders have the proofs of the functions.
 pub mod Kernels
 pub mod Memory

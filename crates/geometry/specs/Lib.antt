@@ -1,19 +1,8 @@
--- The search, leaves first. Vector to Contains have the names of the Rust's files; Layout, Call, Paper and Enclosure are the port's own; Slots, Sizes, Boxes, Waiting, Plan and Turns serve the code alone.
-pub mod Vector
-pub mod NurbCurve
-pub mod KnotInsertion
-pub mod Split
-pub mod Aabb
-pub mod FatLine
-pub mod Subdivide
-pub mod Contains
-pub mod Layout
+-- What the code needs beside the definitions of crates/search: how numbers lie in the memory that is lent, and what the faster forms compute.
+pub mod Abscissae
 pub mod Sizes
 pub mod Boxes
 pub mod Slots
 pub mod Plan
 pub mod Turns
 pub mod Waiting
-pub mod Call
-pub mod Paper
-pub mod Enclosure

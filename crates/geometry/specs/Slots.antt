@@ -11,11 +11,11 @@ use lib.Ieee.{Float, nan, ofInt, toUnsigned, binary64, fits}
 use Rattle.lists.specs.Lists.{part, put}
 use Rattle.math.specs.declared.scalars.Scalar.{Scalar}
 use Rattle.math.specs.Scalars.{geop}
-use Rattle.geometry.specs.Vector.{Vector, interpolateV}
-use Rattle.geometry.specs.NurbCurve.{Piece, point, start, end, inDomain}
-use Rattle.geometry.specs.KnotInsertion.{Cut, alpha, blend, fullCut, leftOf, rightOf}
-use Rattle.geometry.specs.Split.{Halves, uncut, both, split, fromBy, upToBy, restrict}
-use Rattle.geometry.specs.Layout.{scalarsOf, flat, pointsOf, slotWords}
+use Rattle.search.specs.Vector.{Vector, interpolateV}
+use Rattle.search.specs.NurbCurve.{Piece, point, start, end, inDomain}
+use Rattle.search.specs.KnotInsertion.{Cut, alpha, blend, fullCut, leftOf, rightOf}
+use Rattle.search.specs.Split.{Halves, uncut, both, split, fromBy, upToBy, restrict}
+use Rattle.search.specs.Layout.{scalarsOf, flat, pointsOf, slotWords}
 use Rattle.geometry.specs.declared.slots.Shape.{Shape}
 
 -- ---- the places

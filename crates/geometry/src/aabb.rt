@@ -1,5 +1,4 @@
 // aabb.rs: the box of a piece, and the test before the search.
-use crate::fat_line::Hat;
 use crate::nurb_curve::coordinate;
 use crate::nurb_curve::scalar_at;
 use crate::nurb_curve::value_or_entire;
@@ -7,6 +6,7 @@ use math::scalars::Divided;
 use math::scalars::Scalar;
 use math::scalars::next_down;
 use math::scalars::next_up;
+use search::fat_line::Hat;
 ghost use mathlib.Core.Path.{_≡_};
 ghost use mathlib.Core.Bool.{false};
 ghost use mathlib.Core.List.{map};
@@ -15,9 +15,9 @@ ghost use lib.ListN.{length};
 ghost use lib.Ieee.{isNan};
 ghost use Rattle.math.specs.Picks.{minF, maxF};
 ghost use Rattle.math.specs.Scalars.{geop, ZERO, ONE, unionS};
-ghost use Rattle.geometry.specs.Layout.{scalarsOf, pointAt, pointsOf};
+ghost use Rattle.search.specs.Layout.{scalarsOf, pointAt, pointsOf};
 ghost use Rattle.geometry.specs.Boxes.{corners, rawPlace};
-ghost use Rattle.geometry.specs.Aabb.{unions, place, aabb, couldOverlap, along, meets, couldMeet};
+ghost use Rattle.search.specs.Aabb.{unions, place, aabb, couldOverlap, along, meets, couldMeet};
 
 // Coordinate k of point i over its weight.
 fn place(points: &[f64], dim: usize, i: usize, k: usize) -> Scalar

@@ -13,31 +13,20 @@ use crate::subdivide::after_visit;
 use crate::subdivide::is_bad;
 use crate::subdivide::wrap;
 use crate::visits::visit;
+use search::contains::Found;
 ghost use mathlib.Core.Path.{_≡_};
 ghost use Prim.Native.Nat.{_+_, _*_, _≤_, _<_};
 ghost use lib.ListN.{length, drop};
 ghost use Rattle.math.specs.Scalars.{geop};
-ghost use Rattle.geometry.specs.Layout.{scalarsOf, slotWords};
-ghost use Rattle.geometry.specs.Contains.{visit, begun};
-ghost use Rattle.geometry.specs.Subdivide.{plain, complete, advance, answered};
+ghost use Rattle.search.specs.Layout.{scalarsOf, slotWords};
+ghost use Rattle.search.specs.Contains.{visit, begun};
+ghost use Rattle.search.specs.Subdivide.{plain, complete, advance, answered};
 ghost use Rattle.geometry.specs.Slots.{pieceAt, Fit};
 ghost use Rattle.geometry.specs.Waiting.{baseOf, ringBase, Ring};
-ghost use Rattle.geometry.specs.Call.{AllDoubles, curve, lent, searched, areaAfter};
-ghost use Rattle.geometry.specs.Enclosure.{Accepted, HitsEnclosed, BoundsInDomain, BoundsPlain};
-ghost use Rattle.geometry.specs.Paper.{paper};
+ghost use Rattle.search.specs.Call.{AllDoubles, curve, lent, searched, areaAfter};
+ghost use Rattle.search.specs.Enclosure.{Accepted, HitsEnclosed, BoundsInDomain, BoundsPlain};
+ghost use Rattle.search.specs.Paper.{paper};
 ghost use Rattle.geometry.specs.Turns.{foundOf, Visited, Begins};
-
-// The answer to a call. The visited count is last in every case.
-pub enum Found {
-    // Every piece was visited, and none was reported: visited.
-    Nothing(usize),
-    // Every piece was visited, and some were reported, all of them between two bounds: lo, hi, visited.
-    Enclosed(f64, f64, usize),
-    // The nodes were used up while pieces were left: pending, visited.
-    Spent(usize, usize),
-    // The call or the curve is refused: the number of the refusal, visited.
-    Refused(u64, usize),
-}
 
 // ---- the answer
 

@@ -11,28 +11,24 @@ use math::scalars::max;
 use math::scalars::min;
 use math::scalars::next_down;
 use math::scalars::next_up;
+use search::fat_line::Hat;
 ghost use mathlib.Core.Path.{_≡_};
 ghost use mathlib.Core.Bool.{cond, _||_};
 ghost use mathlib.Core.List.{zipWith, map};
 ghost use Prim.Native.Nat.{_+_, _*_, _≤_, _<_, suc};
 ghost use lib.ListN.{length};
 ghost use Rattle.math.specs.Scalars.{geop, ZERO, ENTIRE, couldBeEqual, unionS, addS, subS, mulS, divS, zeroF, sharp, middle, widthS, fourFifthsS};
-ghost use Rattle.geometry.specs.Layout.{scalarAt, scalarsOf, pointAt, pointsOf};
-ghost use Rattle.geometry.specs.Aabb.{unions};
-ghost use Rattle.geometry.specs.FatLine.{window, abscissa, greville, held, offset, crossing, fatLineZeros, cartesian, square, distance, extent, toF64, widest, carriedBy, carriedWidth, restricts, halves};
+ghost use Rattle.search.specs.Layout.{scalarAt, scalarsOf, pointAt, pointsOf};
+ghost use Rattle.search.specs.Aabb.{unions};
+ghost use Rattle.search.specs.FatLine.{window, abscissa, greville, offset, crossing, fatLineZeros, cartesian, square, distance, extent, toF64, widest, carriedBy, carriedWidth, restricts, halves};
+ghost use Rattle.geometry.specs.Abscissae.{held};
 ghost use lib.Dec.{ltb};
 ghost use lib.Ieee.{binary64, add, sub, div, lt};
 ghost use Rattle.math.specs.Picks.{maxF};
-ghost use Rattle.geometry.specs.Vector.{coordinate};
-ghost use Rattle.geometry.specs.NurbCurve.{domain, inDomain};
-ghost use Rattle.geometry.specs.Contains.{carried};
+ghost use Rattle.search.specs.Vector.{coordinate};
+ghost use Rattle.search.specs.NurbCurve.{domain, inDomain};
+ghost use Rattle.search.specs.Contains.{carried};
 ghost use Rattle.geometry.specs.Sizes.{positionOf, squared, steps};
-
-// Where the zeros of a spline can lie: over an interval of its parameter, or nowhere.
-pub enum Hat {
-    Over(Scalar),
-    Missing,
-}
 
 // The knots i + 1 to i + degree, as a part of the knots that were lent.
 pub(crate) fn window(knots: &[f64], i: usize, degree: usize) -> &[f64]

@@ -18,9 +18,9 @@ ghost use lib.Dec.{eqb};
 ghost use lib.Ieee.{eq};
 ghost use Rattle.lists.specs.Lists.{part, put, tab, all, position};
 ghost use Rattle.math.specs.Scalars.{geop, isSame, sharp, subS, divS};
-ghost use Rattle.geometry.specs.NurbCurve.{knot};
-ghost use Rattle.geometry.specs.KnotInsertion.{holdsAt, insertionSpan, alpha, blend, knotsWith, insertOnce, insertTimes, triangle, sides, bezierKnots, bezierCut, multiplicity, isBezier, boehmCut, fullCut};
-ghost use Rattle.geometry.specs.Layout.{flat, pointsOf};
+ghost use Rattle.search.specs.NurbCurve.{knot};
+ghost use Rattle.search.specs.KnotInsertion.{holdsAt, insertionSpan, alpha, blend, knotsWith, insertOnce, insertTimes, triangle, sides, bezierKnots, bezierCut, multiplicity, isBezier, boehmCut, fullCut};
+ghost use Rattle.search.specs.Layout.{flat, pointsOf};
 ghost use Rattle.geometry.specs.Slots.{pointsFrom, pointWords, placeOf, countAt, knotsAt, vectorAt, blendAt, betweenAt, numbers, pieceAt, placed, Inside, Held, CutAt};
 
 // The parameter t is at or above knot k, and below the next.

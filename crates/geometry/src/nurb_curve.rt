@@ -6,9 +6,9 @@ ghost use mathlib.Core.Path.{_≡_};
 ghost use Prim.Native.Nat.{suc, _+_, _*_, _≤_, _<_};
 ghost use lib.ListN.{length};
 ghost use Rattle.math.specs.Scalars.{geop, ENTIRE, valueOr};
-ghost use Rattle.geometry.specs.Vector.{coordinate};
-ghost use Rattle.geometry.specs.Layout.{scalarAt, pointAt, pointsOf};
-ghost use Rattle.geometry.specs.NurbCurve.{domain, inDomain, midParameter, weighted};
+ghost use Rattle.search.specs.Vector.{coordinate};
+ghost use Rattle.search.specs.Layout.{scalarAt, pointAt, pointsOf};
+ghost use Rattle.search.specs.NurbCurve.{domain, inDomain, midParameter, weighted};
 
 // Interval number j of a lent list.
 pub(crate) fn scalar_at(l: &[f64], j: usize) -> Scalar

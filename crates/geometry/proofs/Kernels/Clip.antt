@@ -17,12 +17,12 @@ use Rattle.math.specs.declared.scalars.Scalar.{Scalar}
 use Rattle.math.specs.Scalars.{geop, absent, zeroF, isSame, couldBeEqual, intersectS, subS, mulS}
 use Rattle.math.proofs.Bools.{yes, and-l, and-r, pick-yes, pick-no}
 use Rattle.math.proofs.Doubles.Held.{unique}
-use Rattle.geometry.specs.Vector.{Vector, coordinate}
-use Rattle.geometry.specs.Layout.{scalarAt, scalarsOf, pointAt, pointsOf, flat}
-use Rattle.geometry.specs.FatLine.{fatLineZeros}
-use Rattle.geometry.specs.Contains.{axis, narrowed, clip}
-use Rattle.geometry.specs.declared.fat_line.Hat.{Hat}
-use Rattle.geometry.specs.declared.fat_line.Hat.the-variants.{Over, Missing}
+use Rattle.search.specs.Vector.{Vector, coordinate}
+use Rattle.search.specs.Layout.{scalarAt, scalarsOf, pointAt, pointsOf, flat}
+use Rattle.search.specs.FatLine.{fatLineZeros}
+use Rattle.search.specs.Contains.{axis, narrowed, clip}
+use Rattle.search.specs.declared.fat_line.Hat.{Hat}
+use Rattle.search.specs.declared.fat_line.Hat.the-variants.{Over, Missing}
 use Rattle.geometry.proofs.Kernels.Flat.{length-put-flat, scalars-put}
 
 -- ---- a weight that repeats

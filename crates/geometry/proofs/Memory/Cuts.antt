@@ -18,10 +18,10 @@ use Rattle.math.specs.declared.scalars.Divided.{Divided}
 use Rattle.math.specs.declared.scalars.Divided.the-variants.{Value, Failed}
 use Rattle.math.specs.Scalars.{geop, sharp, subS, divS}
 use Rattle.math.proofs.Bools.{and-yes, and-no}
-use Rattle.geometry.specs.Vector.{Vector}
-use Rattle.geometry.specs.NurbCurve.{Piece, knot, point}
-use Rattle.geometry.specs.KnotInsertion.{Cut, triangle, sides, insertionSpan, insertOnce, insertTimes, bezierKnots, bezierCut, multiplicity, isBezier, boehmCut, cutBy, fullCut}
-use Rattle.geometry.specs.Layout.{pointsOf}
+use Rattle.search.specs.Vector.{Vector}
+use Rattle.search.specs.NurbCurve.{Piece, knot, point}
+use Rattle.search.specs.KnotInsertion.{Cut, triangle, sides, insertionSpan, insertOnce, insertTimes, bezierKnots, bezierCut, multiplicity, isBezier, boehmCut, cutBy, fullCut}
+use Rattle.search.specs.Layout.{pointsOf}
 use Rattle.geometry.specs.Slots.{pointsFrom, word, countAt, numbers, pieceAt, placed, Wide, Fits, Inside, Held, CutAt}
 use Rattle.geometry.specs.declared.slots.Shape.{Shape}
 use Rattle.geometry.proofs.Memory.Counts.{from-room}

@@ -14,10 +14,10 @@ use Rattle.lists.proofs.Tab.{tab-ext}
 use Rattle.lists.proofs.Put.{length-put, put-nil, put-part, put-put, put-right, put-whole, put-swap, put-inside}
 use Rattle.math.specs.declared.scalars.Scalar.{Scalar}
 use Rattle.math.specs.Scalars.{geop}
-use Rattle.geometry.specs.Vector.{Vector, interpolateV}
-use Rattle.geometry.specs.NurbCurve.{point}
-use Rattle.geometry.specs.KnotInsertion.{level, triangle, sides}
-use Rattle.geometry.specs.Layout.{flat, pointsOf}
+use Rattle.search.specs.Vector.{Vector, interpolateV}
+use Rattle.search.specs.NurbCurve.{point}
+use Rattle.search.specs.KnotInsertion.{level, triangle, sides}
+use Rattle.search.specs.Layout.{flat, pointsOf}
 use Rattle.geometry.specs.Slots.{pointWords, pointsFrom, placeOf, vectorAt, betweenAt, numbers, Wide, Inside}
 use Rattle.geometry.specs.declared.slots.Shape.{Shape}
 use Rattle.geometry.proofs.Memory.Copies.{put-front}

@@ -6,7 +6,7 @@ use borrow.Author.Tests.{not-true, not-false}
 use lib.ListN.{length, drop}
 use lib.Ieee.{nan}
 use Rattle.lists.specs.Lists.{all}
-use Rattle.geometry.specs.Call.{seldom}
+use Rattle.search.specs.Call.{seldom}
 use Rattle.geometry.proofs.Kernels.Walks.{all-keep, all-stop, all-end}
 use Rattle.geometry.proofs.call.all_seldom.Statement.{statement}
 use Rattle.geometry.proofs.call.all_seldom.Tie as tie

@@ -1,8 +1,8 @@
 -- `completed` equals its definition, case by case.
 use mathlib.Core.Path.{sym, ap, _∙_}
-use Rattle.geometry.specs.Subdivide.{complete}
+use Rattle.search.specs.Subdivide.{complete}
 use Rattle.geometry.specs.Turns.{foundOf}
-use Rattle.geometry.specs.declared.contains.Found.the-variants.{Enclosed}
+use Rattle.search.specs.declared.contains.Found.the-variants.{Enclosed}
 use borrow.Author.Needs.{needs}
 use Rattle.geometry.proofs.contains.completed.Statement.{statement}
 use Rattle.geometry.proofs.contains.completed.Tie as tie

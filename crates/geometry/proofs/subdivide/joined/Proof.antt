@@ -1,7 +1,7 @@
 -- `joined` equals its definition, case by case.
 use mathlib.Core.Path.{sym, ap, _∙_}
 use mathlib.Core.Option.{some}
-use Rattle.geometry.specs.Subdivide.{joined}
+use Rattle.search.specs.Subdivide.{joined}
 use Rattle.geometry.specs.Turns.{foundOf}
 use borrow.Author.Needs.{needs}
 use Rattle.geometry.proofs.subdivide.joined.Statement.{statement}

@@ -3,7 +3,7 @@ use mathlib.Core.Path.{_≡_, refl, sym, ap, _∙_}
 use Prim.Native.Nat.{ℕ, _*_, _+_, _-_, _≤_}
 use lib.ListN.{length}
 use Rattle.lists.proofs.Put.{put-nil}
-use Rattle.geometry.specs.Layout.{flat}
+use Rattle.search.specs.Layout.{flat}
 use Rattle.geometry.proofs.Memory.Between.{after, turn, done}
 use borrow.Author.Needs.{needs}
 use native.Mathlib.Omega.{arith}

@@ -5,9 +5,9 @@ use native.Mathlib.Omega.{arith}
 use lib.ListN.{length, length-replicate}
 use lib.Ieee.{binary64, ofBits}
 use Rattle.math.specs.Scalars.{geop, unionS}
-use Rattle.geometry.specs.Layout.{scalarsOf, pointsOf}
-use Rattle.geometry.specs.NurbCurve.{domain}
-use Rattle.geometry.specs.Contains.{clip}
+use Rattle.search.specs.Layout.{scalarsOf, pointsOf}
+use Rattle.search.specs.NurbCurve.{domain}
+use Rattle.search.specs.Contains.{clip}
 use Rattle.geometry.proofs.Kernels.Clip.{axis-kept, left, left-none, left-next, left-done}
 use borrow.Author.Needs.{needs}
 use Rattle.geometry.proofs.visits.clip.Statement.{statement}

@@ -1,0 +1,15 @@
+-- How the code holds the abscissae: in an array beside an enum. Definitions only.
+use mathlib.Core.List.{List}
+use mathlib.Core.Option.{Option, none, some}
+use lib.ListN.{replicate}
+use Rattle.lists.specs.Lists.{put}
+use Rattle.math.specs.declared.scalars.Scalar.{Scalar}
+use Rattle.math.specs.Scalars.{zeroF}
+use Rattle.search.specs.Layout.{flat}
+use Rattle.geometry.specs.declared.fat_line.Abscissae.{Abscissae}
+use Rattle.geometry.specs.declared.fat_line.Greville.the-variants.{Some, None}
+
+-- How the abscissae stand in an array beside their enum: lo and hi side by side from the front on, and zeros behind them.
+unfoldable pub held : Option (List Scalar) → Abscissae
+held none = record { has = None; at = replicate 64 zeroF }
+held (some ξ) = record { has = Some; at = put (replicate 64 zeroF) 0 (flat ξ) }

@@ -1,0 +1,13 @@
+-- The search, leaves first. Vector to Contains have the names of the Rust's files; Layout, Call, Paper and Enclosure are the port's own.
+pub mod Vector
+pub mod NurbCurve
+pub mod KnotInsertion
+pub mod Split
+pub mod Aabb
+pub mod FatLine
+pub mod Subdivide
+pub mod Contains
+pub mod Layout
+pub mod Call
+pub mod Paper
+pub mod Enclosure
