@@ -1,0 +1,237 @@
+-- The answer to a text: its search, and the cases in which it is refused. Leans on the contract of the search.
+use mathlib.Core.Path.{_≡_, refl, sym, ap, _∙_, subst}
+use mathlib.Core.Bool.{Bool, true, false, cond, _&&_, _||_}
+use mathlib.Core.List.{List, [], _∷_, _++_, append-assoc, append-nil}
+use Prim.Native.Nat.{ℕ, zero, suc, _+_, _*_, _≤_, _<_}
+use native.Mathlib.Nat.{mul-le-mul-right}
+use native.Mathlib.Omega.{arith}
+use borrow.Author.Tests.{le-leb, lt-leb, eq-eqb, ne-eqb, eqb-true, leb-true}
+use lib.Dec.{leb, eqb}
+use lib.ListN.{length, take, drop, getD, length-append, length-drop}
+use lib.Seq.{length-take-le}
+use lib.Ieee.{Float, nan, le}
+use Rattle.lists.specs.Lists.{part, put}
+use Rattle.lists.proofs.Read.{part-put-in, getD-put}
+use Rattle.math.specs.Scalars.{geop}
+use Rattle.math.proofs.Bools.{yes, and-l, pick-yes, pick-no}
+use Rattle.math.proofs.Doubles.Order.{le-number-r}
+use Rattle.search.specs.NurbCurve.{Piece, start, end}
+use Rattle.search.specs.Call.{lent, searched, dimFits, degreeFits, countFits}
+use Rattle.search.specs.Paper.{paper}
+use Rattle.search.specs.Enclosure.{BoundsInDomain}
+use Rattle.search.specs.declared.contains.Found.{Found}
+use Rattle.search.specs.declared.contains.Found.the-variants.{Nothing, Enclosed, Spent, Refused}
+use Rattle.text.specs.Bytes.{Read, bad, got}
+use Rattle.text.specs.Question.{Sizes, sizes, Numbers, numbers, Reading, refusedBy, asks, callOf, sizesRefused, completeBy, openedBy, readBy, reading}
+use Rattle.text.specs.Answer.{answeredBy, answered, printed, response}
+use Rattle.text.specs.Places.{HeadRead, NumbersRead}
+use Rattle.text.specs.Counts.{Counts}
+use Rattle.text.specs.Printable.{Printable}
+use Rattle.text.specs.declared.places.Head.{Head}
+use Rattle.text.specs.declared.places.Head.the-variants.{NoHead, Heads}
+use Rattle.text.specs.declared.places.Small.{Small}
+use Rattle.text.specs.declared.places.Small.the-variants.{NoNumber, Number}
+
+-- the numbers of the points are few
+pub few : (d n : ℕ) → d ≤ 3 → n ≤ 32 → 2 * (d + 1) * n ≤ 256
+few d n h k = let s : 2 * (d + 1) ≤ 8 = omega arith in let e : 2 * (d + 1) * n ≤ 8 * n = mul-le-mul-right n s in omega (arith, e)
+
+-- the numbers of a question, as the code cuts them out of the memory
+pub search-same : (r : Found) (d p n nodes : ℕ) (l work ks ps bs : List Float) (x : Float) → ks ≡ part l 1 (n + p + 1) → ps ≡ part l (1 + (n + p + 1)) (2 * suc d * n)
+    → bs ≡ part l (1 + (n + p + 1) + 2 * suc d * n) (2 * d) → x ≡ getD l 0 nan → 8192 ≡ length work → r ≡ searched geop (lent d p n ks ps bs x nodes work)
+    → r ≡ searched geop (callOf (record { dim = d; degree = p; count = n }) (record { nodes = nodes; resolution = getD l 0 nan; knots = part l 1 (n + p + 1); points = part l (1 + (n + p + 1)) (2 * suc d * n); box = part l (1 + (n + p + 1) + 2 * suc d * n) (2 * d) }))
+search-same r d p n nodes l work ks ps bs x K P B X W R =
+    R ∙ ap (searched geop) (λ i. record { dim = d; degree = p; count = n; knots = K i; points = P i; box = B i; resolution = X i; nodes = nodes; room = sym W i })
+
+-- a bound that lies in a domain is no NaN
+pub printable : (c : Piece) (p : ℕ) (r : Found) → BoundsInDomain c p r → Printable r
+printable c p (Nothing v) h = tt
+printable c p (Enclosed lo hi v) h = (le-number-r (start p c) lo (and-l (le (start p c) lo) (le lo (end c)) (h .0)), le-number-r (start p c) hi (and-l (le (start p c) hi) (le hi (end c)) (h .1)))
+printable c p (Spent n v) h = tt
+printable c p (Refused n v) h = tt
+
+-- ---- parts of a list that was put together
+
+module _ {A : Type 0} where
+  take-front : (xs ys : List A) → take (length xs) (xs ++ ys) ≡ xs
+  take-front [] ys = refl
+  take-front (x ∷ xs) ys = ap (λ (l : List A). x ∷ l) (take-front xs ys)
+
+  drop-front : (xs ys : List A) → drop (length xs) (xs ++ ys) ≡ ys
+  drop-front [] ys = refl
+  drop-front (x ∷ xs) ys = drop-front xs ys
+
+  part-middle : (xs ys zs l : List A) (a w : ℕ) → l ≡ xs ++ (ys ++ zs) → length xs ≡ a → length ys ≡ w → part l a w ≡ ys
+  part-middle xs ys zs l a w e f g = (λ i. part (e i) (sym f i) (sym g i)) ∙ ap (take (length ys)) (drop-front xs (ys ++ zs)) ∙ take-front ys zs
+
+  part-written : (l vs : List A) (a w : ℕ) → a + w ≤ length vs → part (put l 0 vs) a w ≡ part vs a w
+  part-written l vs a w h = let z : a ≡ 0 + a = omega arith in ap (λ (k : ℕ). part (put l 0 vs) k w) z ∙ part-put-in l 0 vs a w h (omega arith)
+
+-- ---- the numbers of a question, read back from the memory that they were written to
+
+module _ (s : Sizes) (q : Numbers) (l m : List Float) (nodes : ℕ) (N : q .nodes ≡ nodes) (K : length (q .knots) ≡ s .count + s .degree + 1) (P : length (q .points) ≡ 2 * suc (s .dim) * s .count)
+    (B : length (q .box) ≡ 2 * s .dim) (M : m ≡ put l 0 (q .resolution ∷ (q .knots ++ q .points ++ q .box))) where
+  abbrev all-of : List Float
+  all-of = q .resolution ∷ (q .knots ++ q .points ++ q .box)
+
+  joined : all-of ≡ q .resolution ∷ (q .knots ++ (q .points ++ q .box))
+  joined = ap (λ (t : List Float). q .resolution ∷ t) (append-assoc (q .knots) (q .points) (q .box))
+
+  all-long : length all-of ≡ 1 + (s .count + s .degree + 1) + 2 * suc (s .dim) * s .count + 2 * s .dim
+  all-long = omega (arith, length-append (q .knots ++ q .points) (q .box), length-append (q .knots) (q .points), K, P, B)
+
+  cut : (a w : ℕ) → a + w ≤ length all-of → part m a w ≡ part all-of a w
+  cut a w h = ap (λ (x : List Float). part x a w) M ∙ part-written l all-of a w h
+
+  knots-back : part m 1 (s .count + s .degree + 1) ≡ q .knots
+  knots-back = cut 1 (s .count + s .degree + 1) (omega (arith, all-long)) ∙ part-middle (q .resolution ∷ []) (q .knots) (q .points ++ q .box) all-of _ _ joined refl K
+
+  points-back : part m (1 + (s .count + s .degree + 1)) (2 * suc (s .dim) * s .count) ≡ q .points
+  points-back = cut (1 + (s .count + s .degree + 1)) (2 * suc (s .dim) * s .count) (omega (arith, all-long)) ∙ part-middle (q .resolution ∷ q .knots) (q .points) (q .box) all-of (1 + (s .count + s .degree + 1)) _ joined (omega (arith, K)) P
+
+  box-back : part m (1 + (s .count + s .degree + 1) + 2 * suc (s .dim) * s .count) (2 * s .dim) ≡ q .box
+  box-back =
+      cut (1 + (s .count + s .degree + 1) + 2 * suc (s .dim) * s .count) (2 * s .dim) (omega (arith, all-long))
+      ∙ part-middle (q .resolution ∷ (q .knots ++ q .points)) (q .box) [] all-of (1 + (s .count + s .degree + 1) + 2 * suc (s .dim) * s .count) _ (ap (λ (t : List Float). q .resolution ∷ (q .knots ++ q .points ++ t)) (sym (append-nil (q .box))))
+      (omega (arith, length-append (q .knots) (q .points), K, P)) B
+
+  resolution-back : getD m 0 nan ≡ q .resolution
+  resolution-back = ap (λ (x : List Float). getD x 0 nan) M ∙ getD-put l 0 all-of 0 nan (omega (arith, all-long)) (omega arith)
+
+  pub asked-same : (r : Found)
+      → r ≡ searched geop (callOf s (record { nodes = nodes; resolution = getD m 0 nan; knots = part m 1 (s .count + s .degree + 1); points = part m (1 + (s .count + s .degree + 1)) (2 * suc (s .dim) * s .count); box = part m (1 + (s .count + s .degree + 1) + 2 * suc (s .dim) * s .count) (2 * s .dim) }))
+      → r ≡ searched geop (callOf s q)
+  asked-same r R = R ∙ (λ i. searched geop (callOf s (record { nodes = sym N i; resolution = resolution-back i; knots = knots-back i; points = points-back i; box = box-back i })))
+
+-- ---- the other lines
+
+module _ (s : Sizes) (text : List ℕ) (spec : Read Numbers) where
+  -- they are of another form
+  asked-bad : spec ≡ bad → Refused 12 0 ≡ answeredBy (completeBy s (length text) spec)
+  unfolding completeBy answeredBy
+  asked-bad e = sym (ap (λ (r : Read Numbers). answeredBy (completeBy s (length text) r)) e)
+
+  module _ (q : Numbers) (i : ℕ) (e : spec ≡ got q (drop i text)) where
+    after : answeredBy (completeBy s (length text) (got q (drop i text))) ≡ answeredBy (completeBy s (length text) spec)
+    after = ap (λ (r : Read Numbers). answeredBy (completeBy s (length text) r)) (sym e)
+
+    turned-down : (b : Bool) → b ≡ false → Refused 12 0 ≡ answeredBy (cond b (asks s q) (refusedBy 12))
+    unfolding answeredBy
+    turned-down b h = sym (ap (λ (x : Bool). answeredBy (cond x (asks s q) (refusedBy 12))) h)
+
+    asked-long : 65536 < length text → Refused 12 0 ≡ answeredBy (completeBy s (length text) spec)
+    unfolding completeBy
+    asked-long h = turned-down _ (ap (λ (x : Bool). x && eqb (length (drop i text)) 0) (lt-leb (length text) 65536 h)) ∙ after
+
+    asked-more : length text ≤ 65536 → i < length text → Refused 12 0 ≡ answeredBy (completeBy s (length text) spec)
+    unfolding completeBy
+    asked-more h k =
+        turned-down _ (ap (λ (x : Bool). x && eqb (length (drop i text)) 0) (le-leb (length text) 65536 h) ∙ ne-eqb (length (drop i text)) 0 (λ z. omega (arith, z, length-drop i text)))
+        ∙ after
+
+    asked-all : (r : Found) → length text ≤ 65536 → length text ≤ i → r ≡ searched geop (callOf s q) → r ≡ answeredBy (completeBy s (length text) spec)
+    unfolding completeBy answeredBy
+    asked-all r h k R =
+        R
+        ∙ sym (ap (λ (x : Bool). answeredBy (cond x (asks s q) (refusedBy 12)))
+        (ap (λ (x : Bool). x && eqb (length (drop i text)) 0) (le-leb (length text) 65536 h) ∙ eq-eqb (length (drop i text)) 0 (omega (arith, length-drop i text))))
+        ∙ after
+
+-- the same, of what `numbers` says that it read
+module _ (s : Sizes) (text : List ℕ) (spec : Read Numbers) (l m : List Float) (r : Small) (h : NumbersRead text spec s l m r) where
+  pub numbers-bad : r ≡ NoNumber → Refused 12 0 ≡ answeredBy (completeBy s (length text) spec)
+  numbers-bad e = asked-bad s text spec (subst (NumbersRead text spec s l m) e h)
+
+  module _ (nodes i : ℕ) (e : r ≡ Number nodes i) where
+    seen : NumbersRead text spec s l m (Number nodes i)
+    seen = subst (NumbersRead text spec s l m) e h
+
+    pub numbers-long : 65536 < length text → Refused 12 0 ≡ answeredBy (completeBy s (length text) spec)
+    numbers-long = asked-long s text spec (seen .1) i (seen .2)
+
+    pub numbers-more : length text ≤ 65536 → i < length text → Refused 12 0 ≡ answeredBy (completeBy s (length text) spec)
+    numbers-more = asked-more s text spec (seen .1) i (seen .2)
+
+    pub numbers-all : (f : Found) → length text ≤ 65536 → length text ≤ i
+        → f ≡ searched geop (callOf s (record { nodes = nodes; resolution = getD m 0 nan; knots = part m 1 (s .count + s .degree + 1); points = part m (1 + (s .count + s .degree + 1)) (2 * suc (s .dim) * s .count); box = part m (1 + (s .count + s .degree + 1) + 2 * suc (s .dim) * s .count) (2 * s .dim) }))
+        → f ≡ answeredBy (completeBy s (length text) spec)
+    numbers-all f a b F =
+        let z = seen in
+        asked-all s text spec (z .1) i (z .2) f a b (asked-same s (z .1) l m nodes (z .3) (z .5) (z .6) (z .7) (z .8) f F)
+
+-- ---- the first three lines
+
+-- a check that is passed
+passes : (b : Bool) (x y : ℕ) → cond b x (suc y) ≡ 0 → (b ≡ true) × (x ≡ 0)
+passes true x y e = (refl, e)
+passes false x y e = absurd (omega (arith, e))
+
+either-small : (a b : Bool) (d : ℕ) → (a ≡ true → d ≡ 2) → (b ≡ true → d ≡ 3) → (a || b) ≡ true → d ≤ 3
+either-small true b d f g e = omega (arith, f refl)
+either-small false true d f g e = omega (arith, g refl)
+either-small false false d f g e = absurd (yes false e)
+
+both-true : (a b : Bool) → (a && b) ≡ true → b ≡ true
+both-true true b e = e
+both-true false b e = absurd (yes false e)
+
+-- sizes that are not refused are small
+pub sizes-fit : (d p n k : ℕ) → k ≡ sizesRefused (record { dim = d; degree = p; count = n }) → k ≡ 0 → (d ≤ 3) × (p ≤ 7) × (n ≤ 32)
+unfolding sizesRefused dimFits degreeFits countFits
+sizes-fit d p n k e z =
+    let a = passes (eqb d 2 || eqb d 3) (cond (leb p 7) (cond (leb (p + 1) n && leb n 32) 0 3) 2) 0 (sym e ∙ z) in
+    let b = passes (leb p 7) (cond (leb (p + 1) n && leb n 32) 0 3) 1 (a .1) in
+    let c = passes (leb (p + 1) n && leb n 32) 0 2 (b .1) in
+    (either-small (eqb d 2) (eqb d 3) d (eqb-true d 2) (eqb-true d 3) (a .0), leb-true p 7 (b .0), leb-true n 32 (both-true (leb (p + 1) n) (leb n 32) (c .0)))
+
+module _ (text : List ℕ) (r : Head) (h : HeadRead text (sizes text) r) where
+  pub head-bad : r ≡ NoHead → Refused 12 0 ≡ answered text
+  unfolding answered reading readBy answeredBy
+  head-bad e = sym (ap (λ (x : Read Sizes). answeredBy (readBy (length text) x)) (subst (HeadRead text (sizes text)) e h))
+
+  module _ (d p n i : ℕ) (e : r ≡ Heads d p n i) where
+    abbrev these : Sizes
+    these = record { dim = d; degree = p; count = n }
+
+    head-seen : HeadRead text (sizes text) (Heads d p n i)
+    head-seen = subst (HeadRead text (sizes text)) e h
+
+    pub head-inside : i ≤ length text
+    head-inside = head-seen .0
+
+    opened : (k : ℕ) → k ≡ sizesRefused these → answeredBy (openedBy these (length text) (drop i text) k) ≡ answered text
+    unfolding answered reading readBy
+    opened k K = ap (λ (x : ℕ). answeredBy (openedBy these (length text) (drop i text) x)) K ∙ sym (ap (λ (x : Read Sizes). answeredBy (readBy (length text) x)) (head-seen .1))
+
+    pub head-refused : (k : ℕ) → k ≡ sizesRefused these → (k ≡ 0 → ⊥) → Refused k 0 ≡ answered text
+    head-refused zero K never = absurd (never refl)
+    head-refused (suc k) K never = one ∙ opened (suc k) K
+      where
+        one : Refused (suc k) 0 ≡ answeredBy (openedBy these (length text) (drop i text) (suc k))
+        one = unfold answeredBy openedBy in refl
+
+    pub head-asked : (k : ℕ) (f : Found) → k ≡ sizesRefused these → k ≡ 0 → f ≡ answeredBy (completeBy these (length text) (numbers these (drop i text))) → f ≡ answered text
+    head-asked k f K z F = F ∙ one ∙ opened 0 (sym z ∙ K)
+      where
+        one : answeredBy (completeBy these (length text) (numbers these (drop i text))) ≡ answeredBy (openedBy these (length text) (drop i text) 0)
+        one = unfold openedBy in refl
+
+-- ---- what is written
+
+module _ (text l m : List ℕ) (f : Found) (r : ℕ) (F : f ≡ answered text) (M : m ≡ put l 0 (printed (paper f))) (R : r ≡ length (printed (paper f))) (few-bytes : r ≤ 160) (room : 160 ≤ length l)
+    (long : length m ≡ length l) where
+  same-text : printed (paper f) ≡ response text
+  unfolding response
+  same-text = ap (λ (x : Found). printed (paper x)) F
+
+  pub responds : (r ≡ cond (leb 160 (length l)) (length (response text)) 0) × (Counts r m × (m ≡ cond (leb 160 (length l)) (put l 0 (response text)) l))
+  responds = (
+    R ∙ ap length same-text ∙ pick-yes _ _ _ (le-leb 160 (length l) room),
+    (
+      (omega (arith, long), sym (length-take-le r m (omega (arith, long)))),
+      M ∙ ap (put l 0) same-text ∙ pick-yes _ _ _ (le-leb 160 (length l) room),
+    ),
+  )
+
+pub too-short : (text l : List ℕ) → length l < 160 → (0 ≡ cond (leb 160 (length l)) (length (response text)) 0) × (Counts 0 l × (l ≡ cond (leb 160 (length l)) (put l 0 (response text)) l))
+too-short text l h = (pick-no _ _ _ (lt-leb 160 (length l) h), ((omega arith, sym (length-take-le 0 l (omega arith))), pick-no _ _ _ (lt-leb 160 (length l) h)))

@@ -1,0 +1,102 @@
+-- `sizes` reads the three lines, one behind the other.
+use Rattle.text.proofs.Lines.{small-some, sizes-none, sizes-one, sizes-two, sizes-three}
+use Rattle.text.specs.Bytes.{bytes}
+use borrow.Author.Needs.{needs}
+use Rattle.text.proofs.question.sizes.Statement.{statement}
+use Rattle.text.proofs.question.sizes.Tie as tie
+
+slice-aggregate-small-line : tie.Need-slice-aggregate-small-line
+slice-aggregate-small-line c = search needs
+
+small-line-requires : tie.Need-small-line-requires
+small-line-requires c κs = search needs
+
+enum-known-d : tie.Need-enum-known-d
+enum-known-d c = search needs
+
+enum-told : tie.Need-enum-told
+enum-told c = search needs
+
+returns : tie.Need-returns
+unfolding bytes
+returns c =
+    let u = c .before .before in
+    let a = u .before .before .before .args in
+    sizes-none (a .text .now) (u .small-line .result) (u .small-line .ensures) (c .enum-told .given .1)
+
+slice-aggregate-small-line-2 : tie.Need-slice-aggregate-small-line-2
+slice-aggregate-small-line-2 c = search needs
+
+small-line-requires-2 : tie.Need-small-line-requires-2
+small-line-requires-2 c κs = small-some _ _ _ _ _ (c .before .before .before .before .small-line .ensures) (c .before .before .d .given .1) .1
+
+enum-known-p : tie.Need-enum-known-p
+enum-known-p c = search needs
+
+enum-told-2 : tie.Need-enum-told-2
+enum-told-2 c = search needs
+
+returns-2 : tie.Need-returns-2
+unfolding bytes
+returns-2 c =
+    let v = c .before .before in
+    let d = v .before .before .before in
+    let u = d .before .before in
+    let a = u .before .before .before .args in
+    sizes-one (a .text .now) (u .small-line .result) (u .small-line .ensures) _ _ (d .d .given .1) (v .small-line2 .result) (v .small-line2 .ensures) (c .enum-told2 .given .1)
+
+slice-aggregate-small-line-3 : tie.Need-slice-aggregate-small-line-3
+slice-aggregate-small-line-3 c = search needs
+
+small-line-requires-3 : tie.Need-small-line-requires-3
+small-line-requires-3 c κs = small-some _ _ _ _ _ (c .before .before .before .before .small-line2 .ensures) (c .before .before .p .given .1) .1
+
+enum-known-n : tie.Need-enum-known-n
+enum-known-n c = search needs
+
+enum-told-3 : tie.Need-enum-told-3
+enum-told-3 c = search needs
+
+returns-3 : tie.Need-returns-3
+unfolding bytes
+returns-3 c =
+    let w = c .before .before in
+    let p = w .before .before .before in
+    let v = p .before .before in
+    let d = v .before .before .before in
+    let u = d .before .before in
+    let a = u .before .before .before .args in
+    sizes-two (a .text .now) (u .small-line .result) (u .small-line .ensures) _ _ (d .d .given .1) (v .small-line2 .result) (v .small-line2 .ensures) _ _ (p .p .given .1) (w .small-line3 .result) (w .small-line3 .ensures) (c .enum-told3 .given .1)
+
+returns-4 : tie.Need-returns-4
+unfolding bytes
+returns-4 c =
+    let n = c .before in
+    let w = n .before .before in
+    let p = w .before .before .before in
+    let v = p .before .before in
+    let d = v .before .before .before in
+    let u = d .before .before in
+    let a = u .before .before .before .args in
+    sizes-three (a .text .now) (u .small-line .result) (u .small-line .ensures) _ _ (d .d .given .1) (v .small-line2 .result) (v .small-line2 .ensures) _ _ (p .p .given .1) (w .small-line3 .result) (w .small-line3 .ensures) _ _ (n .n .given .1)
+
+pub sizes-spec : {M : Type 1} → statement M
+sizes-spec =
+    tie.close
+    (tie.spec
+    slice-aggregate-small-line
+    small-line-requires
+    enum-known-d
+    enum-told
+    returns
+    slice-aggregate-small-line-2
+    small-line-requires-2
+    enum-known-p
+    enum-told-2
+    returns-2
+    slice-aggregate-small-line-3
+    small-line-requires-3
+    enum-known-n
+    enum-told-3
+    returns-3
+    returns-4)

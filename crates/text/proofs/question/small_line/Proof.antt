@@ -1,0 +1,85 @@
+-- `small_line` reads a key, a small number and the end of the line.
+use Rattle.text.proofs.Lines.{word-some, small-some, small-line-keyless, small-line-none, small-line-endless, small-line-whole}
+use borrow.Author.Needs.{needs}
+use Rattle.text.proofs.question.small_line.Statement.{statement}
+use Rattle.text.proofs.question.small_line.Tie as tie
+
+word-requires : tie.Need-word-requires
+word-requires c κs = search needs
+
+enum-known-i : tie.Need-enum-known-i
+enum-known-i c = search needs
+
+enum-told : tie.Need-enum-told
+enum-told c = search needs
+
+returns : tie.Need-returns
+returns c =
+    let w = c .before .before in
+    let a = w .before .before .before .args in
+    small-line-keyless (a .text .now) (a .key .now) _ _ (w .word .ensures) (c .enum-told .given .1)
+
+small-requires : tie.Need-small-requires
+small-requires c κs = word-some _ _ _ _ (c .before .before .before .word .ensures) (c .before .i .given .1) .0
+
+enum-known-n : tie.Need-enum-known-n
+enum-known-n c = search needs
+
+enum-told-2 : tie.Need-enum-told-2
+enum-told-2 c = search needs
+
+returns-2 : tie.Need-returns-2
+returns-2 c =
+    let s = c .before .before in
+    let i = s .before .before in
+    let w = i .before .before in
+    let a = w .before .before .before .args in
+    small-line-none (a .text .now) (a .key .now) _ _ (w .word .ensures) _ (i .i .given .1) _ (s .small .ensures) (c .enum-told2 .given .1)
+
+byte-requires : tie.Need-byte-requires
+byte-requires c κs = small-some _ _ _ _ _ (c .before .before .before .small .ensures) (c .before .n .given .1) .1
+
+enum-known-k : tie.Need-enum-known-k
+enum-known-k c = search needs
+
+enum-told-3 : tie.Need-enum-told-3
+enum-told-3 c = search needs
+
+returns-3 : tie.Need-returns-3
+returns-3 c =
+    let k = c .before .before in
+    let n = k .before .before in
+    let s = n .before .before in
+    let i = s .before .before in
+    let w = i .before .before in
+    let a = w .before .before .before .args in
+    small-line-endless (a .text .now) (a .key .now) _ _ (w .word .ensures) _ (i .i .given .1) _ (s .small .ensures) _ _ (n .n .given .1) _ (k .byte .ensures) (c .enum-told3 .given .1)
+
+returns-4 : tie.Need-returns-4
+returns-4 c =
+    let e = c .before in
+    let k = e .before .before in
+    let n = k .before .before in
+    let s = n .before .before in
+    let i = s .before .before in
+    let w = i .before .before in
+    let a = w .before .before .before .args in
+    small-line-whole (a .text .now) (a .key .now) _ _ (w .word .ensures) _ (i .i .given .1) _ (s .small .ensures) _ _ (n .n .given .1) _ (k .byte .ensures) _ (e .k .given .1)
+
+pub small-line-spec : {M : Type 1} → statement M
+small-line-spec =
+    tie.close
+    (tie.spec
+    word-requires
+    enum-known-i
+    enum-told
+    returns
+    small-requires
+    enum-known-n
+    enum-told-2
+    returns-2
+    byte-requires
+    enum-known-k
+    enum-told-3
+    returns-3
+    returns-4)

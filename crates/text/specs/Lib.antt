@@ -1,0 +1,8 @@
+-- The text of a question, and what is printed for it.
+pub mod Bytes
+pub mod Numerals
+pub mod Question
+pub mod Answer
+pub mod Places
+pub mod Printable
+pub mod Counts

@@ -1,0 +1,123 @@
+-- The text of a question (document 01, 'The program gripcheck'): its lines, and when it is refused by 1, 2, 3 or 12. Definitions only.
+use Prim.Native.Nat.{ℕ, zero, suc, _+_, _*_}
+use mathlib.Core.Bool.{cond, _&&_}
+use mathlib.Core.List.{List, [], _∷_, _++_}
+use lib.ListN.{length, getD}
+use lib.Dec.{leb, eqb}
+use lib.Ieee.{Float, nan}
+use Rattle.search.specs.Call.{Call, dimFits, degreeFits, countFits}
+use Rattle.text.specs.Bytes.{bytes, Read, bad, got, then, word}
+use Rattle.text.specs.Numerals.{small, double}
+
+-- ---- lines
+
+-- "each line ends in a newline"
+abbrev pub newline : ℕ
+newline = 10
+
+-- "One space between values"
+abbrev pub space : ℕ
+space = 32
+
+-- A line of a key and a small number.
+unfoldable pub smallLine : List ℕ → List ℕ → Read ℕ
+smallLine key t = then (word key t) (λ _ a. then (small a) (λ n b. then (word (newline ∷ []) b) (λ _ rest. got n rest)))
+
+-- What stands behind a value, where so many follow it.
+abbrev pub behind : ℕ → ℕ
+behind zero = newline
+behind (suc n) = space
+
+-- n doubles, with a space between two of them and a newline behind the last.
+unfoldable pub values : ℕ → List ℕ → Read (List Float)
+values zero t = got [] t
+values (suc n) t = then (double t) (λ x a. then (word (behind n ∷ []) a) (λ _ b. then (values n b) (λ xs rest. got (x ∷ xs) rest)))
+
+-- A line of a key and n doubles.
+unfoldable pub line : List ℕ → ℕ → List ℕ → Read (List Float)
+line key n t = then (word key t) (λ _ a. values n a)
+
+-- k such lines, one behind the other.
+unfoldable pub lines : List ℕ → ℕ → ℕ → List ℕ → Read (List Float)
+lines key n zero t = got [] t
+lines key n (suc k) t = then (line key n t) (λ xs a. then (lines key n k a) (λ ys rest. got (xs ++ ys) rest))
+
+-- ---- the first three lines
+
+-- The sizes of a curve.
+pub record Sizes : Type 0 where
+  pub dim : ℕ
+  pub degree : ℕ
+  pub count : ℕ
+
+unfoldable pub sizes : List ℕ → Read Sizes
+sizes t =
+    then (smallLine (bytes "dim=") t) (λ dim a.
+    then (smallLine (bytes "degree=") a) (λ degree b.
+    then (smallLine (bytes "count=") b) (λ count rest.
+    got (record { dim = dim; degree = degree; count = count }) rest)))
+
+-- ---- the other lines
+
+-- What the other lines say.
+pub record Numbers : Type 0 where
+  pub nodes : ℕ
+  pub resolution : Float
+  pub knots : List Float
+  pub points : List Float
+  pub box : List Float
+
+unfoldable pub numbers : Sizes → List ℕ → Read Numbers
+numbers s t =
+    then (smallLine (bytes "nodes=") t) (λ nodes a.
+    then (line (bytes "resolution=") 1 a) (λ resolution b.
+    then (line (bytes "knots=") (s .count + s .degree + 1) b) (λ knots c.
+    then (lines (bytes "point=") (2 * suc (s .dim)) (s .count) c) (λ points d.
+    then (line (bytes "box=") (2 * s .dim) d) (λ box rest.
+    got (record { nodes = nodes; resolution = getD resolution 0 nan; knots = knots; points = points; box = box }) rest)))))
+
+-- ---- the whole text
+
+-- What a text comes to: the number of a refusal, or a question.
+pub data Reading : Type 0 where
+  refusedBy : ℕ → Reading
+  asks : Sizes → Numbers → Reading
+
+-- The call that is made of a question. The program "lends 8,192 numbers".
+abbrev pub callOf : Sizes → Numbers → Call
+callOf s q = record {
+  dim = s .dim;
+  degree = s .degree;
+  count = s .count;
+  knots = q .knots;
+  points = q .points;
+  box = q .box;
+  resolution = q .resolution;
+  nodes = q .nodes;
+  room = 8192;
+}
+
+-- The refusal of sizes by 1, 2 or 3, or 0.
+unfoldable pub sizesRefused : Sizes → ℕ
+sizesRefused s =
+    let c = callOf s (record { nodes = 0; resolution = nan; knots = []; points = []; box = [] }) in
+    cond (dimFits c) (cond (degreeFits c) (cond (countFits c) 0 3) 2) 1
+
+-- The other lines, of a text of n bytes: "12: the text is not of the form below, or is over 65,536 bytes."
+unfoldable pub completeBy : Sizes → ℕ → Read Numbers → Reading
+completeBy s n bad = refusedBy 12
+completeBy s n (got q rest) = cond (leb n 65536 && eqb (length rest) 0) (asks s q) (refusedBy 12)
+
+-- The sizes are known, and the refusal that they bring: "It comes before 4 to 10; numbers 1 to 3 come as soon as the first three lines are read."
+unfoldable pub openedBy : Sizes → ℕ → List ℕ → ℕ → Reading
+openedBy s n rest zero = completeBy s n (numbers s rest)
+openedBy s n rest (suc r) = refusedBy (suc r)
+
+-- After the first three lines.
+unfoldable pub readBy : ℕ → Read Sizes → Reading
+readBy n bad = refusedBy 12
+readBy n (got s rest) = openedBy s n rest (sizesRefused s)
+
+-- What a text comes to.
+unfoldable pub reading : List ℕ → Reading
+reading text = readBy (length text) (sizes text)

@@ -1,0 +1,255 @@
+// The lines of a question.
+use crate::numerals::double;
+use crate::numerals::is_double;
+use crate::numerals::small;
+use crate::places::Head;
+use crate::places::Place;
+use crate::places::Small;
+ghost use mathlib.Core.Path.{_≡_};
+ghost use mathlib.Core.Bool.{_&&_, _||_};
+ghost use mathlib.Core.List.{[], _∷_};
+ghost use Prim.Native.Nat.{suc, _+_, _*_, _≤_, _<_};
+ghost use lib.ListN.{length, drop};
+ghost use lib.Dec.{leb, eqb};
+ghost use Rattle.text.specs.Bytes.{word};
+ghost use Rattle.text.specs.Question.{behind, smallLine, values, line, lines, sizes, sizesRefused, numbers};
+ghost use Rattle.text.specs.Places.{WordRead, SmallRead, HeadRead, ValueRead, ValuesRead, LimitsRead, ShapeRead, NumbersRead};
+
+// The word w from `at` on.
+fn word(text: &[u8], at: usize, w: &[u8]) -> Place
+    requires { ⌜ at ≤ length (now text) ⌝ }
+    ensures { λ r. ⌜ WordRead (now (text .entry)) (word (now (w .entry)) (drop at (now (text .entry)))) r ⌝ }
+{
+    if text.len() - at < w.len() {
+        return Place::Bad;
+    }
+    let mut i = 0;
+    while i < w.len() {
+        if text[at + i] != w[i] {
+            return Place::Bad;
+        }
+        i += 1;
+    }
+    Place::At(at + w.len())
+}
+
+// The byte b from `at` on.
+fn byte(text: &[u8], at: usize, b: u8) -> Place
+    requires { ⌜ at ≤ length (now text) ⌝ }
+    ensures { λ r. ⌜ WordRead (now (text .entry)) (word (b ∷ []) (drop at (now (text .entry)))) r ⌝ }
+{
+    if text.len() <= at {
+        return Place::Bad;
+    }
+    if text[at] != b {
+        return Place::Bad;
+    }
+    Place::At(at + 1)
+}
+
+// A line of a key and a small number.
+fn small_line(text: &[u8], at: usize, key: &[u8]) -> Small
+    requires { ⌜ at ≤ length (now text) ⌝ }
+    ensures { λ r. ⌜ SmallRead (now (text .entry)) (smallLine (now (key .entry)) (drop at (now (text .entry)))) r ⌝ }
+{
+    let Place::At(i) = word(text, at, key) else {
+        return Small::NoNumber;
+    };
+    let Small::Number(n, j) = small(text, i) else {
+        return Small::NoNumber;
+    };
+    let Place::At(k) = byte(text, j, 10) else {
+        return Small::NoNumber;
+    };
+    Small::Number(n, k)
+}
+
+// What stands behind a value, where so many follow it.
+fn behind(n: usize) -> u8
+    ensures { λ r. ⌜ r ≡ behind n ⌝ }
+{
+    if n == 0 { 10 } else { 32 }
+}
+
+// One double from `at` on, with the byte b behind it: where the rest begins.
+fn value(text: &[u8], at: usize, b: u8) -> Place
+    requires { ⌜ at ≤ length (now text) ⌝ }
+    ensures { λ r. ⌜ ValueRead (now (text .entry)) at b r ⌝ }
+{
+    if !is_double(text, at) {
+        return Place::Bad;
+    }
+    byte(text, at + 16, b)
+}
+
+// n doubles from `at` on, written to `out` from `to` on.
+fn values(text: &[u8], at: usize, n: usize, out: &mut [f64], to: usize) -> Place
+    requires { ⌜ (at ≤ length (now text)) × (to + n ≤ length (now out)) ⌝ }
+    ensures { λ r. ⌜ ValuesRead (now (text .entry)) (values n (drop at (now (text .entry)))) n to (now (out .entry)) (now (out .exit)) r ⌝ }
+{
+    let mut i = 0;
+    let mut k = at;
+    while i < n {
+        let Place::At(j) = value(text, k, behind(n - i - 1)) else {
+            return Place::Bad;
+        };
+        out[to + i] = double(text, k);
+        k = j;
+        i += 1;
+    }
+    Place::At(k)
+}
+
+// A line of a key and n doubles.
+fn line(text: &[u8], at: usize, key: &[u8], n: usize, out: &mut [f64], to: usize) -> Place
+    requires { ⌜ (at ≤ length (now text)) × (to + n ≤ length (now out)) ⌝ }
+    ensures { λ r. ⌜ ValuesRead (now (text .entry)) (line (now (key .entry)) n (drop at (now (text .entry)))) n to (now (out .entry)) (now (out .exit)) r ⌝ }
+{
+    let Place::At(i) = word(text, at, key) else {
+        return Place::Bad;
+    };
+    values(text, i, n, out, to)
+}
+
+// k lines of a key and n doubles.
+fn lines(
+    text: &[u8],
+    at: usize,
+    key: &[u8],
+    n: usize,
+    k: usize,
+    out: &mut [f64],
+    to: usize,
+) -> Place
+    requires { ⌜ (at ≤ length (now text)) × (to + n * k ≤ length (now out)) ⌝ }
+    ensures { λ r. ⌜ ValuesRead (now (text .entry)) (lines (now (key .entry)) n k (drop at (now (text .entry)))) (n * k) to (now (out .entry)) (now (out .exit)) r ⌝ }
+{
+    let mut i = 0;
+    let mut p = at;
+    while i < k {
+        let Place::At(j) = line(text, p, key, n, out, to + n * i) else {
+            return Place::Bad;
+        };
+        p = j;
+        i += 1;
+    }
+    Place::At(p)
+}
+
+// The first three lines.
+pub(crate) fn sizes(text: &[u8]) -> Head
+    ensures { λ r. ⌜ HeadRead (now (text .entry)) (sizes (now (text .entry))) r ⌝ }
+{
+    let dim = [b'd', b'i', b'm', b'='];
+    let Small::Number(d, i) = small_line(text, 0, &dim) else {
+        return Head::NoHead;
+    };
+    let degree = [b'd', b'e', b'g', b'r', b'e', b'e', b'='];
+    let Small::Number(p, j) = small_line(text, i, &degree) else {
+        return Head::NoHead;
+    };
+    let count = [b'c', b'o', b'u', b'n', b't', b'='];
+    let Small::Number(n, k) = small_line(text, j, &count) else {
+        return Head::NoHead;
+    };
+    Head::Heads(d, p, n, k)
+}
+
+// dim is 2 or 3.
+fn dim_fits(dim: usize) -> bool
+    ensures { λ r. ⌜ r ≡ (eqb dim 2 || eqb dim 3) ⌝ }
+{
+    dim == 2 || dim == 3
+}
+
+// count is from degree + 1 to 32.
+fn count_fits(degree: usize, count: usize) -> bool
+    requires { ⌜ degree ≤ 7 ⌝ }
+    ensures { λ r. ⌜ r ≡ (leb (degree + 1) count && leb count 32) ⌝ }
+{
+    degree + 1 <= count && count <= 32
+}
+
+// The refusal of sizes by 1, 2 or 3, or 0.
+pub(crate) fn sizes_refused(dim: usize, degree: usize, count: usize) -> usize
+    ensures { λ r. ⌜ r ≡ sizesRefused (record { dim = dim; degree = degree; count = count }) ⌝ }
+{
+    if !dim_fits(dim) {
+        return 1;
+    }
+    if 7 < degree {
+        return 2;
+    }
+    if !count_fits(degree, count) {
+        return 3;
+    }
+    0
+}
+
+// The line of the nodes and that of the resolution, which is written to the front of `out`.
+fn limits(text: &[u8], at: usize, out: &mut [f64]) -> Small
+    requires { ⌜ (at ≤ length (now text)) × (1 ≤ length (now out)) ⌝ }
+    ensures { λ r. ⌜ LimitsRead (now (text .entry)) (drop at (now (text .entry))) (now (out .entry)) (now (out .exit)) r ⌝ }
+{
+    let nodes = [b'n', b'o', b'd', b'e', b's', b'='];
+    let Small::Number(n, i) = small_line(text, at, &nodes) else {
+        return Small::NoNumber;
+    };
+    let resolution = [
+        b'r',
+        b'e',
+        b's',
+        b'o',
+        b'l',
+        b'u',
+        b't',
+        b'i',
+        b'o',
+        b'n',
+        b'=',
+    ];
+    let Place::At(j) = line(text, i, &resolution, 1, out, 0) else {
+        return Small::NoNumber;
+    };
+    Small::Number(n, j)
+}
+
+// The lines of the knots, the points and the box, written to `out` from its second place on.
+fn shape(text: &[u8], at: usize, dim: usize, degree: usize, count: usize, out: &mut [f64]) -> Place
+    requires { ⌜ (at ≤ length (now text)) × (dim ≤ 3) × (degree ≤ 7) × (count ≤ 32) × (303 ≤ length (now out)) ⌝ }
+    ensures { λ r. ⌜ ShapeRead (now (text .entry)) (drop at (now (text .entry))) (record { dim = dim; degree = degree; count = count }) (now (out .entry)) (now (out .exit)) r ⌝ }
+{
+    let knots = [b'k', b'n', b'o', b't', b's', b'='];
+    let k = count + degree + 1;
+    let Place::At(i) = line(text, at, &knots, k, out, 1) else {
+        return Place::Bad;
+    };
+    let point = [b'p', b'o', b'i', b'n', b't', b'='];
+    let w = 2 * (dim + 1);
+    let Place::At(j) = lines(text, i, &point, w, count, out, 1 + k) else {
+        return Place::Bad;
+    };
+    let cell = [b'b', b'o', b'x', b'='];
+    line(text, j, &cell, 2 * dim, out, 1 + k + w * count)
+}
+
+// All the other lines.
+pub(crate) fn numbers(
+    text: &[u8],
+    at: usize,
+    dim: usize,
+    degree: usize,
+    count: usize,
+    out: &mut [f64],
+) -> Small
+    requires { ⌜ (at ≤ length (now text)) × (dim ≤ 3) × (degree ≤ 7) × (count ≤ 32) × (303 ≤ length (now out)) ⌝ }
+    ensures { λ r. ⌜ NumbersRead (now (text .entry)) (numbers (record { dim = dim; degree = degree; count = count }) (drop at (now (text .entry)))) (record { dim = dim; degree = degree; count = count }) (now (out .entry)) (now (out .exit)) r ⌝ }
+{
+    let Small::Number(n, i) = limits(text, at, out) else {
+        return Small::NoNumber;
+    };
+    let Place::At(j) = shape(text, i, dim, degree, count, out) else {
+        return Small::NoNumber;
+    };
+    Small::Number(n, j)
+}
