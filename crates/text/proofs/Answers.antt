@@ -3,7 +3,6 @@ use mathlib.Core.Path.{_≡_, refl, sym, ap, _∙_, subst}
 use mathlib.Core.Bool.{Bool, true, false, cond, _&&_, _||_}
 use mathlib.Core.List.{List, [], _∷_, _++_, append-assoc, append-nil}
 use Prim.Native.Nat.{ℕ, zero, suc, _+_, _*_, _≤_, _<_}
-use native.Mathlib.Nat.{mul-le-mul-right}
 use native.Mathlib.Omega.{arith}
 use borrow.Author.Tests.{le-leb, lt-leb, eq-eqb, ne-eqb, eqb-true, leb-true}
 use lib.Dec.{leb, eqb}
@@ -31,10 +30,6 @@ use Rattle.text.specs.declared.places.Head.{Head}
 use Rattle.text.specs.declared.places.Head.the-variants.{NoHead, Heads}
 use Rattle.text.specs.declared.places.Small.{Small}
 use Rattle.text.specs.declared.places.Small.the-variants.{NoNumber, Number}
-
--- the numbers of the points are few
-pub few : (d n : ℕ) → d ≤ 3 → n ≤ 32 → 2 * (d + 1) * n ≤ 256
-few d n h k = let s : 2 * (d + 1) ≤ 8 = omega arith in let e : 2 * (d + 1) * n ≤ 8 * n = mul-le-mul-right n s in omega (arith, e)
 
 -- the numbers of a question, as the code cuts them out of the memory
 pub search-same : (r : Found) (d p n nodes : ℕ) (l work ks ps bs : List Float) (x : Float) → ks ≡ part l 1 (n + p + 1) → ps ≡ part l (1 + (n + p + 1)) (2 * suc d * n)

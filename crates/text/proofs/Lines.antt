@@ -360,19 +360,13 @@ module _ (text : List ℕ) (r : Small) (one : SmallRead text (smallLine (bytes "
       pub sizes-three : (n k : ℕ) → z ≡ Number n k → HeadRead text (sizes text) (Heads d p n k)
       sizes-three n k g = let s = small-some text _ z n k three g in (s .1, sizes-last ∙ then-got (smallLine (bytes "count=") (drop j text)) _ n (drop k text) (s .2))
 
--- ---- the refusal of sizes: the arms of a test with || or &&, then the three tests
+-- ---- the refusal of sizes: the arms of a test with ||, then the three tests
 
 pub or-yes : (a b : Bool) → a ≡ true → a ≡ (a || b)
 or-yes a b e = rw e
 
 pub or-no : (a b : Bool) → a ≡ false → b ≡ (a || b)
 or-no a b e = rw e
-
-pub and-yes : (a b : Bool) → a ≡ true → b ≡ (a && b)
-and-yes a b e = rw e
-
-pub and-no : (a b : Bool) → a ≡ false → a ≡ (a && b)
-and-no a b e = rw e
 
 module _ (dim degree count : ℕ) (d : Bool) (fits : d ≡ (eqb dim 2 || eqb dim 3)) where
   pub refused-dim : d ≡ false → 1 ≡ sizesRefused (record { dim = dim; degree = degree; count = count })

@@ -6,7 +6,8 @@ use lib.ListN.{getD}
 use lib.Ieee.{nan}
 use Rattle.lists.specs.Lists.{part}
 use Rattle.search.specs.Call.{curve, lent}
-use Rattle.text.proofs.Answers.{few, search-same, printable}
+use Rattle.text.proofs.Lines.{few}
+use Rattle.text.proofs.Answers.{search-same, printable}
 use borrow.Author.Needs.{needs}
 use Rattle.text.proofs.answer.search.Statement.{statement}
 use Rattle.text.proofs.answer.search.Tie as tie
@@ -30,16 +31,16 @@ mul-p : tie.Need-mul-p
 mul-p c = search needs
 
 mul-p-2 : tie.Need-mul-p-2
-mul-p-2 c = let g = c .before .before .args in omega (arith, few (g .dim) (g .count) (omega arith) (omega arith))
+mul-p-2 c = let g = c .before .before .args in omega (arith, few (2 * (g .dim + 1)) (g .count) (omega arith) (omega arith))
 
 add-p-2 : tie.Need-add-p-2
-add-p-2 c = let g = c .before .before .args in omega (arith, few (g .dim) (g .count) (omega arith) (omega arith))
+add-p-2 c = let g = c .before .before .args in omega (arith, few (2 * (g .dim + 1)) (g .count) (omega arith) (omega arith))
 
 mul-b : tie.Need-mul-b
 mul-b c = search needs
 
 add-b : tie.Need-add-b
-add-b c = let g = c .before .before .args in omega (arith, few (g .dim) (g .count) (omega arith) (omega arith))
+add-b c = let g = c .before .before .args in omega (arith, few (2 * (g .dim + 1)) (g .count) (omega arith) (omega arith))
 
 sub-curve-could-contain : tie.Need-sub-curve-could-contain
 sub-curve-could-contain c = search needs
@@ -60,10 +61,10 @@ part-curve-could-contain-start-2 : tie.Need-part-curve-could-contain-start-2
 part-curve-could-contain-start-2 c = search needs
 
 part-curve-could-contain-end-2 : tie.Need-part-curve-could-contain-end-2
-part-curve-could-contain-end-2 c = let g = c .before .before .before .args in omega (arith, few (g .dim) (g .count) (omega arith) (omega arith))
+part-curve-could-contain-end-2 c = let g = c .before .before .before .args in omega (arith, few (2 * (g .dim + 1)) (g .count) (omega arith) (omega arith))
 
 mul-curve-could-contain-2 : tie.Need-mul-curve-could-contain-2
-mul-curve-could-contain-2 c = let g = c .before .before .before .before .args in omega (arith, few (g .dim) (g .count) (omega arith) (omega arith))
+mul-curve-could-contain-2 c = let g = c .before .before .before .before .args in omega (arith, few (2 * (g .dim + 1)) (g .count) (omega arith) (omega arith))
 
 sub-curve-could-contain-3 : tie.Need-sub-curve-could-contain-3
 sub-curve-could-contain-3 c = search needs
@@ -72,7 +73,7 @@ part-curve-could-contain-start-3 : tie.Need-part-curve-could-contain-start-3
 part-curve-could-contain-start-3 c = search needs
 
 part-curve-could-contain-end-3 : tie.Need-part-curve-could-contain-end-3
-part-curve-could-contain-end-3 c = let g = c .before .before .before .before .args in omega (arith, few (g .dim) (g .count) (omega arith) (omega arith))
+part-curve-could-contain-end-3 c = let g = c .before .before .before .before .args in omega (arith, few (2 * (g .dim + 1)) (g .count) (omega arith) (omega arith))
 
 shared-slice-read-curve-could-contain : tie.Need-shared-slice-read-curve-could-contain
 shared-slice-read-curve-could-contain c = search needs

@@ -1,6 +1,6 @@
 -- `count_fits` equals its definition.
 use borrow.Author.Needs.{needs}
-use Rattle.text.proofs.Lines.{and-yes, and-no}
+use Rattle.math.proofs.Bools.{and-yes, and-no}
 use borrow.Author.Tests.{le-leb, lt-leb}
 use Rattle.text.proofs.question.count_fits.Statement.{statement}
 use Rattle.text.proofs.question.count_fits.Tie as tie
