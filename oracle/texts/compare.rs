@@ -1,0 +1,640 @@
+//! Hands the same texts to `respond` of crates/text, which gives what the program gripcheck prints, and to document 01 and the Rust, and compares the
+//! outputs byte for byte. With `--store FOLDER` it writes questions and expected answers to files instead.
+use geop_core_geometry::contains::curve::curve_could_contain;
+use geop_core_geometry::nurb_curve::{NurbCurve, ParameterRefinable};
+use geop_core_math::{geop_error::GeopError, scalars::Scalar, vector::Vector, visits};
+use std::panic::{AssertUnwindSafe, catch_unwind, set_hook};
+use std::sync::atomic::{AtomicBool, Ordering::Relaxed};
+
+#[path = "../search/questions.rs"]
+mod questions;
+use questions::{MOST, Question, Rng, question, stated};
+
+unsafe extern "C" {
+    fn t_respond(text: *const u8, text_len: usize, out: *mut u8, out_len: usize) -> usize;
+}
+
+/// The bytes that a text may have, and the numbers that the program lends.
+const LONGEST: usize = 65_536;
+const LENT: usize = 8_192;
+
+// ---- what is expected: the text's form
+
+/// A small number: decimal, without leading zeros, of at most nine digits.
+fn small(word: &[u8]) -> Option<usize> {
+    let word = std::str::from_utf8(word).ok()?;
+    let number: u64 = word.parse().ok()?;
+    (word.len() <= 9 && number.to_string() == word).then_some(number as usize)
+}
+/// A double: the 16 hexadecimal digits of its bits, either case.
+fn double(word: &[u8]) -> Option<f64> {
+    let fits = word.len() == 16 && word.iter().all(u8::is_ascii_hexdigit);
+    let word = std::str::from_utf8(word).ok()?;
+    if fits { u64::from_str_radix(word, 16).ok().map(f64::from_bits) } else { None }
+}
+/// The words of the line `key=..`, one space between them.
+fn words<'a>(line: Option<&&'a [u8]>, key: &str) -> Option<Vec<&'a [u8]>> {
+    let rest = line?.strip_prefix(key.as_bytes())?.strip_prefix(b"=")?;
+    Some(rest.split(|b| *b == b' ').collect())
+}
+fn small_line(line: Option<&&[u8]>, key: &str) -> Option<usize> {
+    let words = words(line, key)?;
+    if words.len() == 1 { small(words[0]) } else { None }
+}
+/// The line `key=..` with exactly so many doubles.
+fn doubles_line(line: Option<&&[u8]>, key: &str, many: usize) -> Option<Vec<f64>> {
+    let numbers: Option<Vec<f64>> = words(line, key)?.into_iter().map(double).collect();
+    numbers.filter(|l| l.len() == many)
+}
+/// The first three lines of a text.
+fn sizes(text: &[u8]) -> Option<[usize; 3]> {
+    let lines: Vec<&[u8]> = text.splitn(4, |b| *b == b'\n').collect();
+    let sizes = [small_line(lines.first(), "dim")?, small_line(lines.get(1), "degree")?, small_line(lines.get(2), "count")?];
+    (lines.len() == 4).then_some(sizes)
+}
+/// A text of these sizes that is of the form.
+fn whole(text: &[u8], [dim, degree, count]: [usize; 3]) -> Option<Question> {
+    let mut lines: Vec<&[u8]> = text.split(|b| *b == b'\n').collect();
+    if text.len() > LONGEST || lines.pop() != Some(b"") || lines.len() != 7 + count {
+        return None;
+    }
+    let nodes = small_line(lines.get(3), "nodes")?;
+    let resolution = doubles_line(lines.get(4), "resolution", 1)?[0];
+    let knots = doubles_line(lines.get(5), "knots", count + degree + 1)?;
+    let points: Option<Vec<Vec<f64>>> = (6..6 + count).map(|i| doubles_line(lines.get(i), "point", 2 * (dim + 1))).collect();
+    let cell = doubles_line(lines.last(), "box", 2 * dim)?;
+    Some(Question { dim, degree, count, knots, points: points?.concat(), cell, resolution, nodes, room: LENT })
+}
+
+// ---- what is expected: refusals
+
+/// The question that a text asks, or the number by which document 01 refuses it.
+fn asked(text: &[u8]) -> Result<Question, u64> {
+    let sizes = sizes(text).ok_or(12u64)?;
+    let [dim, degree, count] = sizes;
+    if dim != 2 && dim != 3 {
+        return Err(1);
+    } else if degree > 7 {
+        return Err(2);
+    } else if count < degree + 1 || count > 32 {
+        return Err(3);
+    }
+    let q = whole(text, sizes).ok_or(12u64)?;
+    match refusal(&q) {
+        0 => Ok(q),
+        n => Err(n),
+    }
+}
+/// The number from 5 to 10 by which document 01 refuses a question, or 0.
+fn refusal(q: &Question) -> u64 {
+    let mut numbers = q.knots.iter().chain(&q.points).chain(&q.cell).chain([&q.resolution]);
+    let mut intervals = q.points.chunks(2).chain(q.cell.chunks(2));
+    if numbers.any(|x| x.is_nan() || x.abs() > MOST) || q.resolution < 0.0 {
+        5
+    } else if intervals.any(|c| c[0] > c[1]) {
+        6
+    } else if q.points.chunks(2 * (q.dim + 1)).any(|p| p[2 * q.dim] <= 0.0) {
+        7
+    } else if knots_wrong(q) {
+        8
+    } else if q.nodes > 4096 {
+        9
+    } else if q.room < stated(q) {
+        10
+    } else {
+        0
+    }
+}
+fn knots_wrong(q: &Question) -> bool {
+    let (start, end) = (q.knots[q.degree], q.knots[q.count]);
+    let times = |u: f64| q.knots.iter().filter(|v| **v == u).count();
+    q.knots.windows(2).any(|w| w[0] > w[1])
+        || start >= end
+        || times(start) > q.degree + 1
+        || times(end) > q.degree + 1
+        || q.knots.iter().any(|&u| start < u && u < end && times(u) > q.degree.max(1))
+}
+
+// ---- what is expected: the Rust's answer
+
+/// The Rust is being asked: its panics are answers, and say nothing.
+static ASKING: AtomicBool = AtomicBool::new(false);
+
+/// The Rust's answer and its visits; or what it panicked with.
+fn run_rust<const D: usize, const C: usize>(q: &Question) -> (Result<Result<Option<Scalar>, GeopError>, String>, u64)
+where
+    NurbCurve<D>: ParameterRefinable<C>,
+{
+    let scalars = |l: &[f64]| l.chunks(2).map(|c| Scalar { lo: c[0], hi: c[1] }).collect::<Vec<_>>();
+    let points = scalars(&q.points).chunks(D).map(|p| Vector::from_array(std::array::from_fn(|k| p[k]))).collect();
+    let knots = q.knots.iter().map(|&u| Scalar::from_f64(u)).collect();
+    let cell = scalars(&q.cell);
+    let cell = Vector::<C>::from_array(std::array::from_fn(|k| cell[k]));
+    visits::taken();
+    ASKING.store(true, Relaxed);
+    let answer = catch_unwind(AssertUnwindSafe(|| {
+        let curve = NurbCurve::<D>::try_new(q.degree, points, knots)?;
+        curve_could_contain(&curve, &cell, q.nodes, Scalar::from_f64(q.resolution))
+    }));
+    ASKING.store(false, Relaxed);
+    (answer.map_err(|said| said.downcast_ref::<String>().cloned().unwrap_or_default()), visits::taken())
+}
+/// The bits of a bound, where a negative zero counts as zero, and any NaN as one.
+fn bits(x: f64) -> String {
+    format!("{:016x}", if x.is_nan() { f64::NAN } else { x + 0.0 }.to_bits())
+}
+/// The pending count that the Rust's error names.
+fn pending(said: &str) -> Option<u64> {
+    let (before, _) = said.split_once(" segments pending")?;
+    before.rsplit(' ').next()?.parse().ok()
+}
+
+/// What is expected for a text: the result's word, visited, and the five lines.
+struct Expected {
+    word: String,
+    visited: u64,
+    lines: String,
+}
+fn expect(word: &str, visited: u64, pending: u64, lo: &str, hi: &str) -> Expected {
+    let lines = format!("result={word}\nvisited={visited}\npending={pending}\nlo={lo}\nhi={hi}\n");
+    Expected { word: word.into(), visited, lines }
+}
+/// The Rust's answer, as it is to be printed; or what it said that is no answer of document 01.
+fn ask_rust<const D: usize, const C: usize>(q: &Question) -> Result<Expected, String>
+where
+    NurbCurve<D>: ParameterRefinable<C>,
+{
+    let (answer, visited) = run_rust::<D, C>(q);
+    match answer {
+        Ok(Ok(None)) => Ok(expect("none", visited, 0, "-", "-")),
+        Ok(Ok(Some(t))) => Ok(expect("enclosed", visited, 0, &bits(t.lo), &bits(t.hi))),
+        Ok(Err(e)) => pending(e.root_message()).map(|n| expect("spent", visited, n, "-", "-")).ok_or(e.root_message().into()),
+        Err(said) if said.starts_with("weights are definitely positive") => Ok(expect("refused-11", visited, 0, "-", "-")),
+        Err(said) => Err(said),
+    }
+}
+fn expected(text: &[u8]) -> Result<Expected, String> {
+    match asked(text) {
+        Ok(q) if q.dim == 2 => ask_rust::<3, 2>(&q),
+        Ok(q) => ask_rust::<4, 3>(&q),
+        Err(n) => Ok(expect(&format!("refused-{n}"), 0, 0, "-", "-")),
+    }
+}
+
+// ---- what the port does
+
+/// What the port writes to the front of `room` bytes of garbage, and whether it left those behind.
+fn ask_port(r: &mut Rng, text: &[u8], room: usize) -> (Vec<u8>, bool) {
+    let mut out: Vec<u8> = (0..room).map(|_| r.next() as u8).collect();
+    let before = out.clone();
+    let n = unsafe { t_respond(text.as_ptr(), text.len(), out.as_mut_ptr(), out.len()) };
+    if n > room {
+        return (Vec::new(), false);
+    }
+    (out[..n].to_vec(), out[n..] == before[n..])
+}
+
+// ---- texts
+
+fn one_of<T: Copy>(r: &mut Rng, l: &[T]) -> T {
+    l[r.below(l.len())]
+}
+/// Sixteen hexadecimal digits: of lower case, of upper case, or each of either.
+fn hex(r: &mut Rng, style: usize, x: f64) -> String {
+    let lower = format!("{:016x}", x.to_bits());
+    lower.chars().map(|c| if style == 1 || style == 2 && r.one_in(2) { c.to_ascii_uppercase() } else { c }).collect()
+}
+fn line_of(r: &mut Rng, style: usize, key: &str, numbers: &[f64]) -> String {
+    let numbers: Vec<String> = numbers.iter().map(|x| hex(r, style, *x)).collect();
+    format!("{key}={}\n", numbers.join(" "))
+}
+fn written(r: &mut Rng, q: &Question) -> Vec<u8> {
+    let style = r.below(4);
+    let mut text = format!("dim={}\ndegree={}\ncount={}\nnodes={}\n", q.dim, q.degree, q.count, q.nodes);
+    text += &line_of(r, style, "resolution", &[q.resolution]);
+    text += &line_of(r, style, "knots", &q.knots);
+    for point in q.points.chunks(2 * (q.dim.clamp(2, 3) + 1)) {
+        text += &line_of(r, style, "point", point);
+    }
+    text += &line_of(r, style, "box", &q.cell);
+    text.into_bytes()
+}
+/// The most nodes for which the program lends enough.
+fn most_nodes(q: &Question) -> usize {
+    LENT / (stated(q) / (q.nodes + 3)) - 3
+}
+/// A question for which the program mostly lends enough: nodes are often brought to the most that it can, or a few less or more.
+fn fitting(r: &mut Rng) -> Question {
+    let mut q = question(r);
+    q.room = LENT;
+    if q.dim > 3 || q.degree > 7 || q.count > 32 || q.nodes > 4096 {
+        return q;
+    }
+    let (nodes, many, most) = (q.nodes, stated(&q), most_nodes(&q));
+    q.nodes = match r.below(40) {
+        0 => most,
+        1 => most + 1,
+        2 => (most + 2).saturating_sub(r.below(6)),
+        3..6 => r.below(most + 1),
+        _ if many > LENT && !r.one_in(12) => most - r.below(most + 1),
+        _ => nodes,
+    };
+    q
+}
+
+fn lines_of(text: &[u8]) -> Vec<Vec<u8>> {
+    text.split(|b| *b == b'\n').map(<[u8]>::to_vec).collect()
+}
+/// Bytes that stand in texts, or stand just beside those that do, and sometimes any byte.
+fn some_byte(r: &mut Rng) -> u8 {
+    if r.one_in(4) { r.next() as u8 } else { one_of(r, b"0123456789abcdefABCDEF =\n\r\t-+./:@G`gxdegrcountbpkiszlm\0\x80") }
+}
+/// Where a value begins on a random line that has some: the line's number and the place.
+fn some_value(r: &mut Rng, lines: &[Vec<u8>]) -> Option<(usize, usize)> {
+    let i = r.below(lines.len());
+    let places: Vec<usize> = (1..lines[i].len()).filter(|&k| lines[i][k - 1] == b' ' || lines[i][k - 1] == b'=').collect();
+    if places.is_empty() { None } else { Some((i, places[r.below(places.len())])) }
+}
+fn value_end(line: &[u8], at: usize) -> usize {
+    (at..line.len()).find(|&k| line[k] == b' ').unwrap_or(line.len())
+}
+/// Puts another value in the place of one.
+fn replace_value(r: &mut Rng, text: &mut Vec<u8>, value: &str) {
+    let mut lines = lines_of(text);
+    if let Some((i, at)) = some_value(r, &lines) {
+        let end = value_end(&lines[i], at);
+        lines[i].splice(at..end, value.bytes());
+    }
+    *text = lines.join(&b'\n');
+}
+/// Puts another number in one of the first four lines.
+fn replace_small(r: &mut Rng, text: &mut Vec<u8>, i: usize, change: impl Fn(&mut Rng, String) -> String) {
+    let mut lines = lines_of(text);
+    let at = lines[i.min(lines.len() - 1)].iter().position(|b| *b == b'=');
+    if let (true, Some(at)) = (i < lines.len(), at) {
+        let old = String::from_utf8_lossy(&lines[i][at + 1..]).into_owned();
+        let new = change(r, old);
+        lines[i].splice(at + 1.., new.into_bytes());
+    }
+    *text = lines.join(&b'\n');
+}
+/// Random bytes, or bytes as they stand in texts.
+fn junk(r: &mut Rng, many: usize) -> Vec<u8> {
+    let (any, line) = (r.one_in(3), one_of(r, &[1, 7, 40, 1000]));
+    (0..many).map(|_| if any { r.next() as u8 } else if r.one_in(line) { b'\n' } else { one_of(r, b"0123456789abcdef =") }).collect()
+}
+/// Sizes that are refused by 1, 2 or 3, or just not.
+fn refuse_sizes(r: &mut Rng, text: &mut Vec<u8>) {
+    for _ in 0..1 + r.below(2) {
+        let (line, number) = one_of(r, &[
+            (0, "0"), (0, "1"), (0, "4"), (0, "999999999"), (1, "8"), (1, "9"), (1, "10"), (1, "999999999"), (1, "7"), (2, "0"), (2, "33"), (2, "34"), (2, "32"),
+            (2, "1"), (2, "999999999"),
+        ]);
+        replace_small(r, text, line, |_, _| number.into());
+    }
+}
+/// Brings a text to 65,536 bytes or to about that many, with its first lines as they are, refused or damaged.
+fn lengthen(r: &mut Rng, text: &mut Vec<u8>) {
+    match r.below(5) {
+        0 | 1 => refuse_sizes(r, text),
+        2 => {
+            let i = r.below(24.min(text.len().max(1)));
+            if let Some(b) = text.get_mut(i) {
+                *b = some_byte(r);
+            }
+        }
+        _ => {}
+    }
+    let many = one_of(r, &[LONGEST - 1, LONGEST, LONGEST + 1, LONGEST + 2, 2 * LONGEST, 70_000]).saturating_sub(text.len());
+    let more = match r.below(4) {
+        0 => vec![b'\n'; many],
+        1 => vec![b' '; many],
+        2 => text.iter().copied().cycle().take(if text.is_empty() { 0 } else { many }).collect(),
+        _ => junk(r, many),
+    };
+    if r.one_in(4) {
+        let at = lines_of(text).iter().take(3).map(|l| l.len() + 1).sum::<usize>().min(text.len());
+        text.splice(at..at, more);
+    } else {
+        text.extend(more);
+    }
+}
+/// The names of the ways to damage a text.
+const DAMAGE: [&str; 22] = [
+    "byte changed", "byte dropped", "byte doubled", "byte inserted", "line dropped", "line doubled", "lines swapped", "value too few", "value too many", "leading zeros",
+    "small number", "upper-case key", "no last newline", "newline more", "spaces", "CR LF", "text after the end", "about 65,536", "sizes refused", "value replaced", "cut off",
+    "nodes",
+];
+fn damage(r: &mut Rng, text: &mut Vec<u8>, way: usize) {
+    let at = r.below(text.len().max(1));
+    let mut lines = lines_of(text);
+    let (i, j) = (r.below(lines.len()), r.below(lines.len()));
+    match way {
+        0 if at < text.len() => text[at] = some_byte(r),
+        1 if at < text.len() => drop(text.remove(at)),
+        2 if at < text.len() => text.insert(at, text[at]),
+        3 => text.insert(if r.one_in(8) { text.len() } else { at }, some_byte(r)),
+        4..7 => {
+            match way {
+                4 => drop(lines.remove(i)),
+                5 => lines.insert(i, lines[i].clone()),
+                _ => lines.swap(i, j),
+            }
+            *text = lines.join(&b'\n');
+        }
+        7 | 8 => {
+            if let Some((i, at)) = some_value(r, &lines) {
+                let end = value_end(&lines[i], at);
+                let value = lines[i][at..end].to_vec();
+                let line = &mut lines[i];
+                if way == 8 {
+                    line.splice(end..end, [vec![b' '], value].concat());
+                } else if line[at - 1] == b' ' {
+                    line.drain(at - 1..end);
+                } else {
+                    line.drain(at..line.len().min(end + 1));
+                }
+            }
+            *text = lines.join(&b'\n');
+        }
+        9 => {
+            let line = r.below(5);
+            replace_small(r, text, line, |r, old| format!("{}{old}", one_of(r, &["0", "00", "00000000", "000000000", "+", "-", "0x", " "])));
+        }
+        10 => {
+            let line = r.below(4);
+            replace_small(r, text, line, |r, old| {
+                let known = one_of(r, &["999999999", "1000000000", "1000000002", "4294967298", "18446744073709551618", "0", "00", "", "2.0", "1e1", "a"]);
+                match r.below(3) {
+                    0 => format!("{:010}", r.next() % 10_000_000_000),
+                    1 => format!("{}", (1u128 << one_of(r, &[32, 64])) + old.parse::<u128>().unwrap_or(0) % (1 << 40)),
+                    _ => known.into(),
+                }
+            });
+        }
+        11 => {
+            let key = lines[i].iter().position(|b| *b == b'=').unwrap_or(0);
+            match r.below(3) {
+                0 => lines[i][..key].make_ascii_uppercase(),
+                1 => lines[i][..key.min(1)].make_ascii_uppercase(),
+                _ => lines.iter_mut().for_each(|l| l.make_ascii_uppercase()),
+            }
+            *text = lines.join(&b'\n');
+        }
+        12 => drop(text.pop()),
+        13 => {
+            lines.insert(if r.one_in(2) { lines.len() } else { i }, Vec::new());
+            *text = lines.join(&b'\n');
+        }
+        14 => {
+            let space = one_of(r, b"  \t");
+            let places: Vec<usize> = (0..text.len()).filter(|&k| text[k] == b' ' || text[k] == b'\n' || text[k] == b'=').collect();
+            if !places.is_empty() {
+                let k = places[r.below(places.len())];
+                match r.below(5) {
+                    0 => text[k] = space,
+                    1 => text.insert(0, space),
+                    2 => text.push(space),
+                    n => text.insert(k + n - 3, space),
+                }
+            }
+        }
+        15 if r.one_in(2) => *text = lines.join(&b"\r\n"[..]),
+        15 => {
+            lines[i].push(b'\r');
+            *text = lines.join(&b'\n');
+        }
+        16 => {
+            let many = 1 + r.below(40);
+            let more = match r.below(4) {
+                0 => text.clone(),
+                1 => vec![some_byte(r)],
+                2 => lines[i].clone(),
+                _ => junk(r, many),
+            };
+            text.extend(more);
+        }
+        17 => lengthen(r, text),
+        18 => {
+            refuse_sizes(r, text);
+            let lines = lines_of(text);
+            let head = lines.iter().take(3).map(|l| l.len() + 1).sum::<usize>().min(text.len());
+            let many = r.below(300);
+            match r.below(4) {
+                0 => text.truncate(head),
+                1 => text.truncate(head.saturating_sub(1)),
+                2 => drop(text.splice(head.., junk(r, many))),
+                _ => {}
+            }
+        }
+        19 => {
+            let known = one_of(r, &[
+                "7ff0000000000000", "fff0000000000000", "7ff8000000000000", "FFF8000000000000", "7ff0000000000001", "fFfFffffffffffff", "7FF4000000000000", "4630000000000000",
+                "4630000000000001", "c630000000000000", "C630000000000001", "8000000000000000", "0000000000000000", "0000000000000001", "8000000000000001", "3ff0000000000000",
+                "3ff000000000000", "3ff00000000000000", "3ff000000000000g", "0x3ff00000000000", "+3ff000000000000", "", "1", "-",
+            ]);
+            let value = if r.one_in(4) { format!("{:016x}", r.next()) } else { known.into() };
+            replace_value(r, text, &value);
+        }
+        20 if r.one_in(8) => text.clear(),
+        20 if r.one_in(2) => {
+            lines.truncate(i);
+            lines.push(Vec::new());
+            *text = lines.join(&b'\n');
+        }
+        20 => text.truncate(at),
+        21 => replace_small(r, text, 3, |r, _| one_of(r, &["4096", "4097", "9999", "999999999", "0", "1", "2", "40", "452", "453"]).into()),
+        _ => {}
+    }
+}
+/// A text, and the way in which it was damaged first.
+fn some_text(r: &mut Rng) -> (Vec<u8>, Option<usize>) {
+    let q = fitting(r);
+    let mut text = written(r, &q);
+    if !r.one_in(3) {
+        return (text, None);
+    }
+    let way = r.below(DAMAGE.len());
+    // Long texts take long to make.
+    let way = if way == 17 && !r.one_in(4) { 18 } else { way };
+    damage(r, &mut text, way);
+    if r.one_in(5) {
+        let next = r.below(DAMAGE.len());
+        damage(r, &mut text, if next == 17 { 0 } else { next });
+    }
+    (text, Some(way))
+}
+
+// ---- the comparison
+
+const WORDS: [&str; 15] = [
+    "none", "enclosed", "spent", "refused-1", "refused-2", "refused-3", "refused-5", "refused-6", "refused-7", "refused-8", "refused-9", "refused-10", "refused-11",
+    "refused-12", "no answer (debug)",
+];
+#[derive(Clone, Copy, Default)]
+struct Row {
+    texts: u64,
+    damaged: u64,
+    visits: u64,
+    most: u64,
+    differ: u64,
+}
+fn row_of(theirs: &Result<Expected, String>) -> usize {
+    theirs.as_ref().map_or(14, |e| WORDS.iter().position(|w| *w == e.word).unwrap_or(14))
+}
+/// Asks both. A debug assertion of the Rust is no answer: document 01 speaks of its release build.
+fn same(r: &mut Rng, text: &[u8], theirs: &Result<Expected, String>) -> bool {
+    let room = 160 + if r.one_in(2) { 0 } else { r.below(100) };
+    let (ours, mut left) = ask_port(r, text, room);
+    if r.one_in(16) {
+        let short = r.below(160);
+        let (none, kept) = ask_port(r, text, short);
+        left &= none.is_empty() && kept;
+    }
+    let right = match theirs {
+        Ok(e) => e.lines.as_bytes() == ours,
+        Err(said) => said.starts_with("Scalar::new: lo"),
+    };
+    if !right || !left {
+        let theirs = theirs.as_ref().map_or_else(|said| format!("no answer: {said}"), |e| e.lines.clone());
+        let said = if left { "left" } else { "not left" };
+        DIFFERENCE.with_borrow_mut(|d| *d = format!("expected\n{theirs}the port\n{}the bytes behind are {said}", String::from_utf8_lossy(&ours)));
+    }
+    right && left
+}
+thread_local! {
+    /// What the last difference was.
+    static DIFFERENCE: std::cell::RefCell<String> = const { std::cell::RefCell::new(String::new()) };
+}
+fn show(text: &[u8]) {
+    let most = text.len().min(8000);
+    println!("differs: {}", DIFFERENCE.with_borrow(|d| d.clone()));
+    println!("the text, {} bytes:\n{}", text.len(), text[..most].escape_ascii().to_string().replace("\\n", "\n"));
+}
+fn compare(r: &mut Rng, total: u64) -> bool {
+    let (mut rows, mut ways) = ([Row::default(); 15], [[0u64; 2]; DAMAGE.len()]);
+    for _ in 0..total {
+        let (text, way) = some_text(r);
+        let theirs = expected(&text);
+        let same = same(r, &text, &theirs);
+        let row = &mut rows[row_of(&theirs)];
+        let visited = theirs.as_ref().map_or(0, |e| e.visited);
+        row.texts += 1;
+        row.visits += visited;
+        row.most = row.most.max(visited);
+        if let Some(way) = way {
+            row.damaged += 1;
+            ways[way][0] += 1;
+            ways[way][1] += theirs.is_ok_and(|e| e.word == "refused-12") as u64;
+        }
+        if !same {
+            row.differ += 1;
+            if row.differ <= 2 {
+                show(&text);
+            }
+        }
+    }
+    println!("{:<18} {:>10} {:>10} {:>12} {:>8} {:>12}", "expected", "texts", "damaged", "visits", "most", "differences");
+    for (word, row) in WORDS.iter().zip(&rows) {
+        println!("{word:<18} {:>10} {:>10} {:>12} {:>8} {:>12}", row.texts, row.damaged, row.visits, row.most, row.differ);
+    }
+    println!("{:<18} {:>10} {:>10}", "damaged", "texts", "refused-12");
+    for (way, [texts, refused]) in DAMAGE.iter().zip(&ways) {
+        println!("{way:<18} {texts:>10} {refused:>10}");
+    }
+    let differ: u64 = rows.iter().map(|row| row.differ).sum();
+    println!("{total} compared, {differ} differ");
+    differ == 0
+}
+
+// ---- stored answers
+
+/// How many texts are stored of each result word; of the first three, for each degree and each dim. Beside these, so many of over 100 visits.
+const STORED: [usize; 14] = [12, 22, 12, 20, 20, 20, 23, 23, 23, 23, 23, 23, 36, 60];
+const LONG: usize = 30;
+/// Which number of `STORED` a text counts for, and its band of visits: to 1, to 5, to 19, to 59, or more.
+fn cell_of(word: usize, text: &[u8], visited: u64) -> (usize, usize) {
+    let [dim, degree, _] = sizes(text).unwrap_or_default();
+    let band = [1, 5, 19, 59].iter().filter(|&&v| visited > v).count();
+    if word < 3 { (1 + word + 3 * (dim + 4 * degree), band) } else { (1000 + word, 0) }
+}
+/// Chooses texts and writes them with their answers: data/00 and so on, args, stdout.
+fn store(r: &mut Rng, folder: &str) -> std::io::Result<bool> {
+    let mut cells = std::collections::BTreeMap::<usize, [usize; 5]>::new();
+    let (mut chosen, mut rows, mut made, mut long, mut right) = (Vec::new(), [Row::default(); 15], 0, 0, true);
+    let wanted: usize = LONG + STORED.iter().enumerate().map(|(i, n)| if i < 3 { 16 * n } else { *n }).sum::<usize>();
+    while chosen.len() < wanted && made < 1_000_000 {
+        made += 1;
+        let (mut text, _) = some_text(r);
+        if let (true, Ok(q)) = (r.one_in(3), asked(&text)) {
+            replace_small(r, &mut text, 3, |_, _| most_nodes(&q).to_string());
+        }
+        if text.contains(&0) || text.len() > if r.one_in(8) { 6000 } else { 1600 } {
+            continue;
+        }
+        let theirs = expected(&text);
+        let word = row_of(&theirs);
+        let Ok(answer) = theirs.as_ref() else { continue };
+        let (cell, band) = cell_of(word, &text, answer.visited);
+        let taken = cells.entry(cell).or_default();
+        // At first each band of visits has its own share; then what is left goes to any.
+        let share = if word < 3 && made < 300_000 { STORED[word].div_ceil(5) } else { STORED[word] };
+        if answer.visited > 100 && long < LONG {
+            long += 1;
+        } else if taken.iter().sum::<usize>() >= STORED[word] || taken[band] >= share {
+            continue;
+        } else {
+            taken[band] += 1;
+        }
+        if !same(r, &text, &theirs) {
+            show(&text);
+            right = false;
+        }
+        let row = &mut rows[word];
+        row.texts += 1;
+        row.visits += answer.visited;
+        row.most = row.most.max(answer.visited);
+        chosen.push((text, answer.lines.clone()));
+    }
+    for i in (1..chosen.len()).rev() {
+        chosen.swap(i, r.below(i + 1));
+    }
+    let mut files: Vec<(Vec<u8>, usize)> = vec![(Vec::new(), 0)];
+    for (text, _) in &chosen {
+        if files.last().is_some_and(|(bytes, many)| bytes.len() + text.len() >= 65_000 || *many >= 60) {
+            files.push((Vec::new(), 0));
+        }
+        if let Some((bytes, many)) = files.last_mut() {
+            bytes.extend(text);
+            bytes.push(0);
+            *many += 1;
+        }
+    }
+    std::fs::create_dir_all(format!("{folder}/data"))?;
+    for (i, (bytes, _)) in files.iter().enumerate() {
+        std::fs::write(format!("{folder}/data/{i:02}"), bytes)?;
+    }
+    std::fs::write(format!("{folder}/args"), (0..files.len()).map(|i| format!("{i:02}\n")).collect::<String>())?;
+    std::fs::write(format!("{folder}/stdout"), chosen.iter().map(|(_, lines)| lines.as_str()).collect::<String>())?;
+    println!("{:<18} {:>10} {:>12} {:>8}", "stored", "texts", "visits", "most");
+    for (word, row) in WORDS.iter().zip(&rows).take(14) {
+        println!("{word:<18} {:>10} {:>12} {:>8}", row.texts, row.visits, row.most);
+    }
+    let bytes: usize = files.iter().map(|(bytes, _)| bytes.len()).sum();
+    println!("{} texts of {made}, in {} files of {bytes} bytes; the port gives the same: {right}", chosen.len(), files.len());
+    Ok(right && chosen.len() == wanted)
+}
+
+fn main() {
+    let mut words: Vec<String> = std::env::args().skip(1).collect();
+    let folder = (words.first().is_some_and(|w| w == "--store")).then(|| words.drain(..2).nth(1).expect("--store FOLDER"));
+    let numbers: Vec<u64> = words.iter().map(|w| w.parse().expect("TEXTS [SEED]")).collect();
+    let (total, seed) = (numbers.first().copied().unwrap_or(300_000), numbers.get(1).copied().unwrap_or(1));
+    set_hook(Box::new(|p| if !ASKING.load(Relaxed) { eprintln!("{p}") }));
+    let mut r = Rng(seed.wrapping_mul(0x9e37_79b9_7f4a_7c15) | 1);
+    let right = match folder {
+        Some(folder) => store(&mut r, &folder).expect("the files can be written"),
+        None => compare(&mut r, total),
+    };
+    std::process::exit(if right { 0 } else { 1 });
+}
