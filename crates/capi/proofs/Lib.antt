@@ -1,0 +1,2 @@
+-- Laws behind the library's functions.
+pub mod Words

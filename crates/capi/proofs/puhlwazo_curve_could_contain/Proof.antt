@@ -1,0 +1,55 @@
+-- `puhlwazo_curve_could_contain` hands out what the contract of the search promises, and nothing else.
+use mathlib.Core.Path.{_∙_, ap, subst}
+use Rattle.search.specs.Call.{Call, lent, curve}
+use Rattle.search.specs.Enclosure.{HitsEnclosed, BoundsInDomain, BoundsPlain}
+use Rattle.search.specs.declared.contains.Found.{Found}
+use Rattle.capi.specs.Answers.{numberOf, countsOf, boundsOf}
+use borrow.Author.Needs.{needs}
+use Rattle.capi.proofs.puhlwazo_curve_could_contain.Statement.{statement}
+use Rattle.capi.proofs.puhlwazo_curve_could_contain.Tie as tie
+use Rattle.capi.proofs.puhlwazo_curve_could_contain.Reads as reads
+use Rattle.capi.proofs.puhlwazo_curve_could_contain.Lts as lts
+use Rattle.capi.proofs.bounds_of.Reads as bounds-of-reads
+use Rattle.capi.proofs.counts_of.Reads as counts-of-reads
+use Rattle.capi.proofs.number_of.Reads as number-of-reads
+use Rattle.geometry.proofs.contains.curve_could_contain.Reads as curve-could-contain-reads
+
+curve-could-contain-requires : tie.Need-curve-could-contain-requires
+curve-could-contain-requires c κs = search needs
+
+counts-of-requires : tie.Need-counts-of-requires
+counts-of-requires c κs = search needs
+
+bounds-of-requires : tie.Need-bounds-of-requires
+bounds-of-requires c κs = search needs
+
+number-of-requires : tie.Need-number-of-requires
+number-of-requires c κs = search needs
+
+same-length : tie.Need-same-length
+same-length c = search needs
+
+-- The call.
+abbrev asked : tie.Start → Call
+asked k = let g = k .args in lent (g .dim) (g .degree) (g .count) (g .knots .now) (g .points .now) (g .point-box .now) (g .resolution) (g .nodes) (g .work .now)
+
+returns : tie.Need-returns
+returns c =
+    let k = c .before .before .before .before .before .before .before .before .before .before .before in
+    let r = c .before .before .before .before .before .curve-could-contain .ensures in
+    (c .number-of .ensures ∙ ap numberOf (r .0),
+    (c .before .before .counts-of .ensures ∙ ap countsOf (r .0),
+    (c .before .bounds-of .ensures ∙ ap boundsOf (r .0),
+    (r .1 .1 .0,
+    (subst (HitsEnclosed (asked k)) (r .0) (r .1 .1 .1 .0), subst (λ (f : Found). BoundsInDomain (curve (asked k)) (asked k .degree) f × BoundsPlain f) (r .0) (r .1 .1 .1 .1))))))
+
+pub puhlwazo-curve-could-contain-spec : {M : Type 1} → statement M
+puhlwazo-curve-could-contain-spec =
+    tie.close
+    (tie.spec
+    curve-could-contain-requires
+    counts-of-requires
+    bounds-of-requires
+    number-of-requires
+    same-length
+    returns)

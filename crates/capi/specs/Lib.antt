@@ -1,0 +1,2 @@
+-- What the library for callers in C gives out.
+pub mod Answers

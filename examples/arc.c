@@ -1,0 +1,49 @@
+/* The question of arc.txt, asked from C: prints the same five lines as bin/gripcheck examples/arc.txt. */
+#include <inttypes.h>
+#include <stdio.h>
+#include <stdlib.h>
+#include <string.h>
+
+#include "puhlwazo.h"
+
+static void print_bound(const char *name, int enclosed, double x)
+{
+    uint64_t bits;
+    memcpy(&bits, &x, sizeof bits);
+    if (enclosed)
+        printf("%s=%016" PRIx64 "\n", name, bits);
+    else
+        printf("%s=-\n", name);
+}
+
+int main(void)
+{
+    enum { DIM = 2, DEGREE = 2, COUNT = 3, NODES = 64 };
+    static const double knots[COUNT + DEGREE + 1] = {0, 0, 0, 1, 1, 1};
+    static const double points[2 * (DIM + 1) * COUNT] = {
+        0, 0, 0, 0, 1, 1, /* (0, 0), weight 1: lo and hi of each */
+        2, 2, 4, 4, 1, 1, /* (2, 4) */
+        4, 4, 0, 0, 1, 1, /* (4, 0) */
+    };
+    static const double box[2 * DIM] = {1.9, 2.1, 1.9, 2.1};
+    static const char *const words[] = {"none", "enclosed", "spent"};
+
+    size_t words_needed = puhlwazo_work_words(DIM, DEGREE, COUNT, NODES);
+    double *work = malloc(words_needed * sizeof *work);
+    uint64_t counts[3];
+    double bounds[2];
+    if (work == NULL)
+        return 1;
+    uint64_t refusal = puhlwazo_curve_could_contain(DIM, DEGREE, COUNT, knots, sizeof knots / sizeof *knots, points, sizeof points / sizeof *points,
+                                                    box, sizeof box / sizeof *box, 0.001, NODES, work, words_needed, counts, bounds);
+    free(work);
+
+    if (refusal != 0)
+        printf("result=refused-%" PRIu64 "\n", refusal);
+    else
+        printf("result=%s\n", words[counts[0]]);
+    printf("visited=%" PRIu64 "\npending=%" PRIu64 "\n", counts[1], counts[2]);
+    print_bound("lo", counts[0] == PUHLWAZO_ENCLOSED, bounds[0]);
+    print_bound("hi", counts[0] == PUHLWAZO_ENCLOSED, bounds[1]);
+    return 0;
+}

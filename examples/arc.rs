@@ -1,0 +1,117 @@
+//! The question of arc.txt, asked from Rust: prints the same five lines as bin/gripcheck examples/arc.txt.
+
+mod puhlwazo {
+    //! A safe face of the library: slices become pointers and lengths, and the three numbers of an answer one enum.
+
+    #[link(name = "capi", kind = "static")]
+    unsafe extern "C" {
+        fn puhlwazo_work_words(dim: usize, degree: usize, count: usize, nodes: usize) -> usize;
+        fn puhlwazo_curve_could_contain(
+            dim: usize,
+            degree: usize,
+            count: usize,
+            knots: *const f64,
+            knots_length: usize,
+            points: *const f64,
+            points_length: usize,
+            point_box: *const f64,
+            point_box_length: usize,
+            resolution: f64,
+            nodes: usize,
+            work: *mut f64,
+            work_length: usize,
+            counts: *mut [u64; 3],
+            bounds: *mut [f64; 2],
+        ) -> u64;
+    }
+
+    /// A path: control points as lo and hi of each coordinate and of the weight.
+    pub struct Curve<'a> {
+        pub dim: usize,
+        pub degree: usize,
+        pub count: usize,
+        pub knots: &'a [f64],
+        pub points: &'a [f64],
+    }
+
+    /// The answer of a search, with the pieces visited last.
+    pub enum Found {
+        Nothing(u64),
+        Enclosed(f64, f64, u64),
+        Spent(u64, u64),
+        Refused(u64, u64),
+    }
+
+    /// How many numbers of work area a search of this curve needs.
+    pub fn work_words(curve: &Curve, nodes: usize) -> usize {
+        // SAFETY: the function takes numbers only.
+        unsafe { puhlwazo_work_words(curve.dim, curve.degree, curve.count, nodes) }
+    }
+
+    /// Whether the curve passes through the box, and between which two parameters.
+    pub fn curve_could_contain(
+        curve: &Curve,
+        point_box: &[f64],
+        resolution: f64,
+        nodes: usize,
+        work: &mut [f64],
+    ) -> Found {
+        let (mut counts, mut bounds) = ([0; 3], [0.0; 2]);
+        // SAFETY: pointers and lengths are those of slices, and what is written overlaps nothing, since it is borrowed mutably.
+        let refusal = unsafe {
+            puhlwazo_curve_could_contain(
+                curve.dim,
+                curve.degree,
+                curve.count,
+                curve.knots.as_ptr(),
+                curve.knots.len(),
+                curve.points.as_ptr(),
+                curve.points.len(),
+                point_box.as_ptr(),
+                point_box.len(),
+                resolution,
+                nodes,
+                work.as_mut_ptr(),
+                work.len(),
+                &mut counts,
+                &mut bounds,
+            )
+        };
+        match counts[0] {
+            0 => Found::Nothing(counts[1]),
+            1 => Found::Enclosed(bounds[0], bounds[1], counts[1]),
+            2 => Found::Spent(counts[2], counts[1]),
+            _ => Found::Refused(refusal, counts[1]),
+        }
+    }
+}
+
+use puhlwazo::{Curve, Found, curve_could_contain, work_words};
+
+fn main() {
+    let curve = Curve {
+        dim: 2,
+        degree: 2,
+        count: 3,
+        knots: &[0.0, 0.0, 0.0, 1.0, 1.0, 1.0],
+        points: &[
+            0.0, 0.0, 0.0, 0.0, 1.0, 1.0, // (0, 0), weight 1: lo and hi of each
+            2.0, 2.0, 4.0, 4.0, 1.0, 1.0, // (2, 4)
+            4.0, 4.0, 0.0, 0.0, 1.0, 1.0, // (4, 0)
+        ],
+    };
+    let nodes = 64;
+    let mut work = vec![0.0; work_words(&curve, nodes)];
+    let (result, visited, pending, bounds) =
+        match curve_could_contain(&curve, &[1.9, 2.1, 1.9, 2.1], 0.001, nodes, &mut work) {
+            Found::Nothing(visited) => ("none".to_string(), visited, 0, None),
+            Found::Enclosed(lo, hi, visited) => ("enclosed".to_string(), visited, 0, Some((lo, hi))),
+            Found::Spent(pending, visited) => ("spent".to_string(), visited, pending, None),
+            Found::Refused(number, visited) => (format!("refused-{number}"), visited, 0, None),
+        };
+    println!("result={result}\nvisited={visited}\npending={pending}");
+    match bounds {
+        Some((lo, hi)) => println!("lo={:016x}\nhi={:016x}", lo.to_bits(), hi.to_bits()),
+        None => println!("lo=-\nhi=-"),
+    }
+}
