@@ -36,12 +36,19 @@ asked k = let g = k .args in lent (g .dim) (g .degree) (g .count) (g .knots .now
 returns : tie.Need-returns
 returns c =
     let k = c .before .before .before .before .before .before .before .before .before .before .before in
-    let r = c .before .before .before .before .before .curve-could-contain .ensures in
-    (c .number-of .ensures ∙ ap numberOf (r .0),
-    (c .before .before .counts-of .ensures ∙ ap countsOf (r .0),
-    (c .before .bounds-of .ensures ∙ ap boundsOf (r .0),
-    (r .1 .1 .0,
-    (subst (HitsEnclosed (asked k)) (r .0) (r .1 .1 .1 .0), subst (λ (f : Found). BoundsInDomain (curve (asked k)) (asked k .degree) f × BoundsPlain f) (r .0) (r .1 .1 .1 .1))))))
+    let r = c .before .before .before .before .before .curve-could-contain .ensures in (
+      c .number-of .ensures ∙ ap numberOf (r .0),
+      (
+        c .before .before .counts-of .ensures ∙ ap countsOf (r .0),
+        (
+          c .before .bounds-of .ensures ∙ ap boundsOf (r .0),
+          (
+            r .1 .1 .0,
+            (subst (HitsEnclosed (asked k)) (r .0) (r .1 .1 .1 .0), subst (λ (f : Found). BoundsInDomain (curve (asked k)) (asked k .degree) f × BoundsPlain f) (r .0) (r .1 .1 .1 .1)),
+          ),
+        ),
+      ),
+    )
 
 pub puhlwazo-curve-could-contain-spec : {M : Type 1} → statement M
 puhlwazo-curve-could-contain-spec =
