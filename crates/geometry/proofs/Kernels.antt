@@ -3,6 +3,8 @@ pub mod Points
 pub mod Sizes
 pub mod Far
 pub mod Zeros
+pub mod Polygon
+pub mod ByHand
 pub mod Clip
 pub mod Call
 pub mod Flat

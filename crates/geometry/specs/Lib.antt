@@ -6,3 +6,4 @@ pub mod Slots
 pub mod Plan
 pub mod Turns
 pub mod Waiting
+pub mod Zeros

@@ -11,3 +11,4 @@ mod split;
 mod subdivide;
 mod vector;
 mod visits;
+pub mod zeros;

@@ -1,0 +1,39 @@
+-- `off` equals its definition, by the two cases of the slope.
+use mathlib.Core.Path.{sym, ap, _∙_}
+use Rattle.math.specs.Scalars.{subS}
+use Rattle.math.specs.declared.scalars.Scalar.{Scalar}
+use Rattle.math.specs.declared.scalars.Divided.{Divided}
+use Rattle.geometry.specs.Zeros.{offBy}
+use borrow.Author.Needs.{needs}
+use Rattle.geometry.proofs.zeros.off.Statement.{statement}
+use Rattle.geometry.proofs.zeros.off.Tie as tie
+
+enum-known-slope : tie.Need-enum-known-slope
+enum-known-slope c = search needs
+
+enum-told : tie.Need-enum-told
+enum-told c = search needs
+
+returns : tie.Need-returns
+unfolding offBy
+returns c =
+    let a = c .before .before .args in
+    sym (ap (λ (q : Divided). offBy q (a .x0) (a .y0) (a .x) (a .y)) (c .enum-told .given .1))
+
+chord-requires : tie.Need-chord-requires
+chord-requires c κs = search needs
+
+sub-requires : tie.Need-sub-requires
+sub-requires c κs = search needs
+
+returns-2 : tie.Need-returns-2
+unfolding offBy
+returns-2 c =
+    let a = c .before .before .before .before .before .args in
+    c .sub .ensures
+    ∙ ap (λ (v : Scalar). subS (a .y) v) (c .before .chord .ensures)
+    ∙ sym (ap (λ (q : Divided). offBy q (a .x0) (a .y0) (a .x) (a .y)) (c .before .before .before .slope .given .1))
+
+pub off-spec : {M : Type 1} → statement M
+off-spec =
+    tie.close (tie.spec enum-known-slope enum-told returns chord-requires sub-requires returns-2)

@@ -1,0 +1,42 @@
+-- The zeros by a fat line, over two lists of intervals: what they are for any two lists, and how they are found point by point. Definitions only.
+use Prim.Native.Nat.{ℕ}
+use mathlib.Core.Bool.{Bool, cond, _&&_}
+use mathlib.Core.List.{List}
+use lib.ListN.{length}
+use lib.Dec.{eqb, ltb}
+use Rattle.math.specs.declared.scalars.Scalar.{Scalar}
+use Rattle.math.specs.declared.scalars.Divided.{Divided}
+use Rattle.math.specs.declared.scalars.Divided.the-variants.{Value, Failed}
+use Rattle.math.specs.Scalars.{geop, ZERO, ENTIRE, couldBeEqual, unionS, addS, subS, divS}
+use Rattle.search.specs.FatLine.{offset, crossing, fatLineZeros}
+use Rattle.search.specs.declared.fat_line.Hat.{Hat}
+use Rattle.search.specs.declared.fat_line.Hat.the-variants.{Over, Missing}
+use Rattle.geometry.specs.declared.zeros.Line.{Line}
+
+-- There is a point, and as many abscissae as values.
+abbrev pub paired : ℕ → ℕ → Bool
+paired m n = eqb m n && ltb 0 n
+
+-- Where the spline could be zero whose graph has the control polygon (ξ i, d i), as the search defines it. Of two lists that are no polygon nothing is known.
+unfoldable pub polygonZeros : List Scalar → List Scalar → Hat
+polygonZeros ξ d = cond (paired (length ξ) (length d)) (fatLineZeros geop ξ d) (Over ENTIRE)
+
+-- ---- point by point
+
+-- How far a point lies off the chord through (x₀, y₀), or its value where there is no chord.
+unfoldable pub offBy : Divided → Scalar → Scalar → Scalar → Scalar → Scalar
+offBy Failed x₀ y₀ x y = y
+offBy (Value slope) x₀ y₀ x y = offset geop slope x₀ y₀ x y
+
+-- The line from (x₀, y₀) to (x, y), with the first point taken in.
+unfoldable pub begun : Scalar → Scalar → Scalar → Scalar → Line
+begun x₀ y₀ x y = let slope = divS (subS y y₀) (subS x x₀) in record { x0 = x₀; y0 = y₀; last = y; slope = slope; band = offBy slope x₀ y₀ x₀ y₀ }
+
+-- The line with one more point taken in.
+unfoldable pub taken : Line → Scalar → Scalar → Line
+taken l x y = record { x0 = l .x0; y0 = l .y0; last = l .last; slope = l .slope; band = unionS (l .band) (offBy (l .slope) (l .x0) (l .y0) x y) }
+
+-- The zeros, once each point is taken in.
+unfoldable pub zerosOf : Scalar → Scalar → Scalar → Scalar → Divided → Hat
+zerosOf x₀ y₀ last band Failed = cond (couldBeEqual band ZERO) (Over ENTIRE) Missing
+zerosOf x₀ y₀ last band (Value slope) = cond (couldBeEqual (addS (unionS y₀ last) band) ZERO) (crossing geop x₀ (divS (addS y₀ band) slope)) Missing

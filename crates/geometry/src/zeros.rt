@@ -1,0 +1,115 @@
+// `fat_line_zeros` over two lent slices of intervals. Each point is read once and passed on by value; the chord and the zeros are those of fat_line.rt.
+use crate::fat_line::chord;
+use crate::fat_line::sloped_zeros;
+use math::scalars::Divided;
+use math::scalars::Scalar;
+use search::fat_line::Hat;
+ghost use mathlib.Core.Path.{_≡_};
+ghost use mathlib.Core.Bool.{cond};
+ghost use Rattle.math.specs.Scalars.{ZERO, ENTIRE, couldBeEqual};
+ghost use Rattle.geometry.specs.Zeros.{paired, polygonZeros, offBy, begun, taken, zerosOf};
+
+// The chord of a control polygon, and its band: the union of what the points taken in so far lie off it, or of their values where there is no chord.
+struct Line {
+    x0: Scalar,
+    y0: Scalar,
+    last: Scalar,
+    slope: Divided,
+    band: Scalar,
+}
+
+// There is a point, and as many abscissae as values.
+fn paired(m: usize, n: usize) -> bool
+    ensures { λ r. ⌜ r ≡ paired m n ⌝ }
+{
+    m == n && 0 < n
+}
+
+// The zeros of which nothing is known.
+fn anywhere() -> Hat
+    ensures { λ r. ⌜ r ≡ Hat.Over ENTIRE ⌝ }
+{
+    Hat::Over(Scalar::entire())
+}
+
+// How far a point lies off the chord through (x0, y0), or its value where there is no chord.
+fn off(slope: Divided, x0: Scalar, y0: Scalar, x: Scalar, y: Scalar) -> Scalar
+    ensures { λ r. ⌜ r ≡ offBy slope x0 y0 x y ⌝ }
+{
+    let Divided::Value(s) = slope else {
+        return y;
+    };
+    y.sub(chord(s, x0, y0, x))
+}
+
+// The line from (x0, y0) to (x, y), with the first point taken in.
+fn begin(x0: Scalar, y0: Scalar, x: Scalar, y: Scalar) -> Line
+    ensures { λ r. ⌜ r ≡ begun x0 y0 x y ⌝ }
+{
+    let slope = y.sub(y0).div(x.sub(x0));
+    let band = off(slope, x0, y0, x0, y0);
+    Line {
+        x0,
+        y0,
+        last: y,
+        slope,
+        band,
+    }
+}
+
+// The line with one more point taken in.
+fn take(l: Line, x: Scalar, y: Scalar) -> Line
+    ensures { λ r. ⌜ r ≡ taken l x y ⌝ }
+{
+    let x0 = l.x0;
+    let y0 = l.y0;
+    let last = l.last;
+    let slope = l.slope;
+    let band = l.band.union(off(slope, x0, y0, x, y));
+    Line {
+        x0,
+        y0,
+        last,
+        slope,
+        band,
+    }
+}
+
+// The zeros where there is no chord: anywhere, if some value could be zero.
+fn level(range: Scalar) -> Hat
+    ensures { λ r. ⌜ r ≡ cond (couldBeEqual range ZERO) (Hat.Over ENTIRE) Hat.Missing ⌝ }
+{
+    if range.could_be_equal(Scalar::ZERO) {
+        return anywhere();
+    }
+    Hat::Missing
+}
+
+// The zeros, once each point is taken in.
+fn end(l: Line) -> Hat
+    ensures { λ r. ⌜ r ≡ zerosOf (l .x0) (l .y0) (l .last) (l .band) (l .slope) ⌝ }
+{
+    let slope = l.slope;
+    let Divided::Value(s) = slope else {
+        return level(l.band);
+    };
+    sloped_zeros(s, l.x0, l.y0, l.last, l.band)
+}
+
+// Where the spline could be zero whose graph has the control polygon (xi i, d i): anywhere, if the slices are no polygon.
+pub fn fat_line_zeros(xi: &[Scalar], d: &[Scalar]) -> Hat
+    ensures { λ r. ⌜ r ≡ polygonZeros (now (xi .entry)) (now (d .entry)) ⌝ }
+{
+    let n = d.len();
+    if !paired(xi.len(), n) {
+        return anywhere();
+    }
+    let k = n - 1;
+    let mut l = begin(xi[0], d[0], xi[k], d[k]);
+    let mut i = 1;
+    while i < n {
+        l = take(l, xi[i], d[i]);
+        i += 1;
+    }
+    end(l)
+}
