@@ -1,14 +1,11 @@
 //! Hands the same texts to `respond` of crates/text, which gives what the program gripcheck prints, and to document 01 and the Rust, and compares the
 //! outputs byte for byte. With `--store FOLDER` it writes questions and expected answers to files instead.
-use geop_core_geometry::contains::curve::curve_could_contain;
-use geop_core_geometry::nurb_curve::{NurbCurve, ParameterRefinable};
-use geop_core_math::{geop_error::GeopError, scalars::Scalar, vector::Vector, visits};
-use std::panic::{AssertUnwindSafe, catch_unwind, set_hook};
-use std::sync::atomic::{AtomicBool, Ordering::Relaxed};
-
+#[path = "../rust/answers.rs"]
+mod answers;
 #[path = "../search/questions.rs"]
 mod questions;
-use questions::{MOST, Question, Rng, question, stated};
+use answers::{Answer, hush, refusal, refused};
+use questions::{Question, Rng, question, stated};
 
 unsafe extern "C" {
     fn t_respond(text: *const u8, text_len: usize, out: *mut u8, out_len: usize) -> usize;
@@ -85,69 +82,8 @@ fn asked(text: &[u8]) -> Result<Question, u64> {
         n => Err(n),
     }
 }
-/// The number from 5 to 10 by which document 01 refuses a question, or 0.
-fn refusal(q: &Question) -> u64 {
-    let mut numbers = q.knots.iter().chain(&q.points).chain(&q.cell).chain([&q.resolution]);
-    let mut intervals = q.points.chunks(2).chain(q.cell.chunks(2));
-    if numbers.any(|x| x.is_nan() || x.abs() > MOST) || q.resolution < 0.0 {
-        5
-    } else if intervals.any(|c| c[0] > c[1]) {
-        6
-    } else if q.points.chunks(2 * (q.dim + 1)).any(|p| p[2 * q.dim] <= 0.0) {
-        7
-    } else if knots_wrong(q) {
-        8
-    } else if q.nodes > 4096 {
-        9
-    } else if q.room < stated(q) {
-        10
-    } else {
-        0
-    }
-}
-fn knots_wrong(q: &Question) -> bool {
-    let (start, end) = (q.knots[q.degree], q.knots[q.count]);
-    let times = |u: f64| q.knots.iter().filter(|v| **v == u).count();
-    q.knots.windows(2).any(|w| w[0] > w[1])
-        || start >= end
-        || times(start) > q.degree + 1
-        || times(end) > q.degree + 1
-        || q.knots.iter().any(|&u| start < u && u < end && times(u) > q.degree.max(1))
-}
 
-// ---- what is expected: the Rust's answer
-
-/// The Rust is being asked: its panics are answers, and say nothing.
-static ASKING: AtomicBool = AtomicBool::new(false);
-
-/// The Rust's answer and its visits; or what it panicked with.
-fn run_rust<const D: usize, const C: usize>(q: &Question) -> (Result<Result<Option<Scalar>, GeopError>, String>, u64)
-where
-    NurbCurve<D>: ParameterRefinable<C>,
-{
-    let scalars = |l: &[f64]| l.chunks(2).map(|c| Scalar { lo: c[0], hi: c[1] }).collect::<Vec<_>>();
-    let points = scalars(&q.points).chunks(D).map(|p| Vector::from_array(std::array::from_fn(|k| p[k]))).collect();
-    let knots = q.knots.iter().map(|&u| Scalar::from_f64(u)).collect();
-    let cell = scalars(&q.cell);
-    let cell = Vector::<C>::from_array(std::array::from_fn(|k| cell[k]));
-    visits::taken();
-    ASKING.store(true, Relaxed);
-    let answer = catch_unwind(AssertUnwindSafe(|| {
-        let curve = NurbCurve::<D>::try_new(q.degree, points, knots)?;
-        curve_could_contain(&curve, &cell, q.nodes, Scalar::from_f64(q.resolution))
-    }));
-    ASKING.store(false, Relaxed);
-    (answer.map_err(|said| said.downcast_ref::<String>().cloned().unwrap_or_default()), visits::taken())
-}
-/// The bits of a bound, where a negative zero counts as zero, and any NaN as one.
-fn bits(x: f64) -> String {
-    format!("{:016x}", if x.is_nan() { f64::NAN } else { x + 0.0 }.to_bits())
-}
-/// The pending count that the Rust's error names.
-fn pending(said: &str) -> Option<u64> {
-    let (before, _) = said.split_once(" segments pending")?;
-    before.rsplit(' ').next()?.parse().ok()
-}
+// ---- what is expected: the answer
 
 /// What is expected for a text: the result's word, visited, and the five lines.
 struct Expected {
@@ -155,29 +91,17 @@ struct Expected {
     visited: u64,
     lines: String,
 }
-fn expect(word: &str, visited: u64, pending: u64, lo: &str, hi: &str) -> Expected {
-    let lines = format!("result={word}\nvisited={visited}\npending={pending}\nlo={lo}\nhi={hi}\n");
-    Expected { word: word.into(), visited, lines }
-}
-/// The Rust's answer, as it is to be printed; or what it said that is no answer of document 01.
-fn ask_rust<const D: usize, const C: usize>(q: &Question) -> Result<Expected, String>
-where
-    NurbCurve<D>: ParameterRefinable<C>,
-{
-    let (answer, visited) = run_rust::<D, C>(q);
-    match answer {
-        Ok(Ok(None)) => Ok(expect("none", visited, 0, "-", "-")),
-        Ok(Ok(Some(t))) => Ok(expect("enclosed", visited, 0, &bits(t.lo), &bits(t.hi))),
-        Ok(Err(e)) => pending(e.root_message()).map(|n| expect("spent", visited, n, "-", "-")).ok_or(e.root_message().into()),
-        Err(said) if said.starts_with("weights are definitely positive") => Ok(expect("refused-11", visited, 0, "-", "-")),
-        Err(said) => Err(said),
-    }
+/// An answer, as it is to be printed.
+fn printed([kind, pending, visited, number, lo, hi]: Answer) -> Expected {
+    let word = if kind == 3 { format!("refused-{number}") } else { WORDS[kind as usize].into() };
+    let bound = |bits: u64| if kind == 1 { format!("{bits:016x}") } else { "-".into() };
+    let lines = format!("result={word}\nvisited={visited}\npending={pending}\nlo={}\nhi={}\n", bound(lo), bound(hi));
+    Expected { word, visited, lines }
 }
 fn expected(text: &[u8]) -> Result<Expected, String> {
     match asked(text) {
-        Ok(q) if q.dim == 2 => ask_rust::<3, 2>(&q),
-        Ok(q) => ask_rust::<4, 3>(&q),
-        Err(n) => Ok(expect(&format!("refused-{n}"), 0, 0, "-", "-")),
+        Ok(q) => answers::expected(&q).map(printed),
+        Err(n) => Ok(printed(refused(n))),
     }
 }
 
@@ -479,6 +403,13 @@ struct Row {
     most: u64,
     differ: u64,
 }
+impl Row {
+    fn count(&mut self, visited: u64) {
+        self.texts += 1;
+        self.visits += visited;
+        self.most = self.most.max(visited);
+    }
+}
 fn row_of(theirs: &Result<Expected, String>) -> usize {
     theirs.as_ref().map_or(14, |e| WORDS.iter().position(|w| *w == e.word).unwrap_or(14))
 }
@@ -518,10 +449,7 @@ fn compare(r: &mut Rng, total: u64) -> bool {
         let theirs = expected(&text);
         let same = same(r, &text, &theirs);
         let row = &mut rows[row_of(&theirs)];
-        let visited = theirs.as_ref().map_or(0, |e| e.visited);
-        row.texts += 1;
-        row.visits += visited;
-        row.most = row.most.max(visited);
+        row.count(theirs.as_ref().map_or(0, |e| e.visited));
         if let Some(way) = way {
             row.damaged += 1;
             ways[way][0] += 1;
@@ -558,7 +486,13 @@ fn cell_of(word: usize, text: &[u8], visited: u64) -> (usize, usize) {
     let band = [1, 5, 19, 59].iter().filter(|&&v| visited > v).count();
     if word < 3 { (1 + word + 3 * (dim + 4 * degree), band) } else { (1000 + word, 0) }
 }
-/// Chooses texts and writes them with their answers: data/00 and so on, args, stdout.
+/// The texts of chosen.txt: they stand between empty lines, and lines with a # in front are no part of them.
+fn chosen_texts() -> Vec<Vec<u8>> {
+    let parts = include_str!("chosen.txt").split("\n\n");
+    let texts = parts.map(|part| part.lines().filter(|l| !l.starts_with('#')).flat_map(|l| [l, "\n"]).collect::<String>());
+    texts.filter(|text| !text.is_empty()).map(String::into_bytes).collect()
+}
+/// Chooses texts and writes them, and those of chosen.txt, with their answers: data/00 and so on, args, stdout.
 fn store(r: &mut Rng, folder: &str) -> std::io::Result<bool> {
     let mut cells = std::collections::BTreeMap::<usize, [usize; 5]>::new();
     let (mut chosen, mut rows, mut made, mut long, mut right) = (Vec::new(), [Row::default(); 15], 0, 0, true);
@@ -590,14 +524,23 @@ fn store(r: &mut Rng, folder: &str) -> std::io::Result<bool> {
             show(&text);
             right = false;
         }
-        let row = &mut rows[word];
-        row.texts += 1;
-        row.visits += answer.visited;
-        row.most = row.most.max(answer.visited);
+        rows[word].count(answer.visited);
         chosen.push((text, answer.lines.clone()));
     }
     for i in (1..chosen.len()).rev() {
         chosen.swap(i, r.below(i + 1));
+    }
+    right &= chosen.len() == wanted;
+    for text in chosen_texts() {
+        let theirs = expected(&text);
+        if !same(r, &text, &theirs) || theirs.is_err() {
+            show(&text);
+            right = false;
+        }
+        if let Ok(answer) = &theirs {
+            rows[row_of(&theirs)].count(answer.visited);
+            chosen.push((text, answer.lines.clone()));
+        }
     }
     let mut files: Vec<(Vec<u8>, usize)> = vec![(Vec::new(), 0)];
     for (text, _) in &chosen {
@@ -622,7 +565,7 @@ fn store(r: &mut Rng, folder: &str) -> std::io::Result<bool> {
     }
     let bytes: usize = files.iter().map(|(bytes, _)| bytes.len()).sum();
     println!("{} texts of {made}, in {} files of {bytes} bytes; the port gives the same: {right}", chosen.len(), files.len());
-    Ok(right && chosen.len() == wanted)
+    Ok(right)
 }
 
 fn main() {
@@ -630,7 +573,7 @@ fn main() {
     let folder = (words.first().is_some_and(|w| w == "--store")).then(|| words.drain(..2).nth(1).expect("--store FOLDER"));
     let numbers: Vec<u64> = words.iter().map(|w| w.parse().expect("TEXTS [SEED]")).collect();
     let (total, seed) = (numbers.first().copied().unwrap_or(300_000), numbers.get(1).copied().unwrap_or(1));
-    set_hook(Box::new(|p| if !ASKING.load(Relaxed) { eprintln!("{p}") }));
+    hush();
     let mut r = Rng(seed.wrapping_mul(0x9e37_79b9_7f4a_7c15) | 1);
     let right = match folder {
         Some(folder) => store(&mut r, &folder).expect("the files can be written"),
