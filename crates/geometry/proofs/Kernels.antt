@@ -7,6 +7,7 @@ pub mod Polygon
 pub mod ByHand
 pub mod Clip
 pub mod Call
+pub mod Runs
 pub mod Flat
 pub mod Walks
 pub mod Widening

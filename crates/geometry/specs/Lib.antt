@@ -7,3 +7,4 @@ pub mod Plan
 pub mod Turns
 pub mod Waiting
 pub mod Zeros
+pub mod Runs

@@ -1,5 +1,4 @@
 // What a call may lend: the checks 1 to 10 of document 01, each equal to its definition.
-use crate::knot_insertion::multiplicity_of;
 use crate::nurb_curve::weighted;
 ghost use mathlib.Core.Path.{_≡_};
 ghost use Prim.Native.Nat.{suc, max, _+_, _*_, _≤_, _<_};
@@ -11,6 +10,7 @@ ghost use Rattle.lists.specs.Lists.{all};
 ghost use Rattle.math.specs.Scalars.{zeroF};
 ghost use Rattle.search.specs.Layout.{scalarsOf, slotWords};
 ghost use Rattle.search.specs.Call.{AllDoubles, usable, ordered, rising, seldom, sound, refusal};
+ghost use Rattle.geometry.specs.Runs.{repeatsAt, seldomAt};
 
 // A number, and at most 2^100 in size.
 fn usable(x: f64) -> bool
@@ -86,29 +86,40 @@ fn inner_most(degree: usize) -> usize
     if degree == 0 { 1 } else { degree }
 }
 
-// On a domain from a to b, the knot u does not occur too often.
-fn seldom(degree: usize, a: f64, b: f64, knots: &[f64], u: f64) -> bool
-    requires { ⌜ degree ≤ 7 ⌝ }
-    ensures { λ r. ⌜ r ≡ seldom degree a b (now (knots .entry)) u ⌝ }
+// Knot number i is followed by an equal one, k places on.
+fn repeats_at(knots: &[f64], i: usize, k: usize) -> bool
+    requires { ⌜ (i < length (now knots)) × (k ≤ 8) ⌝ }
+    ensures { λ r. ⌜ r ≡ repeatsAt (now (knots .entry)) i k ⌝ }
 {
-    let n = multiplicity_of(knots, u);
+    if i + k < knots.len() {
+        return knots[i + k] == knots[i];
+    }
+    false
+}
+
+// On a domain from a to b, number i of rising knots does not begin a run that is too long.
+fn seldom_at(degree: usize, a: f64, b: f64, knots: &[f64], i: usize) -> bool
+    requires { ⌜ (degree ≤ 7) × (i < length (now knots)) ⌝ }
+    ensures { λ r. ⌜ r ≡ seldomAt degree a b (now (knots .entry)) i ⌝ }
+{
+    let u = knots[i];
     if is_end(a, b, u) {
-        return n <= degree + 1;
+        return !repeats_at(knots, i, degree + 1);
     }
     if is_inner(a, b, u) {
-        return n <= inner_most(degree);
+        return !repeats_at(knots, i, inner_most(degree));
     }
     true
 }
 
-// No knot occurs too often.
+// Of rising knots, none occurs too often.
 fn all_seldom(degree: usize, a: f64, b: f64, knots: &[f64]) -> bool
-    requires { ⌜ degree ≤ 7 ⌝ }
+    requires { ⌜ (degree ≤ 7) × (rising (now knots) ≡ true) ⌝ }
     ensures { λ r. ⌜ r ≡ all (λ u. seldom degree a b (now (knots .entry)) u) (now (knots .entry)) ⌝ }
 {
     let mut i = 0;
     while i < knots.len() {
-        if !seldom(degree, a, b, knots, knots[i]) {
+        if !seldom_at(degree, a, b, knots, i) {
             return false;
         }
         i += 1;

@@ -1,16 +1,15 @@
--- Laws behind the checks of a call: knots that rise, one by one, and a count that goes on. Assumes nothing.
-use mathlib.Core.Path.{_≡_, refl, sym, ap, ap₂, _∙_}
+-- Laws behind the checks of a call: knots that rise, one by one, and the checks in their order. Assumes nothing.
+use mathlib.Core.Path.{_≡_, refl, sym, ap, _∙_}
 use mathlib.Core.Bool.{Bool, true, false, cond, _&&_, _||_, true≢false}
 use mathlib.Core.List.{List, [], _∷_}
-use Prim.Native.Nat.{ℕ, zero, suc, _+_, _-_, _*_, _≤_, _<_, max}
+use Prim.Native.Nat.{ℕ, zero, suc, _+_, _-_, _*_, _≤_, _<_}
 use native.Mathlib.Nat.{le-trans, le-of-eq, mul-assoc, mul-le-mul-left, mul-le-mul-right}
 use native.Mathlib.Omega.{arith}
 use borrow.Author.Tests.{leb-true, eqb-true}
 use lib.Dec.{leb, eqb}
 use lib.ListN.{length, drop, getD}
-use lib.Ieee.{Float, nan, lt, le, eq}
-use Rattle.lists.specs.Lists.{all, count}
-use Rattle.math.proofs.Bools.{pick-yes, pick-no}
+use lib.Ieee.{Float, nan, lt, le}
+use Rattle.lists.specs.Lists.{all}
 use Rattle.search.specs.Layout.{slotWords}
 use Rattle.search.specs.Call.{Call, dimFits, degreeFits, countFits, lengthsFit, numbersUsable, boundsOrdered, weightsAbove, rising, seldom, sound, knotsSound, nodesFit, areaFits, firstFailed, refusal}
 
@@ -49,21 +48,6 @@ module _ (l : List Float) (i : ℕ) (r : Bool) (one : 1 ≤ i) (inv : rising (dr
 
   pub rising-end : length l ≤ i → true ≡ r
   rising-end h = sym (rising-last l (i - 1) (omega arith)) ∙ inv
-
--- ---- how often a knot may occur, by the answers of the tests on it
-module _ (p : ℕ) (a b : Float) (knots : List Float) (u : Float) (n m : ℕ) (e i : Bool) (en : n ≡ count (λ v. eq v u) knots) (ee : e ≡ (eq u a || eq u b)) where
-  pub seldom-end : e ≡ true → leb n (p + 1) ≡ seldom p a b knots u
-  unfolding seldom
-  seldom-end h = ap (λ (k : ℕ). leb k (p + 1)) en ∙ pick-yes (eq u a || eq u b) _ _ (sym ee ∙ h)
-
-  module _ (ei : i ≡ (lt a u && lt u b)) where
-    pub seldom-inner : e ≡ false → i ≡ true → m ≡ max p 1 → leb n m ≡ seldom p a b knots u
-    unfolding seldom
-    seldom-inner h k em = ap₂ (λ (x y : ℕ). leb x y) en em ∙ pick-yes (lt a u && lt u b) _ _ (sym ei ∙ k) ∙ pick-no (eq u a || eq u b) _ _ (sym ee ∙ h)
-
-    pub seldom-outer : e ≡ false → i ≡ false → true ≡ seldom p a b knots u
-    unfolding seldom
-    seldom-outer h k = pick-no (lt a u && lt u b) _ _ (sym ei ∙ k) ∙ pick-no (eq u a || eq u b) _ _ (sym ee ∙ h)
 
 -- ---- or, by its first side
 pub or-yes : (t u : Bool) → t ≡ true → t ≡ t || u

@@ -3,6 +3,7 @@ use borrow.Author.Needs.{needs}
 use Rattle.geometry.proofs.Kernels.Call.{sound-falls, sound-empty, sound-rest}
 use borrow.Author.Tests.{not-true, not-false}
 use mathlib.Core.Path.{sym, _∙_}
+use native.Mathlib.Omega.{arith}
 use Rattle.geometry.proofs.call.sound.Statement.{statement}
 use Rattle.geometry.proofs.call.sound.Tie as tie
 use Rattle.geometry.proofs.call.sound.Reads as reads
@@ -10,43 +11,45 @@ use Rattle.geometry.proofs.call.sound.Lts as lts
 use Rattle.geometry.proofs.call.all_seldom.Reads as all-seldom-reads
 use Rattle.geometry.proofs.call.rising.Reads as rising-reads
 
--- src/call.rt:122:13
+-- src/call.rt:135:13
 mul-a : tie.Need-mul-a
 mul-a c = search needs
 
--- src/call.rt:122:13
+-- src/call.rt:135:13
 shared-slice-read-a : tie.Need-shared-slice-read-a
 shared-slice-read-a c = search needs
 
--- src/call.rt:123:13
+-- src/call.rt:136:13
 mul-b : tie.Need-mul-b
 mul-b c = search needs
 
--- src/call.rt:123:13
+-- src/call.rt:136:13
 shared-slice-read-b : tie.Need-shared-slice-read-b
 shared-slice-read-b c = search needs
 
--- src/call.rt:124:9
+-- src/call.rt:137:9
 rising-requires : tie.Need-rising-requires
 rising-requires c κs = search needs
 
--- src/call.rt:125:9
+-- src/call.rt:138:9
 returns : tie.Need-returns
 returns c =
     let g = c .before .before .before .before .before .args in
     sound-falls (g .degree) (g .count) (g .knots .now) (sym (c .before .rising .ensures) ∙ not-true _ (c .if1 .taken))
 
--- src/call.rt:128:9
+-- src/call.rt:141:9
 returns-2 : tie.Need-returns-2
 returns-2 c =
     let g = c .before .before .before .before .before .before .args in
     sound-empty (g .degree) (g .count) (g .knots .now) (not-true _ (c .if2 .taken))
 
--- src/call.rt:130:5
+-- src/call.rt:143:5
 all-seldom-requires : tie.Need-all-seldom-requires
-all-seldom-requires c κs = search needs
+all-seldom-requires c κs =
+    let k = c .before .before in
+    (omega arith, sym (k .rising .ensures) ∙ not-false _ (c .before .if1 .left))
 
--- src/call.rt:118:1
+-- src/call.rt:131:1
 returns-3 : tie.Need-returns-3
 returns-3 c =
     let k = c .before .before in
