@@ -12,3 +12,4 @@ pub mod NextLeast
 pub mod Grid
 pub mod Tests
 pub mod Steps
+pub mod Same

@@ -10,3 +10,5 @@ pub mod Sizes
 pub mod Alpha
 pub mod Instance
 pub mod Widen
+pub mod Positive
+pub mod Factors

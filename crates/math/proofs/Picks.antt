@@ -1,4 +1,4 @@
--- What the picks of `lesser`, `greater`, `mul`, `intersect` and `interpolate` give, over plain values. Assumes nothing.
+-- What the picks of `lesser`, `greater`, `below`, `above`, `mul`, `intersect` and `interpolate` give, over plain values. Assumes nothing.
 use mathlib.Core.Path.{_≡_, refl, sym, ap, _∙_}
 use mathlib.Core.Bool.{Bool, true, false, false≢true}
 use lib.Ieee.{Float, nan, inf, fin, binary64, isNan, lt, le, sub}
@@ -8,13 +8,13 @@ use Rattle.math.specs.declared.scalars.Scalar.{Scalar}
 use Rattle.math.proofs.Bools.{pick-yes, pick-no}
 
 -- ---- the lesser and the greater of a number and another, which is a number too
-left-number : (a b : Float) → lt a b ≡ true → isNan a ≡ false
+pub left-number : (a b : Float) → lt a b ≡ true → isNan a ≡ false
 unfolding lt isNan
 left-number nan b e = absurd (false≢true e)
 left-number (inf s) b e = refl
 left-number (fin s m k) b e = refl
 
-right-number : (a b : Float) → lt a b ≡ true → isNan b ≡ false
+pub right-number : (a b : Float) → lt a b ≡ true → isNan b ≡ false
 unfolding lt isNan
 right-number nan b e = absurd (false≢true e)
 right-number (inf s) nan e = absurd (false≢true e)
@@ -66,14 +66,17 @@ module _ (x y : Scalar) (l h : Float) (L : l ≡ maxF (x .lo) (y .lo)) (H : h �
   unfolding intersectS
   second e f = rw (test false e, f)
 
+-- and of two sums
+pub sums-meet : (a m p q x y r : Scalar) → x ≡ addS a m → y ≡ addS p q → r ≡ intersectS x y → r ≡ intersectS (addS a m) (addS p q)
+sums-meet a m p q x y r X Y R = R ∙ (λ i. intersectS (X i) (Y i))
+
 -- ---- the two answers of `interpolate`: its first operand, or its calls one after the other
 pub kept : (a b t : Scalar) → isSteady a b t ≡ true → a ≡ interpolateS geop a b t
 unfolding interpolateS
 kept a b t e = pick-yes (isSteady a b t) a (intersectS (viaDelta geop a b t) (viaWeights geop a b t)) e
 
-pub blended : (a b t s m d s' m' n' d' r : Scalar) → s ≡ subS b a → m ≡ mulS t s → d ≡ addS a m → s' ≡ subS ONE t → m' ≡ mulS s' a → n' ≡ mulS t b → d' ≡ addS m' n' → r ≡ intersectS d d'
-    → isSteady a b t ≡ false → r ≡ interpolateS geop a b t
+pub blended : (a b t u d m p q r : Scalar) → u ≡ subS ONE t → d ≡ subS b a → m ≡ mulS t d → p ≡ mulS u a → q ≡ mulS t b → r ≡ intersectS (addS a m) (addS p q) → isSteady a b t ≡ false → r ≡ interpolateS geop a b t
 unfolding interpolateS
-blended a b t s m d s' m' n' d' r p1 p2 p3 p4 p5 p6 p7 p8 e =
-    let k : r ≡ intersectS (viaDelta geop a b t) (viaWeights geop a b t) = simp (p8, p7, p6, p5, p4, p3, p2, p1) in
+blended a b t u d m p q r e1 e2 e3 e4 e5 e6 e =
+    let k : r ≡ intersectS (viaDelta geop a b t) (viaWeights geop a b t) = simp (e6, e5, e4, e3, e2, e1) in
     k ∙ pick-no (isSteady a b t) a (intersectS (viaDelta geop a b t) (viaWeights geop a b t)) e

@@ -1,11 +1,12 @@
 // Intervals of f64, rounded outward: what the search needs of geop-core-math's scalars/mod.rs, under its names.
 // A function's promise names the definition that it equals, in specs/, for every operand, NaN and the infinities included.
 ghost use mathlib.Core.Path.{_≡_};
-ghost use mathlib.Core.Bool.{false};
+ghost use mathlib.Core.Bool.{true, false};
 ghost use lib.Ieee.{isNan};
 ghost use Rattle.math.specs.Neighbours.{nextUp, nextDown};
 ghost use Rattle.math.specs.Picks.{minF, maxF};
 ghost use Rattle.math.specs.Scalars.{geop, ENTIRE, sharp, middle, widthS, fromRatio, addS, subS, mulS, divS, inverseS, hasZero, couldBeEqual, couldBeGreater, definitelyGreater, couldBeLess, definitelyLess, isSharp, isSubsetOf, isExactly, inUnit, isSteady, unionS, intersectS, interpolateS};
+ghost use Rattle.math.specs.Factors.{isFactor, inOrder, isTame};
 
 // The neighbouring f64 above: 2^-1074 from either zero. NaN and the positive infinity stay.
 // x + 0.0 is x, but for a zero, which becomes the positive one: then one step of the bits serves every x.
@@ -67,6 +68,20 @@ fn lesser(a: f64, b: f64) -> f64
 fn greater(a: f64, b: f64) -> f64
     requires { ⌜ isNan a ≡ false ⌝ }
     ensures { λ r. ⌜ (r ≡ maxF a b) × (isNan r ≡ false) ⌝ }
+{
+    if a < b { b } else { a }
+}
+
+// The same instruction for any two operands: a number that it gives is their `min`.
+fn below(a: f64, b: f64) -> f64
+    ensures { λ r. ⌜ (isNan r ≡ false → r ≡ minF a b) ⌝ }
+{
+    if b < a { b } else { a }
+}
+
+// And so for `max`.
+fn above(a: f64, b: f64) -> f64
+    ensures { λ r. ⌜ (isNan r ≡ false → r ≡ maxF a b) ⌝ }
 {
     if a < b { b } else { a }
 }
@@ -302,16 +317,65 @@ impl Scalar {
         a.is_exactly(b) && alpha.in_unit()
     }
 
+    // Its bounds are in order and lie above zero, up to 2: a product with it keeps the order of the other bounds.
+    fn is_factor(self) -> bool
+        ensures { λ r. ⌜ r ≡ isFactor self ⌝ }
+    {
+        self.lo > 0.0 && self.lo <= self.hi && self.hi <= 2.0
+    }
+
+    // Its bounds are in order, and no NaN.
+    fn in_order(self) -> bool
+        ensures { λ r. ⌜ r ≡ inOrder self ⌝ }
+    {
+        self.lo <= self.hi
+    }
+
+    // `mul` by a factor, of what is in order: each bound is picked from two products, not from four.
+    fn scale(self, other: Scalar) -> Scalar
+        requires { ⌜ (isFactor self ≡ true) × (inOrder other ≡ true) ⌝ }
+        ensures { λ r. ⌜ r ≡ mulS self other ⌝ }
+    {
+        Scalar {
+            lo: next_down(lesser(self.lo * other.lo, self.hi * other.lo)),
+            hi: next_up(greater(self.lo * other.hi, self.hi * other.hi)),
+        }
+    }
+
+    // What a + m and p + q have in common: where they meet, each bound is widened once, after the pick.
+    fn common(a: Scalar, m: Scalar, p: Scalar, q: Scalar) -> Scalar
+        ensures { λ r. ⌜ r ≡ intersectS (addS a m) (addS p q) ⌝ }
+    {
+        let lo = next_down(above(a.lo + m.lo, p.lo + q.lo));
+        let hi = next_up(below(a.hi + m.hi, p.hi + q.hi));
+        if lo <= hi {
+            return Scalar { lo, hi };
+        }
+        a.add(m).intersect(p.add(q))
+    }
+
+    // The three products of `interpolate` are products by factors: delta is b - a, and beta is 1 - alpha.
+    fn tame(a: Scalar, b: Scalar, delta: Scalar, alpha: Scalar, beta: Scalar) -> bool
+        ensures { λ r. ⌜ r ≡ isTame a b delta alpha beta ⌝ }
+    {
+        alpha.is_factor() && beta.is_factor() && a.in_order() && b.in_order() && delta.in_order()
+    }
+
     // The point a fraction alpha of the way from a to b: a where both are the same and alpha lies in 0 to 1, else what
-    // a + alpha (b - a) and (1 - alpha) a + alpha b have in common.
+    // a + alpha (b - a) and (1 - alpha) a + alpha b have in common. Where `tame` says so it goes the short way.
     pub fn interpolate(a: Scalar, b: Scalar, alpha: Scalar) -> Scalar
         ensures { λ r. ⌜ r ≡ interpolateS geop a b alpha ⌝ }
     {
         if Scalar::steady(a, b, alpha) {
             return a;
         }
-        let via_delta = a.add(alpha.mul(b.sub(a)));
-        let via_weights = Scalar::ONE.sub(alpha).mul(a).add(alpha.mul(b));
+        let beta = Scalar::ONE.sub(alpha);
+        let delta = b.sub(a);
+        if Scalar::tame(a, b, delta, alpha, beta) {
+            return Scalar::common(a, alpha.scale(delta), beta.scale(a), alpha.scale(b));
+        }
+        let via_delta = a.add(alpha.mul(delta));
+        let via_weights = beta.mul(a).add(alpha.mul(b));
         via_delta.intersect(via_weights)
     }
 }

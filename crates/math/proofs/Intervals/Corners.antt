@@ -187,6 +187,9 @@ mul-both (fin s m e) nan = refl
 mul-both (fin s m e) (inf t) = ap (λ (b : Bool). cond (eqb m 0) nan (inf b)) (unlike-both s t)
 mul-both (fin s m e) (fin t n d) = ap (λ (b : Bool). round binary64 b (m * up e * (n * up d)) (down e * down d)) (unlike-both s t)
 
+pub mul-neg-right : (x y : Float) → mul binary64 x (neg y) ≡ neg (mul binary64 x y)
+mul-neg-right x y = sym (mul-both x (neg y)) ∙ ap (mul binary64 (neg x)) (neg-neg-f y) ∙ mul-neg x y
+
 zero-neg : (x : Float) → T (eq (neg x) zeroF) → T (eq x zeroF)
 unfolding neg
 zero-neg nan h = h

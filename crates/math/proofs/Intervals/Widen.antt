@@ -1,4 +1,5 @@
--- The neighbours of doubles keep their order, so that the least of some is widened once: the neighbour below the lesser of two is the lesser of their neighbours, and so above. Assumes nothing.
+-- The neighbours of doubles keep their order, so that a pick of some is widened once: the neighbour below the lesser, or the greater, of two is the lesser, or the greater, of their neighbours, and so above.
+-- Assumes nothing.
 use mathlib.Core.Path.{_≡_, refl, sym, ap, _∙_, subst}
 use mathlib.Core.Logic.{inl, inr}
 use mathlib.Core.Bool.{Bool, true, false, not}
@@ -7,9 +8,9 @@ use lib.Ieee.{Float, nan, inf, fin, binary64, isNan, lt, le, fits, neg}
 use lib.Ieee.Fits.{neg-fits}
 use Rattle.math.specs.Neighbours.{nextUp, nextDown}
 use Rattle.math.specs.Picks.{minF, maxF}
-use Rattle.math.specs.Scalars.{unionS, widened}
+use Rattle.math.specs.Scalars.{unionS, intersectS, widened}
 use Rattle.math.proofs.Bools.{yes, no, decide}
-use Rattle.math.proofs.Picks.{lesser-yes, lesser-no}
+use Rattle.math.proofs.Picks.{lesser-yes, lesser-no, greater-yes, greater-no, meets}
 use Rattle.math.proofs.Doubles.Order.{number, le-number-l, lt→le-f, le-self, le-trans, lt-le, lt-not-le, total-order}
 use Rattle.math.proofs.Doubles.Mirror.{neg-neg}
 use Rattle.math.proofs.Doubles.Least.{max-is}
@@ -102,33 +103,60 @@ down-min-numbers a b F G n m = by (lt b a) refl (lt (nextDown b) (nextDown a)) r
     by false e true f = absurd (down-no a b F G n m e (yes (lt (nextDown b) (nextDown a)) f))
     by false e false f = sym (lesser-no (nextDown a) (nextDown b) q f .0) ∙ ap nextDown (lesser-no a b p e .0)
 
--- the neighbour below the lesser; a NaN is passed over on both sides
-pub down-min : (a b : Float) → T (fits binary64 a) → T (fits binary64 b) → minF (nextDown a) (nextDown b) ≡ nextDown (minF a b)
-down-min a b F G = by a b F G
+down-max-numbers : (a b : Float) → T (fits binary64 a) → T (fits binary64 b) → T (number a) → T (number b) → maxF (nextDown a) (nextDown b) ≡ nextDown (maxF a b)
+down-max-numbers a b F G n m = by (lt a b) refl (lt (nextDown a) (nextDown b)) refl
   where
-    down-nan : nextDown nan ≡ nan
-    down-nan = unfold nextDown nextUp neg in refl
+    p : isNan a ≡ false
+    p = real a n
 
-    after-nan : (x : Float) → minF nan x ≡ x
-    after-nan x = unfold minF isNan in refl
+    q : isNan (nextDown a) ≡ false
+    q = real (nextDown a) (down-number a F n)
 
-    before-nan : (x : Float) → T (number x) → minF x nan ≡ x
-    before-nan x n = sym (lesser-no x nan (real x n) (not-less x) .0)
-      where
-        not-less : (x : Float) → lt nan x ≡ false
-        not-less x = unfold lt in refl
+    by : (t : Bool) → lt a b ≡ t → (u : Bool) → lt (nextDown a) (nextDown b) ≡ u → maxF (nextDown a) (nextDown b) ≡ nextDown (maxF a b)
+    by true e true f = sym (greater-yes (nextDown a) (nextDown b) q f .0) ∙ ap nextDown (greater-yes a b p e .0)
+    by true e false f = sym (greater-no (nextDown a) (nextDown b) q f .0) ∙ sym (down-yes b G m a F n (yes (lt a b) e) f) ∙ ap nextDown (greater-yes a b p e .0)
+    by false e true f = absurd (down-no b a G F m n e (yes (lt (nextDown a) (nextDown b)) f))
+    by false e false f = sym (greater-no (nextDown a) (nextDown b) q f .0) ∙ ap nextDown (greater-no a b p e .0)
 
-    mixed : (a : Float) → T (fits binary64 a) → T (number a) → minF (nextDown a) (nextDown nan) ≡ nextDown (minF a nan)
-    mixed a F n = ap (minF (nextDown a)) down-nan ∙ before-nan (nextDown a) (down-number a F n) ∙ ap nextDown (sym (before-nan a n))
+-- a pick that passes a NaN over on both sides
+module _ (P : Float → Float → Float) (after-nan : (x : Float) → P nan x ≡ x) (before-nan : (x : Float) → T (number x) → P x nan ≡ x)
+    (numbers : (a b : Float) → T (fits binary64 a) → T (fits binary64 b) → T (number a) → T (number b) → P (nextDown a) (nextDown b) ≡ nextDown (P a b)) where
+  down-nan : nextDown nan ≡ nan
+  unfolding nextDown nextUp neg
+  down-nan = refl
 
-    by : (a b : Float) → T (fits binary64 a) → T (fits binary64 b) → minF (nextDown a) (nextDown b) ≡ nextDown (minF a b)
-    by nan b F G = ap (λ (x : Float). minF x (nextDown b)) down-nan ∙ after-nan (nextDown b) ∙ ap nextDown (sym (after-nan b))
-    by (inf s) nan F G = mixed (inf s) F (unfold isNan in tt)
-    by (inf s) (inf t) F G = down-min-numbers (inf s) (inf t) F G (unfold isNan in tt) (unfold isNan in tt)
-    by (inf s) (fin t n d) F G = down-min-numbers (inf s) (fin t n d) F G (unfold isNan in tt) (unfold isNan in tt)
-    by (fin s m e) nan F G = mixed (fin s m e) F (unfold isNan in tt)
-    by (fin s m e) (inf t) F G = down-min-numbers (fin s m e) (inf t) F G (unfold isNan in tt) (unfold isNan in tt)
-    by (fin s m e) (fin t n d) F G = down-min-numbers (fin s m e) (fin t n d) F G (unfold isNan in tt) (unfold isNan in tt)
+  mixed : (a : Float) → T (fits binary64 a) → T (number a) → P (nextDown a) (nextDown nan) ≡ nextDown (P a nan)
+  mixed a F n = ap (P (nextDown a)) down-nan ∙ before-nan (nextDown a) (down-number a F n) ∙ ap nextDown (sym (before-nan a n))
+
+  down-pick : (a b : Float) → T (fits binary64 a) → T (fits binary64 b) → P (nextDown a) (nextDown b) ≡ nextDown (P a b)
+  down-pick nan b F G = ap (λ (x : Float). P x (nextDown b)) down-nan ∙ after-nan (nextDown b) ∙ ap nextDown (sym (after-nan b))
+  down-pick (inf s) nan F G = mixed (inf s) F (unfold isNan in tt)
+  down-pick (inf s) (inf t) F G = numbers (inf s) (inf t) F G (unfold isNan in tt) (unfold isNan in tt)
+  down-pick (inf s) (fin t n d) F G = numbers (inf s) (fin t n d) F G (unfold isNan in tt) (unfold isNan in tt)
+  down-pick (fin s m e) nan F G = mixed (fin s m e) F (unfold isNan in tt)
+  down-pick (fin s m e) (inf t) F G = numbers (fin s m e) (inf t) F G (unfold isNan in tt) (unfold isNan in tt)
+  down-pick (fin s m e) (fin t n d) F G = numbers (fin s m e) (fin t n d) F G (unfold isNan in tt) (unfold isNan in tt)
+
+-- the neighbour below the lesser, and below the greater
+pub down-min : (a b : Float) → T (fits binary64 a) → T (fits binary64 b) → minF (nextDown a) (nextDown b) ≡ nextDown (minF a b)
+down-min = down-pick minF (λ x. after x) (λ x n. sym (lesser-no x nan (real x n) (less x) .0)) down-min-numbers
+  where
+    after : (x : Float) → minF nan x ≡ x
+    after x = unfold minF isNan in refl
+
+    less : (x : Float) → lt nan x ≡ false
+    less x = unfold lt in refl
+
+pub down-max : (a b : Float) → T (fits binary64 a) → T (fits binary64 b) → maxF (nextDown a) (nextDown b) ≡ nextDown (maxF a b)
+down-max = down-pick maxF (λ x. after x) (λ x n. sym (greater-no x nan (real x n) (less x) .0)) down-max-numbers
+  where
+    after : (x : Float) → maxF nan x ≡ x
+    after x = unfold maxF isNan in refl
+
+    less : (x : Float) → lt x nan ≡ false
+    less nan = unfold lt in refl
+    less (inf s) = unfold lt in refl
+    less (fin s m e) = unfold lt in refl
 
 -- ---- the mirror image
 
@@ -140,14 +168,31 @@ down-neg a = ap (λ (x : Float). neg (nextUp x)) (neg-neg a)
 up-neg : (a : Float) → neg (nextDown (neg a)) ≡ nextUp a
 up-neg a = ap neg (down-neg a) ∙ neg-neg (nextUp a)
 
+-- Q is P's mirror image
+module _ (P Q : Float → Float → Float) (is : (a b : Float) → Q a b ≡ neg (P (neg a) (neg b)))
+    (below : (a b : Float) → T (fits binary64 a) → T (fits binary64 b) → P (nextDown a) (nextDown b) ≡ nextDown (P a b)) where
+  up-pick : (a b : Float) → T (fits binary64 a) → T (fits binary64 b) → Q (nextUp a) (nextUp b) ≡ nextUp (Q a b)
+  up-pick a b F G =
+      is (nextUp a) (nextUp b)
+      ∙ ap neg ((λ i. P (sym (down-neg a) i) (sym (down-neg b) i)) ∙ below (neg a) (neg b) (neg-fits binary64 a F) (neg-fits binary64 b G))
+      ∙ ap (λ (x : Float). neg (nextDown x)) (sym (neg-neg (P (neg a) (neg b))) ∙ ap neg (sym (is a b)))
+      ∙ up-neg (Q a b)
+
 pub up-max : (a b : Float) → T (fits binary64 a) → T (fits binary64 b) → maxF (nextUp a) (nextUp b) ≡ nextUp (maxF a b)
-up-max a b F G =
-    max-is (nextUp a) (nextUp b)
-    ∙ ap neg ((λ i. minF (sym (down-neg a) i) (sym (down-neg b) i)) ∙ down-min (neg a) (neg b) (neg-fits binary64 a F) (neg-fits binary64 b G))
-    ∙ ap (λ (x : Float). neg (nextDown x)) (sym (neg-neg (minF (neg a) (neg b))) ∙ ap neg (sym (max-is a b)))
-    ∙ up-neg (maxF a b)
+up-max = up-pick minF maxF max-is down-min
+
+pub up-min : (a b : Float) → T (fits binary64 a) → T (fits binary64 b) → minF (nextUp a) (nextUp b) ≡ nextUp (minF a b)
+up-min = up-pick maxF minF min-turned down-max
+  where
+    min-turned : (a b : Float) → minF a b ≡ neg (maxF (neg a) (neg b))
+    min-turned a b = sym (ap neg (max-is (neg a) (neg b)) ∙ neg-neg (minF (neg (neg a)) (neg (neg b))) ∙ (λ i. minF (neg-neg a i) (neg-neg b i)))
 
 -- a union of intervals that were widened is widened once
 pub widened-union : (a b c d : Float) → T (fits binary64 a) → T (fits binary64 b) → T (fits binary64 c) → T (fits binary64 d) → unionS (widened a b) (widened c d) ≡ widened (minF a c) (maxF b d)
 unfolding unionS
 widened-union a b c d A B C D = λ i. record { lo = down-min a c A C i; hi = up-max b d B D i }
+
+-- and so is what two that were widened have in common, where they meet
+pub widened-meet : (a b c d : Float) → T (fits binary64 a) → T (fits binary64 b) → T (fits binary64 c) → T (fits binary64 d) → le (nextDown (maxF a c)) (nextUp (minF b d)) ≡ true
+    → widened (maxF a c) (minF b d) ≡ intersectS (widened a b) (widened c d)
+widened-meet a b c d A B C D e = meets (widened a b) (widened c d) (nextDown (maxF a c)) (nextUp (minF b d)) (sym (down-max a c A C)) (sym (up-min b d B D)) e
