@@ -1,5 +1,6 @@
 pub mod Boxes
 pub mod Points
+pub mod Repeats
 pub mod Sizes
 pub mod Far
 pub mod Zeros

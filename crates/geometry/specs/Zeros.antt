@@ -1,13 +1,13 @@
 -- The zeros by a fat line, over two lists of intervals: what they are for any two lists, and how they are found point by point. Definitions only.
 use Prim.Native.Nat.{ℕ}
 use mathlib.Core.Bool.{Bool, cond, _&&_}
-use mathlib.Core.List.{List}
-use lib.ListN.{length}
+use mathlib.Core.List.{List, map}
+use lib.ListN.{length, getD}
 use lib.Dec.{eqb, ltb}
 use Rattle.math.specs.declared.scalars.Scalar.{Scalar}
 use Rattle.math.specs.declared.scalars.Divided.{Divided}
 use Rattle.math.specs.declared.scalars.Divided.the-variants.{Value, Failed}
-use Rattle.math.specs.Scalars.{geop, ZERO, ENTIRE, couldBeEqual, unionS, addS, subS, divS}
+use Rattle.math.specs.Scalars.{geop, absent, ZERO, ENTIRE, couldBeEqual, unionS, addS, subS, mulS, divS}
 use Rattle.search.specs.FatLine.{offset, crossing, fatLineZeros}
 use Rattle.search.specs.declared.fat_line.Hat.{Hat}
 use Rattle.search.specs.declared.fat_line.Hat.the-variants.{Over, Missing}
@@ -20,6 +20,14 @@ paired m n = eqb m n && ltb 0 n
 -- Where the spline could be zero whose graph has the control polygon (ξ i, d i), as the search defines it. Of two lists that are no polygon nothing is known.
 unfoldable pub polygonZeros : List Scalar → List Scalar → Hat
 polygonZeros ξ d = cond (paired (length ξ) (length d)) (fatLineZeros geop ξ d) (Over ENTIRE)
+
+-- How far each abscissa lies from the first.
+unfoldable pub runs : List Scalar → List Scalar
+runs ξ = map (λ x. subS x (getD ξ 0 absent)) ξ
+
+-- How far a point of value y lies off the chord from a point of value y₀, at a run of x from there.
+abbrev pub offRun : Scalar → Scalar → Scalar → Scalar → Scalar
+offRun slope y₀ x y = subS y (addS y₀ (mulS slope x))
 
 -- ---- point by point
 

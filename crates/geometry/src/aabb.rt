@@ -1,5 +1,6 @@
 // aabb.rs: the box of a piece, and the test before the search.
 use crate::nurb_curve::coordinate;
+use crate::nurb_curve::repeats;
 use crate::nurb_curve::scalar_at;
 use crate::nurb_curve::value_or_entire;
 use math::scalars::Divided;
@@ -14,7 +15,8 @@ ghost use Prim.Native.Nat.{suc, _*_, _≤_, _<_};
 ghost use lib.ListN.{length};
 ghost use lib.Ieee.{isNan};
 ghost use Rattle.math.specs.Picks.{minF, maxF};
-ghost use Rattle.math.specs.Scalars.{geop, ZERO, ONE, unionS};
+ghost use Rattle.math.specs.Scalars.{geop, ZERO, ONE, unionS, inverseS};
+ghost use Rattle.search.specs.Vector.{coordinate};
 ghost use Rattle.search.specs.Layout.{scalarsOf, pointAt, pointsOf};
 ghost use Rattle.geometry.specs.Boxes.{corners, rawPlace};
 ghost use Rattle.search.specs.Aabb.{unions, place, aabb, couldOverlap, along, meets, couldMeet};
@@ -59,17 +61,38 @@ fn corners(x: Scalar, y: Scalar) -> Scalar
     Scalar { lo, hi }
 }
 
-// `place` before it is widened.
-fn raw_place(points: &[f64], dim: usize, i: usize, k: usize) -> Scalar
+// A weight, beside its reciprocal.
+struct Inverted {
+    weight: Scalar,
+    inverse: Scalar,
+}
+
+// The weight w beside its reciprocal, which is taken over from the last weight where w repeats it.
+fn inverse_of(w: Scalar, last: Inverted) -> Inverted
+    requires { ⌜ last .inverse ≡ inverseS (last .weight) ⌝ }
+    ensures { λ r. ⌜ (r .weight ≡ w) × (r .inverse ≡ inverseS w) ⌝ }
+{
+    let v = last.weight;
+    if repeats(w, v) {
+        return last;
+    }
+    Inverted {
+        weight: w,
+        inverse: w.inverse(),
+    }
+}
+
+// `place` before it is widened, for the weight w of point i.
+fn raw_place(points: &[f64], dim: usize, i: usize, k: usize, w: Inverted) -> Scalar
     requires { ⌜ (dim ≤ 3) × (i < 32) × (k < dim) × (2 * (suc dim * suc i) ≤ length (now points)) ⌝ }
+    requires { ⌜ (w .weight ≡ coordinate (pointAt (suc dim) (now points) i) dim) × (w .inverse ≡ inverseS (w .weight)) ⌝ }
     ensures { λ r. ⌜ r ≡ rawPlace dim k (pointAt (suc dim) (now (points .entry)) i) ⌝ }
 {
-    let x = coordinate(points, dim, i, k);
-    let w = coordinate(points, dim, i, dim);
-    if w.has_zero() {
+    let v = w.weight;
+    if v.has_zero() {
         return Scalar::entire();
     }
-    corners(x, w.inverse())
+    corners(coordinate(points, dim, i, k), w.inverse)
 }
 
 // The box of a piece along axis k: the union over its points, which is widened once, since neighbours keep the order of numbers.
@@ -77,12 +100,18 @@ fn axis_box(points: &[f64], dim: usize, count: usize, k: usize) -> Scalar
     requires { ⌜ (dim ≤ 3) × (1 ≤ count) × (count ≤ 32) × (k < dim) × (2 * (suc dim * count) ≤ length (now points)) ⌝ }
     ensures { λ r. ⌜ r ≡ unions (map (λ q. place geop dim k q) (pointsOf (suc dim) count (now (points .entry)))) ⌝ }
 {
-    let first = raw_place(points, dim, 0, k);
+    let w = coordinate(points, dim, 0, dim);
+    let mut last = Inverted {
+        weight: w,
+        inverse: w.inverse(),
+    };
+    let first = raw_place(points, dim, 0, k, last);
     let mut lo = first.lo;
     let mut hi = first.hi;
     let mut i = 1;
     while i < count {
-        let p = raw_place(points, dim, i, k);
+        last = inverse_of(coordinate(points, dim, i, dim), last);
+        let p = raw_place(points, dim, i, k, last);
         lo = lesser(lo, p.lo);
         hi = greater(hi, p.hi);
         i += 1;

@@ -17,11 +17,13 @@ ghost use mathlib.Core.Bool.{cond, _||_};
 ghost use mathlib.Core.List.{zipWith, map};
 ghost use Prim.Native.Nat.{_+_, _*_, _≤_, _<_, suc};
 ghost use lib.ListN.{length};
-ghost use Rattle.math.specs.Scalars.{geop, ZERO, ENTIRE, couldBeEqual, unionS, addS, subS, mulS, divS, zeroF, sharp, middle, widthS, fourFifthsS};
-ghost use Rattle.search.specs.Layout.{scalarAt, scalarsOf, pointAt, pointsOf};
+ghost use Rattle.lists.specs.Lists.{foldl};
+ghost use Rattle.math.specs.Scalars.{geop, ZERO, ENTIRE, couldBeEqual, unionS, addS, mulS, divS, zeroF, sharp, middle, widthS, fourFifthsS};
+ghost use Rattle.search.specs.Layout.{scalarsOf, pointAt, pointsOf};
 ghost use Rattle.search.specs.Aabb.{unions};
-ghost use Rattle.search.specs.FatLine.{window, abscissa, greville, offset, crossing, fatLineZeros, cartesian, square, distance, extent, toF64, widest, carriedBy, carriedWidth, restricts, halves};
+ghost use Rattle.search.specs.FatLine.{window, greville, crossing, fatLineZeros, cartesian, square, distance, extent, toF64, widest, carriedBy, carriedWidth, restricts, halves};
 ghost use Rattle.geometry.specs.Abscissae.{held};
+ghost use Rattle.geometry.specs.Zeros.{runs, offRun};
 ghost use lib.Dec.{ltb};
 ghost use lib.Ieee.{binary64, add, sub, div, lt};
 ghost use Rattle.math.specs.Picks.{maxF};
@@ -38,10 +40,9 @@ pub(crate) fn window(knots: &[f64], i: usize, degree: usize) -> &[f64]
     &knots[i + 1..i + degree + 1]
 }
 
-// The mean of a window of knots.
-pub(crate) fn abscissa(w: &[f64], degree: usize) -> Scalar
-    requires { ⌜ degree ≤ 7 ⌝ }
-    ensures { λ r. ⌜ r ≡ abscissa geop degree (now (w .entry)) ⌝ }
+// The sum of a window of knots, times the reciprocal of their number: their mean.
+fn abscissa(w: &[f64], reciprocal: Scalar) -> Scalar
+    ensures { λ r. ⌜ r ≡ mulS (foldl (λ s u. addS s (sharp u)) ZERO (now (w .entry))) reciprocal ⌝ }
 {
     let mut sum = Scalar::ZERO;
     let mut j = 0;
@@ -49,10 +50,7 @@ pub(crate) fn abscissa(w: &[f64], degree: usize) -> Scalar
         sum = sum.add(Scalar::from_f64(w[j]));
         j += 1;
     }
-    let Divided::Value(mean) = sum.div(Scalar::from_f64(degree as f64)) else {
-        return Scalar::entire();
-    };
-    mean
+    sum.mul(reciprocal)
 }
 
 // Whether there are abscissae: degree 0 has none.
@@ -79,9 +77,10 @@ pub(crate) fn greville_abscissae(knots: &[f64], degree: usize, count: usize) -> 
             at,
         };
     }
+    let reciprocal = Scalar::from_f64(degree as f64).inverse();
     let mut i = 0;
     while i < count {
-        let x = abscissa(window(knots, i, degree), degree);
+        let x = abscissa(window(knots, i, degree), reciprocal);
         at[2 * i] = x.lo;
         at[2 * i + 1] = x.hi;
         i += 1;
@@ -106,32 +105,40 @@ pub(crate) fn unions(l: &[f64], count: usize) -> Scalar
     all
 }
 
-// The chord through (x0, y0), at x.
-pub(crate) fn chord(slope: Scalar, x0: Scalar, y0: Scalar, x: Scalar) -> Scalar
-    ensures { λ r. ⌜ r ≡ addS y0 (mulS slope (subS x x0)) ⌝ }
+// How far each abscissa lies from the first, written to the front of dx.
+pub(crate) fn runs(xi: &[f64], count: usize, dx: &mut [f64])
+    requires { ⌜ (0 < count) × ((2 * count ≤ length (now xi)) × (2 * count ≤ length (now dx))) ⌝ }
+    ensures { λ _. ⌜ (scalarsOf count (now (dx .exit)) ≡ runs (scalarsOf count (now (xi .entry)))) × (length (now (dx .exit)) ≡ length (now (dx .entry))) ⌝ }
 {
-    y0.add(slope.mul(x.sub(x0)))
+    let x0 = scalar_at(xi, 0);
+    let mut i = 0;
+    while i < count {
+        let x = scalar_at(xi, i).sub(x0);
+        dx[2 * i] = x.lo;
+        dx[2 * i + 1] = x.hi;
+        i += 1;
+    }
+}
+
+// The chord from a point of value y0, at a run of x from there.
+pub(crate) fn chord(slope: Scalar, y0: Scalar, x: Scalar) -> Scalar
+    ensures { λ r. ⌜ r ≡ addS y0 (mulS slope x) ⌝ }
+{
+    y0.add(slope.mul(x))
 }
 
 // The union of the offsets of all points, the first too, where one step outward at the end serves all, since the neighbours of doubles keep their order.
-pub(crate) fn band(
-    xi: &[f64],
-    d: &[f64],
-    count: usize,
-    slope: Scalar,
-    x0: Scalar,
-    y0: Scalar,
-) -> Scalar
-    requires { ⌜ (0 < count) × ((2 * count ≤ length (now xi)) × (2 * count ≤ length (now d))) ⌝ }
-    ensures { λ r. ⌜ r ≡ unions (zipWith (λ x y. offset geop slope x0 y0 x y) (scalarsOf count (now (xi .entry))) (scalarsOf count (now (d .entry)))) ⌝ }
+pub(crate) fn band(dx: &[f64], d: &[f64], count: usize, slope: Scalar, y0: Scalar) -> Scalar
+    requires { ⌜ (0 < count) × ((2 * count ≤ length (now dx)) × (2 * count ≤ length (now d))) ⌝ }
+    ensures { λ r. ⌜ r ≡ unions (zipWith (λ x y. offRun slope y0 x y) (scalarsOf count (now (dx .entry))) (scalarsOf count (now (d .entry)))) ⌝ }
 {
-    let c = chord(slope, x0, y0, scalar_at(xi, 0));
+    let c = chord(slope, y0, scalar_at(dx, 0));
     let y = scalar_at(d, 0);
     let mut lo = y.lo - c.hi;
     let mut hi = y.hi - c.lo;
     let mut i = 1;
     while i < count {
-        let c = chord(slope, x0, y0, scalar_at(xi, i));
+        let c = chord(slope, y0, scalar_at(dx, i));
         let y = scalar_at(d, i);
         lo = min(lo, y.lo - c.hi);
         hi = max(hi, y.hi - c.lo);
@@ -143,12 +150,11 @@ pub(crate) fn band(
     }
 }
 
-// The zeros where the chord has no slope: anywhere, if some value could be zero.
-pub(crate) fn level_zeros(d: &[f64], count: usize) -> Hat
-    requires { ⌜ (0 < count) × (2 * count ≤ length (now d)) ⌝ }
-    ensures { λ r. ⌜ r ≡ cond (couldBeEqual (unions (scalarsOf count (now (d .entry)))) ZERO) (Hat.Over ENTIRE) Hat.Missing ⌝ }
+// The zeros where the chord has no slope, of values in this range: anywhere, if some value could be zero.
+pub(crate) fn level_zeros(range: Scalar) -> Hat
+    ensures { λ r. ⌜ r ≡ cond (couldBeEqual range ZERO) (Hat.Over ENTIRE) Hat.Missing ⌝ }
 {
-    if unions(d, count).could_be_equal(Scalar::ZERO) {
+    if range.could_be_equal(Scalar::ZERO) {
         return Hat::Over(Scalar::entire());
     }
     Hat::Missing
@@ -174,19 +180,20 @@ pub(crate) fn sloped_zeros(slope: Scalar, x0: Scalar, y0: Scalar, last: Scalar, 
     Hat::Missing
 }
 
-// Where the spline could be zero whose graph has the control polygon (xi i, d i).
-pub(crate) fn fat_line_zeros(xi: &[f64], d: &[f64], count: usize) -> Hat
-    requires { ⌜ (0 < count) × ((2 * count ≤ length (now xi)) × (2 * count ≤ length (now d))) ⌝ }
+// Where the spline could be zero whose graph has the control polygon (xi i, d i). How far each abscissa lies from the first stands in dx.
+pub(crate) fn fat_line_zeros(xi: &[f64], dx: &[f64], d: &[f64], count: usize) -> Hat
+    requires { ⌜ (0 < count) × ((2 * count ≤ length (now xi)) × ((2 * count ≤ length (now dx)) × (2 * count ≤ length (now d)))) ⌝ }
+    requires { ⌜ scalarsOf count (now dx) ≡ runs (scalarsOf count (now xi)) ⌝ }
     ensures { λ r. ⌜ r ≡ fatLineZeros geop (scalarsOf count (now (xi .entry))) (scalarsOf count (now (d .entry))) ⌝ }
 {
     let x0 = scalar_at(xi, 0);
     let y0 = scalar_at(d, 0);
     let last = scalar_at(d, count - 1);
-    let run = scalar_at(xi, count - 1).sub(x0);
+    let run = scalar_at(dx, count - 1);
     let Divided::Value(slope) = last.sub(y0).div(run) else {
-        return level_zeros(d, count);
+        return level_zeros(unions(d, count));
     };
-    sloped_zeros(slope, x0, y0, last, band(xi, d, count, slope, x0, y0))
+    sloped_zeros(slope, x0, y0, last, band(dx, d, count, slope, y0))
 }
 
 // ---- sizes: plain doubles, for choices that need not be exact

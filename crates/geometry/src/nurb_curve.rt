@@ -3,9 +3,11 @@
 use math::scalars::Divided;
 use math::scalars::Scalar;
 ghost use mathlib.Core.Path.{_≡_};
+ghost use mathlib.Core.Bool.{true, _&&_};
 ghost use Prim.Native.Nat.{suc, _+_, _*_, _≤_, _<_};
 ghost use lib.ListN.{length};
-ghost use Rattle.math.specs.Scalars.{geop, ENTIRE, valueOr};
+ghost use lib.Ieee.{lt};
+ghost use Rattle.math.specs.Scalars.{geop, zeroF, ENTIRE, valueOr, isSame};
 ghost use Rattle.search.specs.Vector.{coordinate};
 ghost use Rattle.search.specs.Layout.{scalarAt, pointAt, pointsOf};
 ghost use Rattle.search.specs.NurbCurve.{domain, inDomain, midParameter, weighted};
@@ -59,6 +61,23 @@ pub(crate) fn mid_parameter(a: f64, b: f64) -> f64
 {
     let sum = Scalar::from_f64(a).add(Scalar::from_f64(b));
     value_or_entire(sum.div(Scalar::TWO)).to_f64()
+}
+
+// Both bounds are above zero.
+fn positive(a: Scalar) -> bool
+    ensures { λ r. ⌜ r ≡ (lt zeroF (a .lo) && lt zeroF (a .hi)) ⌝ }
+{
+    0.0 < a.lo && 0.0 < a.hi
+}
+
+// The two are the same bound by bound, and above zero, since a zero may have either sign: then they are one interval.
+pub(crate) fn repeats(a: Scalar, b: Scalar) -> bool
+    ensures { λ r. ⌜ (r ≡ (isSame a b && (lt zeroF (a .lo) && lt zeroF (a .hi)))) × (r ≡ true → a ≡ b) ⌝ }
+{
+    if a.lo == b.lo && a.hi == b.hi {
+        return positive(a);
+    }
+    false
 }
 
 // Every point's weight has its lo above zero.

@@ -7,7 +7,9 @@ use crate::fat_line::carried;
 use crate::fat_line::cuts_down;
 use crate::fat_line::fat_line_zeros;
 use crate::fat_line::greville_abscissae;
+use crate::fat_line::runs;
 use crate::nurb_curve::domain;
+use crate::nurb_curve::repeats;
 use crate::nurb_curve::scalar_at;
 use crate::nurb_curve::weighted;
 use crate::slots::Shape;
@@ -20,17 +22,16 @@ use crate::subdivide::Outcome;
 use math::scalars::Scalar;
 use search::fat_line::Hat;
 ghost use mathlib.Core.Path.{_≡_};
-ghost use mathlib.Core.Bool.{true, _&&_};
 ghost use Prim.Native.Nat.{ℕ, suc, _+_, _*_, _≤_, _<_};
 ghost use lib.ListN.{length};
-ghost use lib.Ieee.{lt};
 ghost use Rattle.lists.specs.Lists.{put};
-ghost use Rattle.math.specs.Scalars.{geop, zeroF, mulS, isSame};
+ghost use Rattle.math.specs.Scalars.{geop, mulS};
 ghost use Rattle.search.specs.Layout.{scalarAt, scalarsOf, pointsOf, flat};
 ghost use Rattle.search.specs.NurbCurve.{domain, weighted};
 ghost use Rattle.search.specs.FatLine.{greville, fatLineZeros};
 ghost use Rattle.search.specs.Split.{splitMid, restrict};
 ghost use Rattle.search.specs.Contains.{axis, narrowed, clip, handOn, handBoth, visit};
+ghost use Rattle.geometry.specs.Zeros.{runs};
 ghost use Rattle.geometry.specs.Slots.{pieceAt, Inside, Held, Apart, Whole, Fit};
 ghost use Rattle.geometry.specs.Turns.{Visited};
 ghost use Rattle.geometry.specs.Plan.{planHat, planClip, planned};
@@ -41,23 +42,6 @@ fn coordinate(points: &[f64], dim: usize, i: usize, k: usize) -> Scalar
     ensures { λ r. ⌜ r ≡ scalarAt (now (points .entry)) (suc dim * i + k) ⌝ }
 {
     scalar_at(points, (dim + 1) * i + k)
-}
-
-// Both bounds are above zero.
-fn positive(a: Scalar) -> bool
-    ensures { λ r. ⌜ r ≡ (lt zeroF (a .lo) && lt zeroF (a .hi)) ⌝ }
-{
-    0.0 < a.lo && 0.0 < a.hi
-}
-
-// The two are the same bound by bound, and above zero, since a zero may have either sign: then they are one interval.
-fn repeats(a: Scalar, b: Scalar) -> bool
-    ensures { λ r. ⌜ (r ≡ (isSame a b && (lt zeroF (a .lo) && lt zeroF (a .hi)))) × (r ≡ true → a ≡ b) ⌝ }
-{
-    if a.lo == b.lo && a.hi == b.hi {
-        return positive(a);
-    }
-    false
 }
 
 // A weight, beside its product with a factor.
@@ -115,9 +99,10 @@ fn narrowed(hat: Scalar, zeros: Hat) -> Hat
     Hat::Missing
 }
 
-// What axis k of the box leaves of a hat, where d is lent for the values of the axis.
+// What axis k of the box leaves of a hat, where d is lent for the values of the axis, and dx has how far each abscissa lies from the first.
 fn clip_axis(
     xi: &[f64],
+    dx: &[f64],
     points: &[f64],
     dim: usize,
     count: usize,
@@ -127,11 +112,12 @@ fn clip_axis(
     d: &mut [f64],
 ) -> Hat
     requires { ⌜ ((0 < count) × (2 * count ≤ length (now xi))) × ((k < dim) × ((2 * (suc dim * count) ≤ length (now points)) × (2 * count ≤ length (now d)))) ⌝ }
+    requires { ⌜ (2 * count ≤ length (now dx)) × (scalarsOf count (now dx) ≡ runs (scalarsOf count (now xi))) ⌝ }
     ensures { λ r. ⌜ r ≡ narrowed hat (fatLineZeros geop (scalarsOf count (now (xi .entry))) (axis geop dim k e (pointsOf (suc dim) count (now (points .entry))))) ⌝ }
     ensures { λ _. ⌜ now (d .exit) ≡ put (now (d .entry)) 0 (flat (axis geop dim k e (pointsOf (suc dim) count (now (points .entry))))) ⌝ }
 {
     axis(points, dim, count, k, e, d);
-    narrowed(hat, fat_line_zeros(xi, d, count))
+    narrowed(hat, fat_line_zeros(xi, dx, d, count))
 }
 
 // The hat that the axes of the box leave of the domain from start to end: no axis is taken once nothing is left.
@@ -147,12 +133,14 @@ pub(crate) fn clip(
     requires { ⌜ ((0 < count) × (count ≤ 32)) × ((2 * count ≤ length (now xi)) × ((2 * (suc dim * count) ≤ length (now points)) × (2 * dim ≤ length (now «point_box»)))) ⌝ }
     ensures { λ r. ⌜ r ≡ clip geop dim (pointsOf (suc dim) count (now (points .entry))) (scalarsOf count (now (xi .entry))) (domain start end) 0 (scalarsOf dim (now («point_box» .entry))) ⌝ }
 {
+    let mut dx = [0.0; 64];
+    runs(xi, count, &mut dx);
     let mut d = [0.0; 64];
     let mut hat = Scalar::from_f64(start).union(Scalar::from_f64(end));
     let mut k = 0;
     while k < dim {
         let e = scalar_at(point_box, k);
-        let Hat::Over(h) = clip_axis(xi, points, dim, count, k, e, hat, &mut d) else {
+        let Hat::Over(h) = clip_axis(xi, &dx, points, dim, count, k, e, hat, &mut d) else {
             return Hat::Missing;
         };
         hat = h;

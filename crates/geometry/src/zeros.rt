@@ -1,12 +1,12 @@
 // `fat_line_zeros` over two lent slices of intervals. Each point is read once and passed on by value; the chord and the zeros are those of fat_line.rt.
 use crate::fat_line::chord;
+use crate::fat_line::level_zeros;
 use crate::fat_line::sloped_zeros;
 use math::scalars::Divided;
 use math::scalars::Scalar;
 use search::fat_line::Hat;
 ghost use mathlib.Core.Path.{_≡_};
-ghost use mathlib.Core.Bool.{cond};
-ghost use Rattle.math.specs.Scalars.{ZERO, ENTIRE, couldBeEqual};
+ghost use Rattle.math.specs.Scalars.{ENTIRE};
 ghost use Rattle.geometry.specs.Zeros.{paired, polygonZeros, offBy, begun, taken, zerosOf};
 
 // The chord of a control polygon, and its band: the union of what the points taken in so far lie off it, or of their values where there is no chord.
@@ -39,7 +39,7 @@ fn off(slope: Divided, x0: Scalar, y0: Scalar, x: Scalar, y: Scalar) -> Scalar
     let Divided::Value(s) = slope else {
         return y;
     };
-    y.sub(chord(s, x0, y0, x))
+    y.sub(chord(s, y0, x.sub(x0)))
 }
 
 // The line from (x0, y0) to (x, y), with the first point taken in.
@@ -75,23 +75,13 @@ fn take(l: Line, x: Scalar, y: Scalar) -> Line
     }
 }
 
-// The zeros where there is no chord: anywhere, if some value could be zero.
-fn level(range: Scalar) -> Hat
-    ensures { λ r. ⌜ r ≡ cond (couldBeEqual range ZERO) (Hat.Over ENTIRE) Hat.Missing ⌝ }
-{
-    if range.could_be_equal(Scalar::ZERO) {
-        return anywhere();
-    }
-    Hat::Missing
-}
-
 // The zeros, once each point is taken in.
 fn end(l: Line) -> Hat
     ensures { λ r. ⌜ r ≡ zerosOf (l .x0) (l .y0) (l .last) (l .band) (l .slope) ⌝ }
 {
     let slope = l.slope;
     let Divided::Value(s) = slope else {
-        return level(l.band);
+        return level_zeros(l.band);
     };
     sloped_zeros(s, l.x0, l.y0, l.last, l.band)
 }

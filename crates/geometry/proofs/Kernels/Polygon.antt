@@ -11,7 +11,7 @@ use Rattle.math.specs.declared.scalars.Scalar.{Scalar}
 use Rattle.math.specs.declared.scalars.Divided.{Divided}
 use Rattle.math.specs.declared.scalars.Divided.the-variants.{Value, Failed}
 use Rattle.math.specs.Scalars.{geop, absent, ZERO, ENTIRE, couldBeEqual, unionS, addS, subS, divS}
-use Rattle.math.proofs.Bools.{and-l, and-r, pick-yes, pick-no}
+use Rattle.math.proofs.Bools.{and-l, and-r}
 use Rattle.search.specs.Aabb.{unions}
 use Rattle.search.specs.FatLine.{offset, crossing, zerosBy, fatLineZeros}
 use Rattle.search.specs.declared.fat_line.Hat.{Hat}
@@ -44,14 +44,6 @@ as-many m n h = eqb→eq m n (and-l (eqb m n) (ltb 0 n) h)
 
 pub not-empty : (m n : ℕ) → T (paired m n) → 0 < n
 not-empty m n h = ltb→lt 0 n (and-r (eqb m n) (ltb 0 n) h)
-
--- ---- the zeros where there is no chord
-
-pub range-reaches : (u : Scalar) (r : Hat) (t : Bool) → t ≡ couldBeEqual u ZERO → r ≡ Over ENTIRE → t ≡ true → r ≡ cond (couldBeEqual u ZERO) (Over ENTIRE) Missing
-range-reaches u r t T R e = R ∙ pick-yes _ _ _ (sym T ∙ e)
-
-pub range-misses : (u : Scalar) (t : Bool) → t ≡ couldBeEqual u ZERO → t ≡ false → Missing ≡ cond (couldBeEqual u ZERO) (Over ENTIRE) Missing
-range-misses u t T e = pick-no _ _ _ (sym T ∙ e)
 
 -- ---- what the turns keep
 

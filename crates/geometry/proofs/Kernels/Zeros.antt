@@ -1,7 +1,7 @@
 -- Laws of the abscissae and of the zeros by a fat line, over plain values: what the turns of their loops keep, and what each answer is. Assumes nothing.
 use mathlib.Core.Path.{_≡_, refl, sym, ap, _∙_, subst}
 use mathlib.Core.Bool.{Bool, true, false, cond}
-use mathlib.Core.List.{List, zipWith}
+use mathlib.Core.List.{List, map, zipWith}
 use mathlib.Core.Option.{none, some}
 use Prim.Native.Nat.{ℕ, zero, suc, _+_, _-_, _^_, _≤_, _<_}
 use native.Mathlib.Numerals.{add-one}
@@ -9,15 +9,15 @@ use native.Mathlib.Omega.{arith}
 use lib.Dec.{T, le→leb}
 use lib.ListN.{length, drop, getD, replicate, length-replicate}
 use lib.IntN.{pos}
-use lib.Ieee.{Float, nan, binary64, sub, fits, ofInt, inFloat}
+use lib.Ieee.{Float, nan, binary64, sub, le, fits, ofInt, inFloat}
 use lib.Ieee.Fits.{sub-fits}
 use Rattle.lists.specs.Lists.{put, tab, lastD, foldl}
-use Rattle.lists.proofs.Tab.{length-tab, tab-cons, getD-tab, zipWith-tab}
+use Rattle.lists.proofs.Tab.{length-tab, tab-cons, getD-tab, map-tab, zipWith-tab}
 use Rattle.lists.proofs.Fold.{foldl-turn, foldl-done, foldl-tab}
 use Rattle.math.specs.declared.scalars.Scalar.{Scalar}
 use Rattle.math.specs.declared.scalars.Divided.{Divided}
 use Rattle.math.specs.declared.scalars.Divided.the-variants.{Value, Failed}
-use Rattle.math.specs.Scalars.{Arithmetic, geop, sharp, absent, zeroF, ZERO, ENTIRE, couldBeEqual, unionS, addS, subS, mulS, divS, widened, valueOr}
+use Rattle.math.specs.Scalars.{Arithmetic, geop, sharp, absent, zeroF, ZERO, ENTIRE, couldBeEqual, unionS, addS, subS, mulS, divS, inverseS, hasZero, widened, valueOr}
 use Rattle.math.specs.Neighbours.{nextUp, nextDown}
 use Rattle.math.specs.Picks.{minF, maxF}
 use Rattle.math.proofs.Bools.{pick-yes, pick-no}
@@ -26,6 +26,7 @@ use Rattle.search.specs.Layout.{scalarAt, scalarsOf, flat}
 use Rattle.search.specs.Aabb.{unions}
 use Rattle.search.specs.FatLine.{window, abscissa, greville, offset, crossing, zerosBy, fatLineZeros}
 use Rattle.geometry.specs.Abscissae.{held}
+use Rattle.geometry.specs.Zeros.{runs, offRun}
 use Rattle.search.specs.declared.fat_line.Hat.{Hat}
 use Rattle.search.specs.declared.fat_line.Hat.the-variants.{Over, Missing}
 use Rattle.geometry.specs.declared.fat_line.Abscissae.{Abscissae}
@@ -50,18 +51,24 @@ pub in-float : (p : ℕ) → p ≤ 7 → T (inFloat binary64 (pos p))
 unfolding inFloat
 in-float p h = le→leb p (2 ^ 53) (omega arith)
 
-module _ (p : ℕ) (w : List Float) (s n r : Scalar) (q : Divided) (S : s ≡ summed ZERO w) (N : n ≡ sharp (ofInt binary64 (pos p))) (Q : q ≡ divS s n) where
-  -- what the division gave
-  quotient : divS (summed ZERO w) (sharp (ofInt binary64 (pos p))) ≡ q
-  quotient = sym (Q ∙ (λ i. divS (S i) (N i)))
+-- and from 1 on it is above zero
+clear-degree : (p : ℕ) → 1 ≤ p → p ≤ 7 → hasZero (sharp (ofInt binary64 (pos p))) ≡ false
+unfolding ofInt le
+clear-degree zero h g = absurd (omega arith)
+clear-degree (suc zero) h g = refl
+clear-degree (suc (suc zero)) h g = refl
+clear-degree (suc (suc (suc zero))) h g = refl
+clear-degree (suc (suc (suc (suc zero)))) h g = refl
+clear-degree (suc (suc (suc (suc (suc zero))))) h g = refl
+clear-degree (suc (suc (suc (suc (suc (suc zero)))))) h g = refl
+clear-degree (suc (suc (suc (suc (suc (suc (suc zero))))))) h g = refl
+clear-degree (suc (suc (suc (suc (suc (suc (suc (suc p)))))))) h g = absurd (omega arith)
 
-  pub mean-failed : q ≡ Failed → r ≡ ENTIRE → r ≡ abscissa geop p w
-  unfolding abscissa valueOr
-  mean-failed e f = f ∙ sym (ap (λ (d : Divided). valueOr d ENTIRE) (quotient ∙ e))
-
-  pub mean-value : q ≡ Value r → r ≡ abscissa geop p w
-  unfolding abscissa valueOr
-  mean-value e = sym (ap (λ (d : Divided). valueOr d ENTIRE) (quotient ∙ e))
+-- so the product with its reciprocal is the quotient by it
+pub mean-is : (p : ℕ) (w : List Float) (n i r : Scalar) → (p ≡ 0 → ⊥) → p ≤ 7 → n ≡ sharp (ofInt binary64 (pos p)) → i ≡ inverseS n → r ≡ mulS (summed ZERO w) i → r ≡ abscissa geop p w
+unfolding abscissa divS valueOr
+mean-is p w n i r h g N I R =
+    R ∙ ap (mulS (summed ZERO w)) (I ∙ ap inverseS N) ∙ sym (ap (λ (t : Bool). valueOr (cond t Failed (Value (mulS (summed ZERO w) (inverseS (sharp (ofInt binary64 (pos p))))))) ENTIRE) (clear-degree p (omega arith) g))
 
 -- ---- the abscissae in their array
 
@@ -142,63 +149,85 @@ unions-turn f (suc n) r s t h e g k =
     ∙ sym (ap (λ (l : List Scalar). unions l) (tab-cons (n + 1) f))
     ∙ ap (λ (j : ℕ). unions (tab j f)) (sym (add-one (n + 1)) ∙ m)
 
+-- ---- the ends of a list
+
+pub last-scalars : (n : ℕ) (l : List Float) → 0 < n → lastD (scalarsOf n l) absent ≡ scalarAt l (n - 1)
+last-scalars n l h = rw (length-tab n (λ j. scalarAt l j)) (getD-tab n (λ j. scalarAt l j) (n - 1) absent (omega arith))
+
+pub first-scalars : (n : ℕ) (l : List Float) → 0 < n → getD (scalarsOf n l) 0 absent ≡ scalarAt l 0
+first-scalars n l h = getD-tab n (λ j. scalarAt l j) 0 absent h
+
+-- ---- the runs
+
+-- How far abscissa j lies from the first.
+abbrev pub runAt : List Float → ℕ → Scalar
+runAt xi j = subS (scalarAt xi j) (scalarAt xi 0)
+
+runs-tab : (n : ℕ) (xi : List Float) → 0 < n → runs (scalarsOf n xi) ≡ tab n (runAt xi)
+unfolding runs
+runs-tab n xi h = ap (λ (x₀ : Scalar). map (λ x. subS x x₀) (scalarsOf n xi)) (first-scalars n xi h) ∙ map-tab (λ x. subS x (scalarAt xi 0)) n (λ j. scalarAt xi j)
+
+pub runs-done : (xi l dx : List Float) (n i : ℕ) → 0 < n → i ≡ n → dx ≡ put l 0 (flat (tab i (runAt xi))) → scalarsOf n dx ≡ runs (scalarsOf n xi)
+runs-done xi l dx n i h e D =
+    ap (scalarsOf n) (D ∙ ap (λ (m : ℕ). put l 0 (flat (tab m (runAt xi)))) e) ∙ scalars-put l (tab n (runAt xi)) n (length-tab n (runAt xi)) ∙ sym (runs-tab n xi h)
+
 -- ---- the band
 
 -- The offset of point i of the polygon.
-abbrev pub off : Scalar → Scalar → Scalar → List Float → List Float → ℕ → Scalar
-off slope x0 y0 xi d i = offset geop slope x0 y0 (scalarAt xi i) (scalarAt d i)
+abbrev pub off : Scalar → Scalar → List Float → List Float → ℕ → Scalar
+off slope y0 dx d i = offRun slope y0 (scalarAt dx i) (scalarAt d i)
 
 -- The offset, as the widened difference of a value y and the chord c at it.
-off-is : (slope x0 y0 : Scalar) (xi d : List Float) (i : ℕ) (x c y : Scalar) → x ≡ scalarAt xi i → c ≡ addS y0 (mulS slope (subS x x0)) → y ≡ scalarAt d i
-    → widened (sub binary64 (y .lo) (c .hi)) (sub binary64 (y .hi) (c .lo)) ≡ off slope x0 y0 xi d i
-off-is slope x0 y0 xi d i x c y X C Y = sym (sub-is y c) ∙ (λ j. subS (Y j) ((C ∙ ap (λ (v : Scalar). addS y0 (mulS slope (subS v x0))) X) j))
+off-is : (slope y0 : Scalar) (dx d : List Float) (i : ℕ) (x c y : Scalar) → x ≡ scalarAt dx i → c ≡ addS y0 (mulS slope x) → y ≡ scalarAt d i
+    → widened (sub binary64 (y .lo) (c .hi)) (sub binary64 (y .hi) (c .lo)) ≡ off slope y0 dx d i
+off-is slope y0 dx d i x c y X C Y = sym (sub-is y c) ∙ (λ j. subS (Y j) ((C ∙ ap (λ (v : Scalar). addS y0 (mulS slope v)) X) j))
   where
     sub-is : (y c : Scalar) → subS y c ≡ widened (sub binary64 (y .lo) (c .hi)) (sub binary64 (y .hi) (c .lo))
     sub-is y c = unfold subS in refl
 
 -- What the turns keep: the two bounds, once widened, are the union of the first i offsets.
-pub record Banded (slope x0 y0 : Scalar) (xi d : List Float) (i : ℕ) (lo hi : Float) : Type 0 where
-  pub is : widened lo hi ≡ unions (tab i (off slope x0 y0 xi d))
+pub record Banded (slope y0 : Scalar) (dx d : List Float) (i : ℕ) (lo hi : Float) : Type 0 where
+  pub is : widened lo hi ≡ unions (tab i (off slope y0 dx d))
   pub low : T (fits binary64 lo)
   pub high : T (fits binary64 hi)
 
-pub band-first : (slope x0 y0 : Scalar) (xi d : List Float) (x c y : Scalar) → x ≡ scalarAt xi 0 → c ≡ addS y0 (mulS slope (subS x x0)) → y ≡ scalarAt d 0
-    → Banded slope x0 y0 xi d 1 (sub binary64 (y .lo) (c .hi)) (sub binary64 (y .hi) (c .lo))
-band-first slope x0 y0 xi d x c y X C Y = record {
-  is = off-is slope x0 y0 xi d 0 x c y X C Y ∙ unions-first (off slope x0 y0 xi d);
+pub band-first : (slope y0 : Scalar) (dx d : List Float) (x c y : Scalar) → x ≡ scalarAt dx 0 → c ≡ addS y0 (mulS slope x) → y ≡ scalarAt d 0
+    → Banded slope y0 dx d 1 (sub binary64 (y .lo) (c .hi)) (sub binary64 (y .hi) (c .lo))
+band-first slope y0 dx d x c y X C Y = record {
+  is = off-is slope y0 dx d 0 x c y X C Y ∙ unions-first (off slope y0 dx d);
   low = sub-fits binary64 (y .lo) (c .hi);
   high = sub-fits binary64 (y .hi) (c .lo);
 }
 
-pub band-turn : (slope x0 y0 : Scalar) (xi d : List Float) (i : ℕ) (lo hi l h : Float) (x c y : Scalar) → 0 < i → Banded slope x0 y0 xi d i lo hi → x ≡ scalarAt xi i → c ≡ addS y0 (mulS slope (subS x x0)) → y ≡ scalarAt d i
-    → l ≡ minF lo (sub binary64 (y .lo) (c .hi)) → h ≡ maxF hi (sub binary64 (y .hi) (c .lo)) → Banded slope x0 y0 xi d (i + 1) l h
-band-turn slope x0 y0 xi d i lo hi l h x c y g B X C Y L H =
+pub band-turn : (slope y0 : Scalar) (dx d : List Float) (i : ℕ) (lo hi l h : Float) (x c y : Scalar) → 0 < i → Banded slope y0 dx d i lo hi → x ≡ scalarAt dx i → c ≡ addS y0 (mulS slope x) → y ≡ scalarAt d i
+    → l ≡ minF lo (sub binary64 (y .lo) (c .hi)) → h ≡ maxF hi (sub binary64 (y .hi) (c .lo)) → Banded slope y0 dx d (i + 1) l h
+band-turn slope y0 dx d i lo hi l h x c y g B X C Y L H =
     let a = sub binary64 (y .lo) (c .hi) in
     let b = sub binary64 (y .hi) (c .lo) in
     let A : T (fits binary64 a) = sub-fits binary64 (y .lo) (c .hi) in
     let E : T (fits binary64 b) = sub-fits binary64 (y .hi) (c .lo) in
     record {
-      is = unions-turn (off slope x0 y0 xi d) i (widened lo hi) (widened a b) (widened l h) g (B .is) (off-is slope x0 y0 xi d i x c y X C Y)
+      is = unions-turn (off slope y0 dx d) i (widened lo hi) (widened a b) (widened l h) g (B .is) (off-is slope y0 dx d i x c y X C Y)
           ((λ j. widened (L j) (H j)) ∙ sym (widened-union lo hi a b (B .low) (B .high) A E));
       low = subst (λ (z : Float). T (fits binary64 z)) (sym L) (min-either (λ z. T (fits binary64 z)) lo a (B .low) A);
       high = subst (λ (z : Float). T (fits binary64 z)) (sym H) (max-either (λ z. T (fits binary64 z)) hi b (B .high) E);
     }
 
-pub band-done : (slope x0 y0 : Scalar) (xi d : List Float) (n i : ℕ) (lo hi l h : Float) → i ≡ n → Banded slope x0 y0 xi d i lo hi → l ≡ nextDown lo → h ≡ nextUp hi
-    → record { lo = l; hi = h } ≡ unions (zipWith (λ x y. offset geop slope x0 y0 x y) (scalarsOf n xi) (scalarsOf n d))
-band-done slope x0 y0 xi d n i lo hi l h e B L H =
+pub band-done : (slope y0 : Scalar) (dx d : List Float) (n i : ℕ) (lo hi l h : Float) → i ≡ n → Banded slope y0 dx d i lo hi → l ≡ nextDown lo → h ≡ nextUp hi
+    → record { lo = l; hi = h } ≡ unions (zipWith (λ x y. offRun slope y0 x y) (scalarsOf n dx) (scalarsOf n d))
+band-done slope y0 dx d n i lo hi l h e B L H =
     (λ j. record { lo = L j; hi = H j })
     ∙ B .is
-    ∙ ap (λ (m : ℕ). unions (tab m (off slope x0 y0 xi d))) e
-    ∙ ap (λ (l : List Scalar). unions l) (sym (zipWith-tab (λ x y. offset geop slope x0 y0 x y) n (λ j. scalarAt xi j) (λ j. scalarAt d j)))
+    ∙ ap (λ (m : ℕ). unions (tab m (off slope y0 dx d))) e
+    ∙ ap (λ (l : List Scalar). unions l) (sym (zipWith-tab (λ x y. offRun slope y0 x y) n (λ j. scalarAt dx j) (λ j. scalarAt d j)))
 
 -- ---- the zeros
 
-pub level-yes : (u r : Scalar) (t : Bool) (ds : List Scalar) → u ≡ unions ds → t ≡ couldBeEqual u ZERO → r ≡ ENTIRE → t ≡ true → Over r ≡ cond (couldBeEqual (unions ds) ZERO) (Over ENTIRE) Missing
-level-yes u r t ds U T R e = ap (λ (v : Scalar). Over v) R ∙ pick-yes _ _ _ (sym (T ∙ ap (λ (v : Scalar). couldBeEqual v ZERO) U) ∙ e)
+pub level-yes : (u r : Scalar) (t : Bool) → t ≡ couldBeEqual u ZERO → r ≡ ENTIRE → t ≡ true → Over r ≡ cond (couldBeEqual u ZERO) (Over ENTIRE) Missing
+level-yes u r t T R e = ap (λ (v : Scalar). Over v) R ∙ pick-yes _ _ _ (sym T ∙ e)
 
-pub level-no : (u : Scalar) (t : Bool) (ds : List Scalar) → u ≡ unions ds → t ≡ couldBeEqual u ZERO → t ≡ false → Missing ≡ cond (couldBeEqual (unions ds) ZERO) (Over ENTIRE) Missing
-level-no u t ds U T e = pick-no _ _ _ (sym (T ∙ ap (λ (v : Scalar). couldBeEqual v ZERO) U) ∙ e)
+pub level-no : (u : Scalar) (t : Bool) → t ≡ couldBeEqual u ZERO → t ≡ false → Missing ≡ cond (couldBeEqual u ZERO) (Over ENTIRE) Missing
+level-no u t T e = pick-no _ _ _ (sym T ∙ e)
 
 -- the tests, with what they are made on
 module _ (slope x0 y0 last band u b : Scalar) (t : Bool) (U : u ≡ unionS y0 last) (B : b ≡ addS u band) (E : t ≡ couldBeEqual b ZERO) where
@@ -212,14 +241,8 @@ module _ (slope x0 y0 last band u b : Scalar) (t : Bool) (U : u ≡ unionS y0 la
   pub sloped-no : t ≡ false → Missing ≡ cond (couldBeEqual (addS (unionS y0 last) band) ZERO) (crossing geop x0 (divS (addS y0 band) slope)) Missing
   sloped-no e = pick-no _ _ _ (sym reaches ∙ e)
 
-pub last-scalars : (n : ℕ) (l : List Float) → 0 < n → lastD (scalarsOf n l) absent ≡ scalarAt l (n - 1)
-last-scalars n l h = rw (length-tab n (λ j. scalarAt l j)) (getD-tab n (λ j. scalarAt l j) (n - 1) absent (omega arith))
-
-pub first-scalars : (n : ℕ) (l : List Float) → 0 < n → getD (scalarsOf n l) 0 absent ≡ scalarAt l 0
-first-scalars n l h = getD-tab n (λ j. scalarAt l j) 0 absent h
-
-module _ (n : ℕ) (xi d : List Float) (x0 y0 xn yn run rise : Scalar) (q : Divided) (h : 0 < n) (X0 : x0 ≡ scalarAt xi 0) (Y0 : y0 ≡ scalarAt d 0) (XN : xn ≡ scalarAt xi (n - 1)) (YN : yn ≡ scalarAt d (n - 1))
-    (R : run ≡ subS xn x0) (S : rise ≡ subS yn y0) (Q : q ≡ divS rise run) where
+module _ (n : ℕ) (xi dx d : List Float) (x0 y0 run yn rise : Scalar) (q : Divided) (h : 0 < n) (D : scalarsOf n dx ≡ runs (scalarsOf n xi)) (X0 : x0 ≡ scalarAt xi 0) (Y0 : y0 ≡ scalarAt d 0)
+    (R : run ≡ scalarAt dx (n - 1)) (YN : yn ≡ scalarAt d (n - 1)) (S : rise ≡ subS yn y0) (Q : q ≡ divS rise run) where
   abbrev ξ : List Scalar
   ξ = scalarsOf n xi
 
@@ -235,27 +258,45 @@ module _ (n : ℕ) (xi d : List Float) (x0 y0 xn yn run rise : Scalar) (q : Divi
   first-ξ : getD ξ 0 absent ≡ x0
   first-ξ = first-scalars n xi h ∙ sym X0
 
-  last-ξ : lastD ξ absent ≡ xn
-  last-ξ = last-scalars n xi h ∙ sym XN
+  -- the runs, as they are lent
+  lent : tab n (runAt xi) ≡ scalarsOf n dx
+  lent = sym (D ∙ runs-tab n xi h)
+
+  run-is : subS (lastD ξ absent) (getD ξ 0 absent) ≡ run
+  run-is =
+      (λ i. subS (last-scalars n xi h i) (first-scalars n xi h i))
+      ∙ sym (getD-tab n (runAt xi) (n - 1) absent (omega arith))
+      ∙ ap (λ (l : List Scalar). getD l (n - 1) absent) lent
+      ∙ getD-tab n (λ j. scalarAt dx j) (n - 1) absent (omega arith)
+      ∙ sym R
 
   slope-is : divS (subS (lastD ds absent) (getD ds 0 absent)) (subS (lastD ξ absent) (getD ξ 0 absent)) ≡ q
-  slope-is = (λ i. divS (subS (last-d i) (first-d i)) (subS (last-ξ i) (first-ξ i))) ∙ sym (Q ∙ (λ i. divS (S i) (R i)))
+  slope-is = (λ i. divS (subS (last-d i) (first-d i)) (run-is i)) ∙ sym (Q ∙ ap (λ (v : Scalar). divS v run) S)
+
+  -- the offsets, over the runs
+  offsets-are : (slope : Scalar) → zipWith (λ x y. offRun slope y0 x y) (scalarsOf n dx) ds ≡ zipWith (λ x y. offset geop slope x0 y0 x y) ξ ds
+  offsets-are slope =
+      ap (λ (l : List Scalar). zipWith (λ x y. offRun slope y0 x y) l ds) (sym lent)
+      ∙ zipWith-tab (λ x y. offRun slope y0 x y) n (runAt xi) (λ j. scalarAt d j)
+      ∙ sym (zipWith-tab (λ x y. offset geop slope (scalarAt xi 0) y0 x y) n (λ j. scalarAt xi j) (λ j. scalarAt d j))
+      ∙ ap (λ (v : Scalar). zipWith (λ x y. offset geop slope v y0 x y) ξ ds) (sym X0)
 
   zeros-are : zerosBy geop ξ ds x0 y0 q ≡ fatLineZeros geop ξ ds
   unfolding fatLineZeros
   zeros-are = λ i. zerosBy geop ξ ds (sym first-ξ i) (sym first-d i) (sym slope-is i)
 
   -- no slope
-  pub zeros-level : (r : Hat) → q ≡ Failed → r ≡ cond (couldBeEqual (unions ds) ZERO) (Over ENTIRE) Missing → r ≡ fatLineZeros geop ξ ds
+  pub zeros-level : (u : Scalar) (r : Hat) → q ≡ Failed → u ≡ unions ds → r ≡ cond (couldBeEqual u ZERO) (Over ENTIRE) Missing → r ≡ fatLineZeros geop ξ ds
   unfolding zerosBy
-  zeros-level r e f = f ∙ sym (ap (zerosBy geop ξ ds x0 y0) e) ∙ zeros-are
+  zeros-level u r e U f = f ∙ ap (λ (v : Scalar). cond (couldBeEqual v ZERO) (Over ENTIRE) Missing) U ∙ sym (ap (zerosBy geop ξ ds x0 y0) e) ∙ zeros-are
 
   -- a slope
-  pub zeros-sloped : (slope band : Scalar) (r : Hat) → q ≡ Value slope → band ≡ unions (zipWith (λ x y. offset geop slope x0 y0 x y) ξ ds)
+  pub zeros-sloped : (slope band : Scalar) (r : Hat) → q ≡ Value slope → band ≡ unions (zipWith (λ x y. offRun slope y0 x y) (scalarsOf n dx) ds)
       → r ≡ cond (couldBeEqual (addS (unionS y0 yn) band) ZERO) (crossing geop x0 (divS (addS y0 band) slope)) Missing → r ≡ fatLineZeros geop ξ ds
   unfolding zerosBy
   zeros-sloped slope band r e B f =
+      let g = B ∙ ap unions (offsets-are slope) in
       f
-      ∙ (λ i. cond (couldBeEqual (addS (unionS y0 (sym last-d i)) (B i)) ZERO) (crossing geop x0 (divS (addS y0 (B i)) slope)) Missing)
+      ∙ (λ i. cond (couldBeEqual (addS (unionS y0 (sym last-d i)) (g i)) ZERO) (crossing geop x0 (divS (addS y0 (g i)) slope)) Missing)
       ∙ sym (ap (zerosBy geop ξ ds x0 y0) e)
       ∙ zeros-are

@@ -8,12 +8,6 @@ use borrow.Author.Needs.{needs}
 use Rattle.geometry.proofs.aabb.raw_place.Statement.{statement}
 use Rattle.geometry.proofs.aabb.raw_place.Tie as tie
 
-coordinate-requires : tie.Need-coordinate-requires
-coordinate-requires c κs = search needs
-
-coordinate-requires-2 : tie.Need-coordinate-requires-2
-coordinate-requires-2 c κs = search needs
-
 has-zero-requires : tie.Need-has-zero-requires
 has-zero-requires c κs = search needs
 
@@ -24,10 +18,10 @@ returns : tie.Need-returns
 unfolding rawPlace
 returns c =
     let z = c .before .before in
-    c .entire .ensures ∙ pick-yes _ _ _ (ap (λ (v : Scalar). hasZero v) (sym (z .before .coordinate2 .ensures)) ∙ sym (z .has-zero .ensures) ∙ c .before .if1 .taken)
+    c .entire .ensures ∙ pick-yes _ _ _ (ap (λ (v : Scalar). hasZero v) (sym (z .before .before .before .pre .1 .0)) ∙ sym (z .has-zero .ensures) ∙ c .before .if1 .taken)
 
-inverse-requires : tie.Need-inverse-requires
-inverse-requires c κs = search needs
+coordinate-requires : tie.Need-coordinate-requires
+coordinate-requires c κs = search needs
 
 corners-requires : tie.Need-corners-requires
 corners-requires c κs = search needs
@@ -36,20 +30,18 @@ returns-2 : tie.Need-returns-2
 unfolding rawPlace
 returns-2 c =
     let z = c .before .before .before in
-    let w = z .before in
+    let w = z .before .before .before .pre .1 in
     c .corners .ensures
-    ∙ (λ i. corners (w .before .coordinate .ensures i) ((c .before .inverse .ensures ∙ ap inverseS (w .coordinate2 .ensures)) i))
-    ∙ pick-no _ _ _ (ap (λ (v : Scalar). hasZero v) (sym (w .coordinate2 .ensures)) ∙ sym (z .has-zero .ensures) ∙ c .before .before .if1 .left)
+    ∙ (λ i. corners (c .before .coordinate .ensures i) ((w .1 ∙ ap inverseS (w .0)) i))
+    ∙ pick-no _ _ _ (ap (λ (v : Scalar). hasZero v) (sym (w .0)) ∙ sym (z .has-zero .ensures) ∙ c .before .before .if1 .left)
 
 pub raw-place-spec : {M : Type 1} → statement M
 raw-place-spec =
     tie.close
     (tie.spec
-    coordinate-requires
-    coordinate-requires-2
     has-zero-requires
     entire-requires
     returns
-    inverse-requires
+    coordinate-requires
     corners-requires
     returns-2)

@@ -7,10 +7,10 @@ use Rattle.geometry.proofs.fat_line.band.Statement.{statement}
 use Rattle.geometry.proofs.fat_line.band.Tie as tie
 
 abbrev Inv-loop : tie.InvT-loop
-Inv-loop xi d count slope x0 y0 lo₀ hi₀ i₀ lo hi i = (0 < i) × ((i ≤ count) × Banded slope x0 y0 xi d i lo hi)
+Inv-loop dx d count slope y0 lo₀ hi₀ i₀ lo hi i = (0 < i) × ((i ≤ count) × Banded slope y0 dx d i lo hi)
 
 abbrev μ-loop : tie.MeasureT-loop
-μ-loop xi d count slope x0 y0 lo₀ hi₀ i₀ lo hi i = count - i
+μ-loop dx d count slope y0 lo₀ hi₀ i₀ lo hi i = count - i
 
 scalar-at-requires : tie.Need-scalar-at-requires Inv-loop μ-loop
 scalar-at-requires c κs = search needs
@@ -25,7 +25,7 @@ loop-holds : tie.Need-loop-holds Inv-loop μ-loop
 loop-holds c =
     let k = c .before .before .before .before in
     let a = k .before .before .before .before .before .args in
-    (omega arith, (omega arith, band-first (a .slope) (a .x0) (a .y0) (a .xi .now) (a .d .now) _ _ _ (k .before .before .scalar-at .ensures) (k .before .chord .ensures) (k .scalar-at2 .ensures)))
+    (omega arith, (omega arith, band-first (a .slope) (a .y0) (a .dx .now) (a .d .now) _ _ _ (k .before .before .scalar-at .ensures) (k .before .chord .ensures) (k .scalar-at2 .ensures)))
 
 scalar-at-requires-3 : tie.Need-scalar-at-requires-3 Inv-loop μ-loop
 scalar-at-requires-3 c κs = search needs
@@ -57,7 +57,7 @@ loop-again c =
       omega arith,
       (
         omega arith,
-        band-turn (a .slope) (a .x0) (a .y0) (a .xi .now) (a .d .now) (l .loop .i) (l .loop .lo) (l .loop .hi) _ _ _ _ _ (l .loop .inv .0) (l .loop .inv .1 .1) (k .before .before .scalar-at3 .ensures) (k .before .chord2 .ensures) (k .scalar-at4 .ensures) (c .before .before .before .min .ensures) (c .max .ensures),
+        band-turn (a .slope) (a .y0) (a .dx .now) (a .d .now) (l .loop .i) (l .loop .lo) (l .loop .hi) _ _ _ _ _ (l .loop .inv .0) (l .loop .inv .1 .1) (k .before .before .scalar-at3 .ensures) (k .before .chord2 .ensures) (k .scalar-at4 .ensures) (c .before .before .before .min .ensures) (c .max .ensures),
       ),
     )
 
@@ -72,7 +72,7 @@ returns c =
     let l = c .before .before .before in
     let s = l .before .before .before .before .before .before .before .before .before .before in
     let a = s .args in
-    band-done (a .slope) (a .x0) (a .y0) (a .xi .now) (a .d .now) (a .count) (l .loop .i) (l .loop .lo) (l .loop .hi) _ _ (omega arith) (l .loop .inv .1 .1) (c .before .next-down .ensures) (c .next-up .ensures)
+    band-done (a .slope) (a .y0) (a .dx .now) (a .d .now) (a .count) (l .loop .i) (l .loop .lo) (l .loop .hi) _ _ (omega arith) (l .loop .inv .1 .1) (c .before .next-down .ensures) (c .next-up .ensures)
 
 pub band-spec : {M : Type 1} → statement M
 band-spec =

@@ -1,13 +1,10 @@
--- `chord` is what its three calls ensure, one after the other.
+-- `chord` is what its two calls ensure, one after the other.
 use mathlib.Core.Path.{ap, _∙_}
-use Rattle.math.specs.Scalars.{addS, mulS}
+use Rattle.math.specs.Scalars.{addS}
 use Rattle.math.specs.declared.scalars.Scalar.{Scalar}
 use borrow.Author.Needs.{needs}
 use Rattle.geometry.proofs.fat_line.chord.Statement.{statement}
 use Rattle.geometry.proofs.fat_line.chord.Tie as tie
-
-sub-requires : tie.Need-sub-requires
-sub-requires c κs = search needs
 
 mul-requires : tie.Need-mul-requires
 mul-requires c κs = search needs
@@ -17,8 +14,8 @@ add-requires c κs = search needs
 
 returns : tie.Need-returns
 returns c =
-    let a = c .before .before .before .args in
-    c .add .ensures ∙ ap (λ (v : Scalar). addS (a .y0) v) (c .before .mul .ensures ∙ ap (λ (v : Scalar). mulS (a .slope) v) (c .before .before .sub .ensures))
+    let a = c .before .before .args in
+    c .add .ensures ∙ ap (λ (v : Scalar). addS (a .y0) v) (c .before .mul .ensures)
 
 pub chord-spec : {M : Type 1} → statement M
-chord-spec = tie.close (tie.spec sub-requires mul-requires add-requires returns)
+chord-spec = tie.close (tie.spec mul-requires add-requires returns)

@@ -1,4 +1,4 @@
--- `greville_abscissae` equals its definition: each turn writes the mean of one more window behind the others.
+-- `greville_abscissae` equals its definition: each turn writes the mean of one more window behind the others, by the reciprocal of the degree, which a double holds.
 use mathlib.Core.Path.{_≡_, ap, _∙_}
 use mathlib.Core.List.{List}
 use Prim.Native.Nat.{_-_, _≤_}
@@ -9,28 +9,37 @@ use Rattle.math.specs.Scalars.{geop}
 use Rattle.search.specs.Layout.{flat}
 use Rattle.search.specs.FatLine.{window, abscissa}
 use Rattle.geometry.proofs.Kernels.Flat.{flat-none, flat-next}
-use Rattle.geometry.proofs.Kernels.Zeros.{held-none, held-some}
+use Rattle.geometry.proofs.Kernels.Zeros.{in-float, mean-is, held-none, held-some}
 use Rattle.geometry.proofs.fat_line.greville_abscissae.Statement.{statement}
 use Rattle.geometry.proofs.fat_line.greville_abscissae.Tie as tie
 
 abbrev Inv-loop : tie.InvT-loop
-Inv-loop knots degree count at₀ i₀ at i = (i ≤ count) × (at ≡ put at₀ 0 (flat (tab i (λ j. abscissa geop degree (window degree knots j)))))
+Inv-loop knots degree count at₀ reciprocal i₀ at i = (i ≤ count) × (at ≡ put at₀ 0 (flat (tab i (λ j. abscissa geop degree (window degree knots j)))))
 
 abbrev μ-loop : tie.MeasureT-loop
-μ-loop knots degree count at₀ i₀ at i = count - i
+μ-loop knots degree count at₀ reciprocal i₀ at i = count - i
 
 returns : tie.Need-returns Inv-loop μ-loop
 unfolding ofBits
 returns c = held-none (c .before .before .args .degree) _ _ (c .if1 .taken)
 
+int-to-float-from-f64 : tie.Need-int-to-float-from-f64 Inv-loop μ-loop
+int-to-float-from-f64 c = in-float _ (c .before .before .before .pre .0)
+
+from-f64-requires : tie.Need-from-f64-requires Inv-loop μ-loop
+from-f64-requires c κs = tt
+
+inverse-requires : tie.Need-inverse-requires Inv-loop μ-loop
+inverse-requires c κs = tt
+
 loop-holds : tie.Need-loop-holds Inv-loop μ-loop
-loop-holds c = let a = c .before .before .args in (omega arith, flat-none (λ j. abscissa geop (a .degree) (window (a .degree) (a .knots .now) j)) _)
+loop-holds c = let a = c .before .before .before .before .before .args in (omega arith, flat-none (λ j. abscissa geop (a .degree) (window (a .degree) (a .knots .now) j)) _)
 
 window-requires : tie.Need-window-requires Inv-loop μ-loop
 window-requires c κs = omega arith
 
 abscissa-requires : tie.Need-abscissa-requires Inv-loop μ-loop
-abscissa-requires c κs = omega arith
+abscissa-requires c κs = tt
 
 mul-at : tie.Need-mul-at Inv-loop μ-loop
 mul-at c = omega arith
@@ -62,18 +71,21 @@ loop-less c = omega arith
 loop-again : tie.Need-loop-again Inv-loop μ-loop
 loop-again c =
     let l = c .before .before .before in
-    let a = l .before .before .before .args in (
+    let n = l .before in
+    let d = n .before .before .before in
+    let a = d .before .before .args in (
       omega arith,
       flat-next (λ j. abscissa geop (a .degree) (window (a .degree) (a .knots .now) j)) _ (l .loop .at) (l .loop .i) (c .abscissa .result) (omega arith) (l .loop .inv .1)
-          (c .abscissa .ensures ∙ ap (λ (w : List Float). abscissa geop (a .degree) w) (c .before .window .ensures)),
+          (mean-is (a .degree) _ _ _ _ (d .if1 .left) (d .before .before .pre .0) (n .before .from-f64 .ensures) (n .inverse .ensures) (c .abscissa .ensures) ∙ ap (λ (w : List Float). abscissa geop (a .degree) w) (c .before .window .ensures)),
     )
 
 returns-2 : tie.Need-returns-2 Inv-loop μ-loop
 unfolding ofBits
 returns-2 c =
     let l = c .before in
-    let a = l .before .before .before .args in
-    held-some (a .degree) (a .count) (l .loop .i) (a .knots .now) (l .loop .at) (l .before .if1 .left) (omega arith) (l .loop .inv .1)
+    let d = l .before .before .before .before in
+    let a = d .before .before .args in
+    held-some (a .degree) (a .count) (l .loop .i) (a .knots .now) (l .loop .at) (d .if1 .left) (omega arith) (l .loop .inv .1)
 
 pub greville-abscissae-spec : {M : Type 1} → statement M
 greville-abscissae-spec =
@@ -82,6 +94,9 @@ greville-abscissae-spec =
     Inv-loop
     μ-loop
     returns
+    int-to-float-from-f64
+    from-f64-requires
+    inverse-requires
     loop-holds
     window-requires
     abscissa-requires

@@ -8,16 +8,28 @@ use Rattle.math.specs.Scalars.{geop, unionS}
 use Rattle.search.specs.Layout.{scalarsOf, pointsOf}
 use Rattle.search.specs.NurbCurve.{domain}
 use Rattle.search.specs.Contains.{clip}
+use Rattle.geometry.specs.Zeros.{runs}
 use Rattle.geometry.proofs.Kernels.Clip.{axis-kept, left, left-none, left-next, left-done}
 use borrow.Author.Needs.{needs}
 use Rattle.geometry.proofs.visits.clip.Statement.{statement}
 use Rattle.geometry.proofs.visits.clip.Tie as tie
 
 abbrev Inv-loop : tie.InvT-loop
-Inv-loop xi points point-box dim count start end d₀ hat₀ k₀ d hat k = (k ≤ dim) × ((length d ≡ 64) × (left dim (pointsOf (suc dim) count points) (scalarsOf count xi) point-box hat k ≡ clip geop dim (pointsOf (suc dim) count points) (scalarsOf count xi) (domain start end) 0 (scalarsOf dim point-box)))
+Inv-loop xi points point-box dim count start end dx d₀ hat₀ k₀ d hat k =
+    (k ≤ dim)
+    × (length d ≡ 64)
+    × (length dx ≡ 64)
+    × (scalarsOf count dx ≡ runs (scalarsOf count xi))
+    × (left dim (pointsOf (suc dim) count points) (scalarsOf count xi) point-box hat k ≡ clip geop dim (pointsOf (suc dim) count points) (scalarsOf count xi) (domain start end) 0 (scalarsOf dim point-box))
 
 abbrev μ-loop : tie.MeasureT-loop
-μ-loop xi points point-box dim count start end d₀ hat₀ k₀ d hat k = dim - k
+μ-loop xi points point-box dim count start end dx d₀ hat₀ k₀ d hat k = dim - k
+
+slice-aggregate-runs : tie.Need-slice-aggregate-runs Inv-loop μ-loop
+slice-aggregate-runs c = search needs
+
+runs-requires : tie.Need-runs-requires Inv-loop μ-loop
+runs-requires c κs = search needs
 
 from-f64-requires : tie.Need-from-f64-requires Inv-loop μ-loop
 from-f64-requires c κs = search needs
@@ -31,8 +43,10 @@ union-requires c κs = search needs
 loop-holds : tie.Need-loop-holds Inv-loop μ-loop
 unfolding domain
 loop-holds c =
-    let a = c .before .before .before .before .before .before .args in
-    (omega arith, (length-replicate 64 (ofBits binary64 0), ap (λ hat. left (a .dim) (pointsOf (suc (a .dim)) (a .count) (a .points .now)) (scalarsOf (a .count) (a .xi .now)) (a .point-box .now) hat 0) (c .union .ensures ∙ (λ i. unionS (c .before .before .from-f64 .ensures i) (c .before .from-f642 .ensures i)))))
+    let w = c .before .before .before .before in
+    let a = w .before .before .before .before .before .args in
+    let n = length-replicate 64 (ofBits binary64 0) in
+    (omega arith, n, w .runs .ensures .1 ∙ n, w .runs .ensures .0, ap (λ hat. left (a .dim) (pointsOf (suc (a .dim)) (a .count) (a .points .now)) (scalarsOf (a .count) (a .xi .now)) (a .point-box .now) hat 0) (c .union .ensures ∙ (λ i. unionS (c .before .before .from-f64 .ensures i) (c .before .from-f642 .ensures i))))
 
 scalar-at-requires : tie.Need-scalar-at-requires Inv-loop μ-loop
 scalar-at-requires c κs = search needs
@@ -40,8 +54,15 @@ scalar-at-requires c κs = search needs
 slice-aggregate-clip-axis : tie.Need-slice-aggregate-clip-axis Inv-loop μ-loop
 slice-aggregate-clip-axis c = search needs
 
+slice-aggregate-clip-axis-2 : tie.Need-slice-aggregate-clip-axis-2 Inv-loop μ-loop
+slice-aggregate-clip-axis-2 c = search needs
+
 clip-axis-requires : tie.Need-clip-axis-requires Inv-loop μ-loop
-clip-axis-requires c κs = search needs
+clip-axis-requires c κs =
+    let t = c .before .before .before in
+    let l = t .before in
+    let p = l .before .before .before .before .before .before .before .before .before .before .pre in
+    (((p .0 .0, p .1 .0), (t .loop-test .taken, (p .1 .1 .0, omega (arith, p .0 .1, l .loop .inv .1)))), (omega (arith, p .0 .1, l .loop .inv .2), l .loop .inv .3))
 
 enum-known-h : tie.Need-enum-known-h Inv-loop μ-loop
 enum-known-h c = search needs
@@ -52,12 +73,15 @@ enum-told c = search needs
 returns : tie.Need-returns Inv-loop μ-loop
 returns c =
     let k = c .before .before .before in
-    let l = k .before .before .before .before in
-    let a = l .before .before .before .before .before .before .before .args in
-    left-none (a .dim) (pointsOf (suc (a .dim)) (a .count) (a .points .now)) (scalarsOf (a .count) (a .xi .now)) (a .point-box .now) (l .loop .hat) (k .before .before .scalar-at .result) _ (l .loop .k) (omega arith) (k .before .before .scalar-at .ensures) (k .clip-axis .ensures .0) _ (c .enum-told .given .1) (l .loop .inv .1 .1)
+    let l = k .before .before .before .before .before in
+    let a = l .before .before .before .before .before .before .before .before .before .before .args in
+    left-none (a .dim) (pointsOf (suc (a .dim)) (a .count) (a .points .now)) (scalarsOf (a .count) (a .xi .now)) (a .point-box .now) (l .loop .hat) (k .before .before .before .scalar-at .result) _ (l .loop .k) (omega arith) (k .before .before .before .scalar-at .ensures) (k .clip-axis .ensures .0) _ (c .enum-told .given .1) (l .loop .inv .4)
 
 add-k : tie.Need-add-k Inv-loop μ-loop
-add-k c = search needs
+add-k c =
+    let t = c .before .before .before .before .before .before .before .before in
+    let s = t .before .before .before .before .before .before .before .before .before .before .before in
+    omega (arith, t .loop-test .taken)
 
 loop-less : tie.Need-loop-less Inv-loop μ-loop
 loop-less c = search needs
@@ -65,21 +89,21 @@ loop-less c = search needs
 loop-again : tie.Need-loop-again Inv-loop μ-loop
 loop-again c =
     let k = c .before .before .before .before in
-    let l = k .before .before .before .before in
-    let s = l .before .before .before .before .before .before .before in
+    let l = k .before .before .before .before .before in
+    let s = l .before .before .before .before .before .before .before .before .before .before in
     let a = s .args in (
-      omega (arith, k .before .before .before .loop-test .taken),
-      (
-        axis-kept (a .points .now) (l .loop .d) _ (a .dim) (a .count) (l .loop .k) 64 (k .before .before .scalar-at .result) (k .before .before .before .loop-test .taken) (omega (arith, s .pre .0 .1, l .loop .inv .1 .0)) (k .clip-axis .ensures .1) (l .loop .inv .1 .0),
-        left-next (a .dim) (pointsOf (suc (a .dim)) (a .count) (a .points .now)) (scalarsOf (a .count) (a .xi .now)) (a .point-box .now) (l .loop .hat) (k .before .before .scalar-at .result) _ (l .loop .k) (omega arith) (k .before .before .scalar-at .ensures) (k .clip-axis .ensures .0) _ _ (c .before .h .given .1) (l .loop .inv .1 .1),
-      ),
+      omega (arith, k .before .before .before .before .loop-test .taken),
+      axis-kept (a .points .now) (l .loop .d) _ (a .dim) (a .count) (l .loop .k) 64 (k .before .before .before .scalar-at .result) (k .before .before .before .before .loop-test .taken) (omega (arith, s .pre .0 .1, l .loop .inv .1)) (k .clip-axis .ensures .1) (l .loop .inv .1),
+      l .loop .inv .2,
+      l .loop .inv .3,
+      left-next (a .dim) (pointsOf (suc (a .dim)) (a .count) (a .points .now)) (scalarsOf (a .count) (a .xi .now)) (a .point-box .now) (l .loop .hat) (k .before .before .before .scalar-at .result) _ (l .loop .k) (omega arith) (k .before .before .before .scalar-at .ensures) (k .clip-axis .ensures .0) _ _ (c .before .h .given .1) (l .loop .inv .4),
     )
 
 returns-2 : tie.Need-returns-2 Inv-loop μ-loop
 returns-2 c =
     let l = c .before in
-    let a = l .before .before .before .before .before .before .before .args in
-    left-done (a .dim) (pointsOf (suc (a .dim)) (a .count) (a .points .now)) (scalarsOf (a .count) (a .xi .now)) (a .point-box .now) (l .loop .hat) (l .loop .k) _ (omega arith) (l .loop .inv .1 .1)
+    let a = l .before .before .before .before .before .before .before .before .before .before .args in
+    left-done (a .dim) (pointsOf (suc (a .dim)) (a .count) (a .points .now)) (scalarsOf (a .count) (a .xi .now)) (a .point-box .now) (l .loop .hat) (l .loop .k) _ (omega arith) (l .loop .inv .4)
 
 pub clip-spec : {M : Type 1} → statement M
 clip-spec =
@@ -87,12 +111,15 @@ clip-spec =
     (tie.spec
     Inv-loop
     μ-loop
+    slice-aggregate-runs
+    runs-requires
     from-f64-requires
     from-f64-requires-2
     union-requires
     loop-holds
     scalar-at-requires
     slice-aggregate-clip-axis
+    slice-aggregate-clip-axis-2
     clip-axis-requires
     enum-known-h
     enum-told

@@ -19,9 +19,9 @@ same-length c = search needs
 returns : tie.Need-returns
 returns c =
     let k = c .before .before .before .before .before in
-    let s = k .before .before .before .before .before in
+    let s = k .before .before .before .before .before .before in
     let a = s .args in
-    (axis-leaves (a .xi .now) (a .points .now) _ _ (a .dim) (a .count) (a .k) (a .e) (a .hat) _ _ (s .pre .1 .0) (k .axis .ensures) (c .before .fat-line-zeros .ensures) (c .narrowed .ensures), k .axis .ensures)
+    (axis-leaves (a .xi .now) (a .points .now) _ _ (a .dim) (a .count) (a .k) (a .e) (a .hat) _ _ (s .pre .0 .1 .0) (k .axis .ensures) (c .before .fat-line-zeros .ensures) (c .narrowed .ensures), k .axis .ensures)
 
 pub clip-axis-spec : {M : Type 1} → statement M
 clip-axis-spec =

@@ -11,14 +11,14 @@ enum-known-slope c = search needs
 enum-told : tie.Need-enum-told
 enum-told c = search needs
 
-level-requires : tie.Need-level-requires
-level-requires c κs = search needs
+level-zeros-requires : tie.Need-level-zeros-requires
+level-zeros-requires c κs = search needs
 
 returns : tie.Need-returns
 unfolding zerosOf
 returns c =
     let l = c .before .before .before .args .l in
-    c .level .ensures ∙ sym (ap (zerosOf (l .x0) (l .y0) (l .last) (l .band)) (c .before .enum-told .given .1))
+    c .level-zeros .ensures ∙ sym (ap (zerosOf (l .x0) (l .y0) (l .last) (l .band)) (c .before .enum-told .given .1))
 
 sloped-zeros-requires : tie.Need-sloped-zeros-requires
 sloped-zeros-requires c κs = search needs
@@ -32,4 +32,4 @@ returns-2 c =
 pub end-spec : {M : Type 1} → statement M
 end-spec =
     tie.close
-    (tie.spec enum-known-slope enum-told level-requires returns sloped-zeros-requires returns-2)
+    (tie.spec enum-known-slope enum-told level-zeros-requires returns sloped-zeros-requires returns-2)

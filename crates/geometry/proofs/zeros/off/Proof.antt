@@ -1,6 +1,6 @@
 -- `off` equals its definition, by the two cases of the slope.
 use mathlib.Core.Path.{sym, ap, _∙_}
-use Rattle.math.specs.Scalars.{subS}
+use Rattle.math.specs.Scalars.{addS, subS, mulS}
 use Rattle.math.specs.declared.scalars.Scalar.{Scalar}
 use Rattle.math.specs.declared.scalars.Divided.{Divided}
 use Rattle.geometry.specs.Zeros.{offBy}
@@ -20,20 +20,24 @@ returns c =
     let a = c .before .before .args in
     sym (ap (λ (q : Divided). offBy q (a .x0) (a .y0) (a .x) (a .y)) (c .enum-told .given .1))
 
+sub-requires : tie.Need-sub-requires
+sub-requires c κs = search needs
+
 chord-requires : tie.Need-chord-requires
 chord-requires c κs = search needs
 
-sub-requires : tie.Need-sub-requires
-sub-requires c κs = search needs
+sub-requires-2 : tie.Need-sub-requires-2
+sub-requires-2 c κs = search needs
 
 returns-2 : tie.Need-returns-2
 unfolding offBy
 returns-2 c =
-    let a = c .before .before .before .before .before .args in
-    c .sub .ensures
-    ∙ ap (λ (v : Scalar). subS (a .y) v) (c .before .chord .ensures)
-    ∙ sym (ap (λ (q : Divided). offBy q (a .x0) (a .y0) (a .x) (a .y)) (c .before .before .before .slope .given .1))
+    let g = c .before .before .before .before in
+    let a = g .before .before .args in
+    c .sub2 .ensures
+    ∙ ap (λ (v : Scalar). subS (a .y) v) (c .before .chord .ensures ∙ ap (λ (v : Scalar). addS (a .y0) (mulS (g .slope .given .0 .0) v)) (c .before .before .sub .ensures))
+    ∙ sym (ap (λ (q : Divided). offBy q (a .x0) (a .y0) (a .x) (a .y)) (g .slope .given .1))
 
 pub off-spec : {M : Type 1} → statement M
 off-spec =
-    tie.close (tie.spec enum-known-slope enum-told returns chord-requires sub-requires returns-2)
+    tie.close (tie.spec enum-known-slope enum-told returns sub-requires chord-requires sub-requires-2 returns-2)

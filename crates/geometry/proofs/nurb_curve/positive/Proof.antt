@@ -1,8 +1,8 @@
 -- `positive` equals its definition: the second test where the first passed, and else the first.
 use lib.Ieee.{ofBits}
 use Rattle.math.proofs.Bools.{and-yes, and-no}
-use Rattle.geometry.proofs.visits.positive.Statement.{statement}
-use Rattle.geometry.proofs.visits.positive.Tie as tie
+use Rattle.geometry.proofs.nurb_curve.positive.Statement.{statement}
+use Rattle.geometry.proofs.nurb_curve.positive.Tie as tie
 
 returns : tie.Need-returns
 unfolding ofBits
