@@ -17,9 +17,9 @@ ghost use mathlib.Core.Bool.{cond, _||_};
 ghost use mathlib.Core.List.{zipWith, map};
 ghost use Prim.Native.Nat.{_+_, _*_, _≤_, _<_, suc};
 ghost use lib.ListN.{length};
-ghost use Rattle.lists.specs.Lists.{foldl};
+ghost use Rattle.lists.specs.Lists.{foldl, put};
 ghost use Rattle.math.specs.Scalars.{geop, ZERO, ENTIRE, couldBeEqual, unionS, addS, mulS, divS, zeroF, sharp, middle, widthS, fourFifthsS};
-ghost use Rattle.search.specs.Layout.{scalarsOf, pointAt, pointsOf};
+ghost use Rattle.search.specs.Layout.{scalarsOf, pointAt, pointsOf, flat};
 ghost use Rattle.search.specs.Aabb.{unions};
 ghost use Rattle.search.specs.FatLine.{window, greville, crossing, fatLineZeros, cartesian, square, distance, extent, toF64, widest, carriedBy, carriedWidth, restricts, halves};
 ghost use Rattle.geometry.specs.Abscissae.{held};
@@ -108,7 +108,7 @@ pub(crate) fn unions(l: &[f64], count: usize) -> Scalar
 // How far each abscissa lies from the first, written to the front of dx.
 pub(crate) fn runs(xi: &[f64], count: usize, dx: &mut [f64])
     requires { ⌜ (0 < count) × ((2 * count ≤ length (now xi)) × (2 * count ≤ length (now dx))) ⌝ }
-    ensures { λ _. ⌜ (scalarsOf count (now (dx .exit)) ≡ runs (scalarsOf count (now (xi .entry)))) × (length (now (dx .exit)) ≡ length (now (dx .entry))) ⌝ }
+    ensures { λ _. ⌜ now (dx .exit) ≡ put (now (dx .entry)) 0 (flat (runs (scalarsOf count (now (xi .entry))))) ⌝ }
 {
     let x0 = scalar_at(xi, 0);
     let mut i = 0;

@@ -3,7 +3,7 @@ use mathlib.Core.Path.{_≡_, refl, sym, ap, _∙_, subst}
 use mathlib.Core.Bool.{Bool, true, false, cond}
 use mathlib.Core.List.{List, map, zipWith}
 use mathlib.Core.Option.{none, some}
-use Prim.Native.Nat.{ℕ, zero, suc, _+_, _-_, _^_, _≤_, _<_}
+use Prim.Native.Nat.{ℕ, zero, suc, _+_, _-_, _*_, _^_, _≤_, _<_}
 use native.Mathlib.Numerals.{add-one}
 use native.Mathlib.Omega.{arith}
 use lib.Dec.{T, le→leb}
@@ -167,9 +167,15 @@ runs-tab : (n : ℕ) (xi : List Float) → 0 < n → runs (scalarsOf n xi) ≡ t
 unfolding runs
 runs-tab n xi h = ap (λ (x₀ : Scalar). map (λ x. subS x x₀) (scalarsOf n xi)) (first-scalars n xi h) ∙ map-tab (λ x. subS x (scalarAt xi 0)) n (λ j. scalarAt xi j)
 
-pub runs-done : (xi l dx : List Float) (n i : ℕ) → 0 < n → i ≡ n → dx ≡ put l 0 (flat (tab i (runAt xi))) → scalarsOf n dx ≡ runs (scalarsOf n xi)
-runs-done xi l dx n i h e D =
-    ap (scalarsOf n) (D ∙ ap (λ (m : ℕ). put l 0 (flat (tab m (runAt xi)))) e) ∙ scalars-put l (tab n (runAt xi)) n (length-tab n (runAt xi)) ∙ sym (runs-tab n xi h)
+pub runs-done : (xi l dx : List Float) (n i : ℕ) → 0 < n → i ≡ n → dx ≡ put l 0 (flat (tab i (runAt xi))) → dx ≡ put l 0 (flat (runs (scalarsOf n xi)))
+runs-done xi l dx n i h e D = D ∙ ap (λ (m : ℕ). put l 0 (flat (tab m (runAt xi)))) e ∙ ap (λ (v : List Scalar). put l 0 (flat v)) (sym (runs-tab n xi h))
+
+-- What stands in the list that they were written to, which keeps its length.
+pub runs-held : (xi l dx : List Float) (n : ℕ) → 0 < n → dx ≡ put l 0 (flat (runs (scalarsOf n xi))) → scalarsOf n dx ≡ runs (scalarsOf n xi)
+runs-held xi l dx n h D = ap (scalarsOf n) D ∙ scalars-put l (runs (scalarsOf n xi)) n (ap length (runs-tab n xi h) ∙ length-tab n (runAt xi))
+
+pub runs-kept : (xi l dx : List Float) (n : ℕ) → 0 < n → 2 * n ≤ length l → dx ≡ put l 0 (flat (runs (scalarsOf n xi))) → length dx ≡ length l
+runs-kept xi l dx n h g D = ap length (D ∙ ap (λ (v : List Scalar). put l 0 (flat v)) (runs-tab n xi h)) ∙ length-put-flat l n (runAt xi) g
 
 -- ---- the band
 

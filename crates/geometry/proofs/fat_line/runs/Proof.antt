@@ -77,7 +77,7 @@ returns c =
     let l = c .before in
     let s = l .before .before .before .before in
     let a = s .args in
-    (runs-done (a .xi .now) (a .dx .now) (l .loop .dx) (a .count) (l .loop .i) (s .pre .0) (omega arith) (l .loop .inv .1 .1), l .loop .inv .1 .0)
+    runs-done (a .xi .now) (a .dx .now) (l .loop .dx) (a .count) (l .loop .i) (s .pre .0) (omega arith) (l .loop .inv .1 .1)
 
 pub runs-spec : {M : Type 1} → statement M
 runs-spec =

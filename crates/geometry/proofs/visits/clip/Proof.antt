@@ -9,6 +9,7 @@ use Rattle.search.specs.Layout.{scalarsOf, pointsOf}
 use Rattle.search.specs.NurbCurve.{domain}
 use Rattle.search.specs.Contains.{clip}
 use Rattle.geometry.specs.Zeros.{runs}
+use Rattle.geometry.proofs.Kernels.Zeros.{runs-held, runs-kept}
 use Rattle.geometry.proofs.Kernels.Clip.{axis-kept, left, left-none, left-next, left-done}
 use borrow.Author.Needs.{needs}
 use Rattle.geometry.proofs.visits.clip.Statement.{statement}
@@ -46,7 +47,10 @@ loop-holds c =
     let w = c .before .before .before .before in
     let a = w .before .before .before .before .before .args in
     let n = length-replicate 64 (ofBits binary64 0) in
-    (omega arith, n, w .runs .ensures .1 ∙ n, w .runs .ensures .0, ap (λ hat. left (a .dim) (pointsOf (suc (a .dim)) (a .count) (a .points .now)) (scalarsOf (a .count) (a .xi .now)) (a .point-box .now) hat 0) (c .union .ensures ∙ (λ i. unionS (c .before .before .from-f64 .ensures i) (c .before .from-f642 .ensures i))))
+    let p = w .before .before .before .before .before .pre in
+    let kept = runs-kept (a .xi .now) _ _ (a .count) (p .0 .0) (omega (arith, n, p .0 .1)) (w .runs .ensures) in
+    let held = runs-held (a .xi .now) _ _ (a .count) (p .0 .0) (w .runs .ensures) in
+    (omega arith, n, kept ∙ n, held, ap (λ hat. left (a .dim) (pointsOf (suc (a .dim)) (a .count) (a .points .now)) (scalarsOf (a .count) (a .xi .now)) (a .point-box .now) hat 0) (c .union .ensures ∙ (λ i. unionS (c .before .before .from-f64 .ensures i) (c .before .from-f642 .ensures i))))
 
 scalar-at-requires : tie.Need-scalar-at-requires Inv-loop μ-loop
 scalar-at-requires c κs = search needs
