@@ -50,7 +50,7 @@ fn abscissa(w: &[f64], reciprocal: Scalar) -> Scalar
         sum = sum.add(Scalar::from_f64(w[j]));
         j += 1;
     }
-    sum.mul(reciprocal)
+    sum.times(reciprocal)
 }
 
 // Whether there are abscissae: degree 0 has none.
@@ -124,7 +124,7 @@ pub(crate) fn runs(xi: &[f64], count: usize, dx: &mut [f64])
 pub(crate) fn chord(slope: Scalar, y0: Scalar, x: Scalar) -> Scalar
     ensures { λ r. ⌜ r ≡ addS y0 (mulS slope x) ⌝ }
 {
-    y0.add(slope.mul(x))
+    y0.add(slope.times(x))
 }
 
 // The union of the offsets of all points, the first too, where one step outward at the end serves all, since the neighbours of doubles keep their order.

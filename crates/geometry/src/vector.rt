@@ -38,11 +38,12 @@ pub(crate) fn interpolate(words: &mut [f64], a: usize, b: usize, c: usize, d: us
     requires { ⌜ ((a + 2 * d ≤ c) ⊎ (c ≤ a)) × ((b + 2 * d ≤ c) ⊎ (c ≤ b)) ⌝ }
     ensures { λ _. ⌜ now (words .exit) ≡ put (now (words .entry)) c (flat (interpolateV geop (vectorAt d (now (words .entry)) a) (vectorAt d (now (words .entry)) b) alpha)) ⌝ }
 {
+    let f = Scalar::fraction(alpha);
     let mut k = 0;
     while k < d {
         let x = scalar_from(words, a + 2 * k);
         let y = scalar_from(words, b + 2 * k);
-        let z = Scalar::interpolate(x, y, alpha);
+        let z = Scalar::between(x, y, f);
         set_scalar(words, c + 2 * k, z);
         k += 1;
     }

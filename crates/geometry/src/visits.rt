@@ -61,7 +61,7 @@ fn times_weight(e: Scalar, w: Scalar, last: Weighed) -> Weighed
     }
     Weighed {
         weight: w,
-        product: e.mul(w),
+        product: e.times(w),
     }
 }
 
@@ -73,7 +73,7 @@ fn axis(points: &[f64], dim: usize, count: usize, k: usize, e: Scalar, d: &mut [
     let w = coordinate(points, dim, 0, dim);
     let mut last = Weighed {
         weight: w,
-        product: e.mul(w),
+        product: e.times(w),
     };
     let mut i = 0;
     while i < count {

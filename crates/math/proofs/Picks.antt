@@ -1,4 +1,4 @@
--- What the picks of `lesser`, `greater`, `below`, `above`, `mul`, `intersect` and `interpolate` give, over plain values. Assumes nothing.
+-- What the picks of `lesser`, `greater`, `below`, `above`, `mul`, `intersect` and `between` give, over plain values. Assumes nothing.
 use mathlib.Core.Path.{_≡_, refl, sym, ap, _∙_}
 use mathlib.Core.Bool.{Bool, true, false, false≢true}
 use lib.Ieee.{Float, nan, inf, fin, binary64, isNan, lt, le, sub}
@@ -70,7 +70,7 @@ module _ (x y : Scalar) (l h : Float) (L : l ≡ maxF (x .lo) (y .lo)) (H : h �
 pub sums-meet : (a m p q x y r : Scalar) → x ≡ addS a m → y ≡ addS p q → r ≡ intersectS x y → r ≡ intersectS (addS a m) (addS p q)
 sums-meet a m p q x y r X Y R = R ∙ (λ i. intersectS (X i) (Y i))
 
--- ---- the two answers of `interpolate`: its first operand, or its calls one after the other
+-- ---- the two answers of `between`: its first operand, or its calls one after the other
 pub kept : (a b t : Scalar) → isSteady a b t ≡ true → a ≡ interpolateS geop a b t
 unfolding interpolateS
 kept a b t e = pick-yes (isSteady a b t) a (intersectS (viaDelta geop a b t) (viaWeights geop a b t)) e

@@ -1,17 +1,22 @@
--- What `interpolate` tests before it takes the short way: factors that keep the order of what they multiply. No public function's promise names these tests. Definitions only.
-use mathlib.Core.Bool.{Bool, _&&_}
-use lib.Ieee.{lt, le}
-use Rattle.math.specs.Scalars.{zeroF, twoF}
+-- What `times` and `between` test before they take the short way: factors that keep the order of what they multiply. No public function's promise names these tests. Definitions only.
+use mathlib.Core.Bool.{Bool, false, _&&_}
+use lib.Ieee.{inf, lt, le}
+use Rattle.math.specs.Scalars.{zeroF, ONE, subS}
 use Rattle.math.specs.declared.scalars.Scalar.{Scalar}
+use Rattle.math.specs.declared.scalars.Fraction.{Fraction}
 
--- the bounds of t are in order and lie above zero, up to 2
+-- the bounds of t are in order, above zero and finite
 abbrev pub isFactor : Scalar → Bool
-isFactor t = lt zeroF (t .lo) && le (t .lo) (t .hi) && le (t .hi) twoF
+isFactor t = lt zeroF (t .lo) && le (t .lo) (t .hi) && lt (t .hi) (inf false)
 
 -- the bounds of x are in order, and no NaN
 abbrev pub inOrder : Scalar → Bool
 inOrder x = le (x .lo) (x .hi)
 
--- t and u are factors, and a, b and d can be multiplied by them
-abbrev pub isTame : Scalar → Scalar → Scalar → Scalar → Scalar → Bool
-isTame a b d t u = isFactor t && isFactor u && inOrder a && inOrder b && inOrder d
+-- the fraction alpha, with 1 - alpha, and whether both are factors
+unfoldable pub fractionOf : Scalar → Fraction
+fractionOf alpha = let beta = subS ONE alpha in record { alpha = alpha; beta = beta; gentle = isFactor alpha && isFactor beta }
+
+-- a fraction is gentle, and a, b and d are in order
+abbrev pub isTame : Bool → Scalar → Scalar → Scalar → Bool
+isTame gentle a b d = gentle && inOrder a && inOrder b && inOrder d

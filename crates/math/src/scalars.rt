@@ -6,28 +6,62 @@ ghost use lib.Ieee.{isNan};
 ghost use Rattle.math.specs.Neighbours.{nextUp, nextDown};
 ghost use Rattle.math.specs.Picks.{minF, maxF};
 ghost use Rattle.math.specs.Scalars.{geop, ENTIRE, sharp, middle, widthS, fromRatio, addS, subS, mulS, divS, inverseS, hasZero, couldBeEqual, couldBeGreater, definitelyGreater, couldBeLess, definitelyLess, isSharp, isSubsetOf, isExactly, inUnit, isSteady, unionS, intersectS, interpolateS};
-ghost use Rattle.math.specs.Factors.{isFactor, inOrder, isTame};
+ghost use Rattle.math.specs.Factors.{isFactor, inOrder, fractionOf, isTame};
 
-// The neighbouring f64 above: 2^-1074 from either zero. NaN and the positive infinity stay.
-// x + 0.0 is x, but for a zero, which becomes the positive one: then one step of the bits serves every x.
-pub fn next_up(x: f64) -> f64
+// The neighbouring f64 above a number: 2^-1074 from either zero; the positive infinity stays. The bits go one up from zero on, and one down below it.
+fn up(x: f64) -> f64
+    requires { ⌜ isNan x ≡ false ⌝ }
     ensures { λ r. ⌜ r ≡ nextUp x ⌝ }
 {
-    if x < f64::from_bits(0x7ff0_0000_0000_0000) {
-        let b = f64::to_bits(x + 0.0);
-        if b < 0x8000_0000_0000_0000 {
-            return f64::from_bits(b + 1);
-        }
+    let b = f64::to_bits(x);
+    if b < 0x7ff0_0000_0000_0000 {
+        return f64::from_bits(b + 1);
+    }
+    if b > 0x8000_0000_0000_0000 {
         return f64::from_bits(b - 1);
+    }
+    if b == 0x8000_0000_0000_0000 {
+        return f64::from_bits(1);
     }
     x
 }
 
-// The neighbouring f64 below.
+// The neighbouring f64 below a number, in the same way.
+fn down(x: f64) -> f64
+    requires { ⌜ isNan x ≡ false ⌝ }
+    ensures { λ r. ⌜ r ≡ nextDown x ⌝ }
+{
+    let b = f64::to_bits(x);
+    if b == 0 {
+        return f64::from_bits(0x8000_0000_0000_0001);
+    }
+    if b < 0x8000_0000_0000_0000 {
+        return f64::from_bits(b - 1);
+    }
+    if b < 0xfff0_0000_0000_0000 {
+        return f64::from_bits(b + 1);
+    }
+    x
+}
+
+// The neighbouring f64 above. A NaN stays, and so does the positive infinity.
+pub fn next_up(x: f64) -> f64
+    ensures { λ r. ⌜ r ≡ nextUp x ⌝ }
+{
+    if x != x {
+        return x;
+    }
+    up(x)
+}
+
+// The neighbouring f64 below. A NaN stays, and so does the negative infinity.
 pub fn next_down(x: f64) -> f64
     ensures { λ r. ⌜ r ≡ nextDown x ⌝ }
 {
-    -next_up(-x)
+    if x != x {
+        return x;
+    }
+    down(x)
 }
 
 pub fn is_nan(x: f64) -> bool
@@ -90,6 +124,16 @@ fn above(a: f64, b: f64) -> f64
 pub struct Scalar {
     pub lo: f64,
     pub hi: f64,
+}
+
+// A fraction of a way, with what `between` needs of it.
+pub struct Fraction {
+    // The fraction itself.
+    pub alpha: Scalar,
+    // 1 - alpha.
+    pub beta: Scalar,
+    // Products by alpha and beta keep the order of what they multiply.
+    pub gentle: bool,
 }
 
 // What a division gives: an interval, or nothing, where the divisor holds zero.
@@ -170,8 +214,8 @@ impl Scalar {
         let lo = lesser(lesser(lesser(lesser(inf, a), b), c), d);
         let hi = greater(greater(greater(greater(-inf, a), b), c), d);
         Scalar {
-            lo: next_down(lo),
-            hi: next_up(hi),
+            lo: down(lo),
+            hi: up(hi),
         }
     }
 
@@ -317,11 +361,11 @@ impl Scalar {
         a.is_exactly(b) && alpha.in_unit()
     }
 
-    // Its bounds are in order and lie above zero, up to 2: a product with it keeps the order of the other bounds.
+    // Its bounds are in order, above zero and finite: a product with it keeps the order of the other bounds.
     fn is_factor(self) -> bool
         ensures { λ r. ⌜ r ≡ isFactor self ⌝ }
     {
-        self.lo > 0.0 && self.lo <= self.hi && self.hi <= 2.0
+        self.lo > 0.0 && self.lo <= self.hi && self.hi < f64::from_bits(0x7ff0_0000_0000_0000)
     }
 
     // Its bounds are in order, and no NaN.
@@ -337,45 +381,85 @@ impl Scalar {
         ensures { λ r. ⌜ r ≡ mulS self other ⌝ }
     {
         Scalar {
-            lo: next_down(lesser(self.lo * other.lo, self.hi * other.lo)),
-            hi: next_up(greater(self.lo * other.hi, self.hi * other.hi)),
+            lo: down(lesser(self.lo * other.lo, self.hi * other.lo)),
+            hi: up(greater(self.lo * other.hi, self.hi * other.hi)),
         }
     }
 
-    // What a + m and p + q have in common: where they meet, each bound is widened once, after the pick.
+    // `mul`, which is shorter where the other operand is a factor: for operands that mostly are.
+    pub fn times(self, other: Scalar) -> Scalar
+        ensures { λ r. ⌜ r ≡ mulS self other ⌝ }
+    {
+        if other.is_factor() && self.in_order() {
+            return other.scale(self);
+        }
+        self.mul(other)
+    }
+
+    // What a + m and p + q have in common: where the sums meet before they are widened, each bound is widened once, after the pick.
     fn common(a: Scalar, m: Scalar, p: Scalar, q: Scalar) -> Scalar
         ensures { λ r. ⌜ r ≡ intersectS (addS a m) (addS p q) ⌝ }
     {
-        let lo = next_down(above(a.lo + m.lo, p.lo + q.lo));
-        let hi = next_up(below(a.hi + m.hi, p.hi + q.hi));
+        let lo = above(a.lo + m.lo, p.lo + q.lo);
+        let hi = below(a.hi + m.hi, p.hi + q.hi);
         if lo <= hi {
-            return Scalar { lo, hi };
+            return Scalar {
+                lo: down(lo),
+                hi: up(hi),
+            };
         }
         a.add(m).intersect(p.add(q))
     }
 
-    // The three products of `interpolate` are products by factors: delta is b - a, and beta is 1 - alpha.
-    fn tame(a: Scalar, b: Scalar, delta: Scalar, alpha: Scalar, beta: Scalar) -> bool
-        ensures { λ r. ⌜ r ≡ isTame a b delta alpha beta ⌝ }
+    // The fraction alpha, with what `between` needs of it.
+    pub fn fraction(alpha: Scalar) -> Fraction
+        ensures { λ r. ⌜ r ≡ fractionOf alpha ⌝ }
     {
-        alpha.is_factor() && beta.is_factor() && a.in_order() && b.in_order() && delta.in_order()
+        let beta = Scalar::ONE.sub(alpha);
+        let gentle = alpha.is_factor() && beta.is_factor();
+        Fraction {
+            alpha,
+            beta,
+            gentle,
+        }
     }
 
-    // The point a fraction alpha of the way from a to b: a where both are the same and alpha lies in 0 to 1, else what
-    // a + alpha (b - a) and (1 - alpha) a + alpha b have in common. Where `tame` says so it goes the short way.
-    pub fn interpolate(a: Scalar, b: Scalar, alpha: Scalar) -> Scalar
-        ensures { λ r. ⌜ r ≡ interpolateS geop a b alpha ⌝ }
+    // The fraction is gentle, and what `between` multiplies by it is in order: diff is b - a before it is widened.
+    fn tame(gentle: bool, a: Scalar, b: Scalar, diff: Scalar) -> bool
+        ensures { λ r. ⌜ r ≡ isTame gentle a b diff ⌝ }
     {
+        gentle && a.in_order() && b.in_order() && diff.in_order()
+    }
+
+    // `interpolate`, for a caller that has the fraction at hand. Where `tame` says so it goes the short way, with products by factors.
+    pub fn between(a: Scalar, b: Scalar, f: Fraction) -> Scalar
+        requires { ⌜ f ≡ fractionOf (f .alpha) ⌝ }
+        ensures { λ r. ⌜ r ≡ interpolateS geop a b (f .alpha) ⌝ }
+    {
+        let alpha = f.alpha;
+        let beta = f.beta;
         if Scalar::steady(a, b, alpha) {
             return a;
         }
-        let beta = Scalar::ONE.sub(alpha);
-        let delta = b.sub(a);
-        if Scalar::tame(a, b, delta, alpha, beta) {
+        let lo = b.lo - a.hi;
+        let hi = b.hi - a.lo;
+        if Scalar::tame(f.gentle, a, b, Scalar { lo, hi }) {
+            let delta = Scalar {
+                lo: down(lo),
+                hi: up(hi),
+            };
             return Scalar::common(a, alpha.scale(delta), beta.scale(a), alpha.scale(b));
         }
-        let via_delta = a.add(alpha.mul(delta));
+        let via_delta = a.add(alpha.mul(b.sub(a)));
         let via_weights = beta.mul(a).add(alpha.mul(b));
         via_delta.intersect(via_weights)
+    }
+
+    // The point a fraction alpha of the way from a to b: a where both are the same and alpha lies in 0 to 1, else what
+    // a + alpha (b - a) and (1 - alpha) a + alpha b have in common.
+    pub fn interpolate(a: Scalar, b: Scalar, alpha: Scalar) -> Scalar
+        ensures { λ r. ⌜ r ≡ interpolateS geop a b alpha ⌝ }
+    {
+        Scalar::between(a, b, Scalar::fraction(alpha))
     }
 }

@@ -23,7 +23,7 @@ unfolding maxF
 max-either P a b h k = pick P (isNan a) b (cond (lt a b) b a) (λ _. k) (λ _. pick P (lt a b) b a (λ _. k) (λ _. h))
 
 -- the mirror image
-isNan-neg : (x : Float) → isNan (neg x) ≡ isNan x
+pub isNan-neg : (x : Float) → isNan (neg x) ≡ isNan x
 unfolding isNan neg
 isNan-neg nan = refl
 isNan-neg (inf s) = refl
@@ -91,6 +91,9 @@ module _ (a b c d : Float) where
 
   n3 : T (number (minF (minF (minF (inf false) a) b) c))
   n3 = min-number (minF (minF (inf false) a) b) c n2
+
+  pub least-number : T (number (least4 a b c d))
+  least-number = min-number (minF (minF (minF (inf false) a) b) c) d n3
 
   pub least-fits : T (fits binary64 a) → T (fits binary64 b) → T (fits binary64 c) → T (fits binary64 d) → T (fits binary64 (least4 a b c d))
   least-fits A B C D = fits-min _ d (fits-min _ c (fits-min _ b (fits-min (inf false) a (inf-fits binary64 false) A) B) C) D

@@ -1,81 +1,55 @@
--- The steps of `next_up` on the pattern of x + 0.0. Assumes nothing.
+-- The neighbour above a number, by where its pattern lies: below the infinity's it goes one up, above the negative zero's one down. And the neighbour below, which is
+-- the mirror image. Assumes nothing.
 use mathlib.Core.Path.{_≡_, refl, sym, ap, _∙_, subst}
-use mathlib.Core.Logic.{_⊎_, inl, inr}
 use Prim.Native.Nat.{ℕ, zero, suc, _+_, _-_, _*_, _≤_, _<_}
-use native.Mathlib.Nat.{mul-pos, zero-lt-suc}
 use native.Mathlib.Omega.{arith}
-use mathlib.Core.Bool.{Bool, true, false, not}
+use mathlib.Core.Bool.{Bool, true, false, not, false≢true, true≢false}
 use lib.IntN.{ℤ, pos}
-use lib.Dec.{T, lit≤, leb·suc-zero, leb·suc-suc, leb·zero}
-use lib.Ieee.{Float, nan, inf, fin, binary64, up, down, isNan, lt, add, sum, round, fits, toBits, ofBits, nanBits}
-use lib.Ieee.Fits.{up-pos}
-use Rattle.math.specs.Neighbours.{nextUp}
-use Rattle.math.proofs.Doubles.Patterns.{written}
-use Rattle.math.proofs.Doubles.Held.{unique, round-own}
-use Rattle.math.proofs.Bools.{yes, no}
-use Rattle.math.proofs.Doubles.Tests.{inf-bits, zero-bits, Positive, Negative, add-owed, add-no-nan, at-positive, sub-no-nan, at-negative}
+use lib.Dec.{T, lit≤}
+use lib.Ieee.{Float, nan, inf, fin, binary64, up, down, isNan, neg, fits, toBits, ofBits, nanBits}
+use lib.Ieee.Fits.{neg-fits}
+use lib.Ieee.Bits.{nanBits-is}
+use Rattle.math.specs.Neighbours.{nextUp, nextDown}
+use Rattle.math.proofs.Doubles.Patterns.{signed, written}
+use Rattle.math.proofs.Doubles.Next.{bits-pos, below-zero, unsign}
+use Rattle.math.proofs.Doubles.Held.{unique}
+use Rattle.math.proofs.Doubles.Mirror.{neg-neg}
+use Rattle.math.proofs.Doubles.Least.{isNan-neg}
+use Rattle.math.proofs.Doubles.Tests.{no-nanBits, pattern-ok}
 
--- ---- below the infinity: a zero, above zero, or below it
-abbrev pub Nil : Float → Type 0
-Nil x = (s : Bool) × (e : ℤ) × (x ≡ fin s zero e)
+-- a NaN has itself beside it
+pub nan-stays : (x : Float) → isNan x ≡ true → (x ≡ nextUp x) × (x ≡ nextDown x)
+unfolding isNan nextUp nextDown neg
+nan-stays nan e = (refl, refl)
+nan-stays (inf s) e = absurd (false≢true e)
+nan-stays (fin s m k) e = absurd (false≢true e)
 
-abbrev pub Kind : Float → Type 0
-Kind x = Nil x ⊎ (Positive x ⊎ Negative x)
+-- ---- the neighbour above x by x's pattern b
+pub record Steps (x : Float) (b : ℕ) : Type 0 where
+  pub one-up : b < 0x7ff0_0000_0000_0000 → ofBits binary64 (b + 1) ≡ nextUp x
+  pub one-down : 0x8000_0000_0000_0000 < b → T (not (nanBits binary64 (b - 1))) × (ofBits binary64 (b - 1) ≡ nextUp x)
+  pub from-zero : b ≡ 0x8000_0000_0000_0000 → ofBits binary64 1 ≡ nextUp x
+  pub stays : 0x7ff0_0000_0000_0000 ≤ b → b < 0x8000_0000_0000_0000 → x ≡ nextUp x
 
-kinds : (x : Float) → T (lt x (inf false)) → Kind x
-unfolding lt
-kinds nan t = absurd t
-kinds (inf true) t = inr (inr (inl refl))
-kinds (inf false) t = absurd t
-kinds (fin s zero e) t = inl (s, e, refl)
-kinds (fin false (suc m) e) t = inr (inl (m, e, refl))
-kinds (fin true (suc m) e) t = inr (inr (inr (m, e, refl)))
+-- each place of the pattern leaves one of them
+module _ (x : Float) (b : ℕ) where
+  low : b < 0x7ff0_0000_0000_0000 → ofBits binary64 (b + 1) ≡ nextUp x → Steps x b
+  low h e = record { one-up = λ _. e; one-down = λ k. absurd (omega arith); from-zero = λ k. absurd (omega arith); stays = λ k _. absurd (omega arith) }
 
-pub kind : (x : Float) → lt x (ofBits binary64 0x7ff0_0000_0000_0000) ≡ true → Kind x
-kind x e = kinds x (yes (lt x (inf false)) (sym (ap (λ (z : Float). lt x z) inf-bits) ∙ e))
+  high : 0x8000_0000_0000_0000 < b → T (not (nanBits binary64 (b - 1))) → ofBits binary64 (b - 1) ≡ nextUp x → Steps x b
+  high h n e = record { one-up = λ k. absurd (omega arith); one-down = λ _. (n, e); from-zero = λ k. absurd (omega arith); stays = λ _ k. absurd (omega arith) }
 
--- ---- x + 0.0
-plain : (a d : ℕ) → a * 1 + 0 * 1 * d ≡ a
-plain a d = omega arith
+  minus : b ≡ 0x8000_0000_0000_0000 → ofBits binary64 1 ≡ nextUp x → Steps x b
+  minus h e = record { one-up = λ k. absurd (omega arith); one-down = λ k. absurd (omega arith); from-zero = λ _. e; stays = λ _ k. absurd (omega arith) }
 
-one : (d : ℕ) → d * 1 ≡ d
-one d = omega arith
+  topmost : b ≡ 0x7ff0_0000_0000_0000 → x ≡ nextUp x → Steps x b
+  topmost h e = record { one-up = λ k. absurd (omega arith); one-down = λ k. absurd (omega arith); from-zero = λ k. absurd (omega arith); stays = λ _ _. e }
 
-none : (d : ℕ) → 0 * 1 * d ≡ 0
-none d = omega arith
+-- ---- where the patterns lie, and what the steps owe
 
-plus-pos : (m : ℕ) (e : ℤ) → T (fits binary64 (fin false (suc m) e)) → add binary64 (fin false (suc m) e) (fin false 0 (pos 0)) ≡ fin false (suc m) e
-unfolding add sum
-plus-pos m e F =
-    ap (λ (n : ℕ). round binary64 false n (down e * 1)) (plain (suc m * up e) (down e))
-    ∙ ap (λ (d : ℕ). round binary64 false (suc m * up e) d) (one (down e))
-    ∙ round-own binary64 false (suc m) e F
-
-minus-none : (k c : ℕ) → sum binary64 true (suc k) false 0 c ≡ round binary64 true (suc k) c
-unfolding sum
-minus-none k c = rw (leb·suc-zero (suc k), leb·suc-suc 0 k ∙ leb·zero k, less (suc k))
-  where
-    less : (a : ℕ) → a - 0 ≡ a
-    less a = omega arith
-
--- a number that is not zero is some suc
-minus-some : (a b c : ℕ) → 0 < a → b ≡ 0 → sum binary64 true a false b c ≡ round binary64 true a c
-minus-some zero b c h e = absurd (nothing h)
-  where
-    nothing : 0 < 0 → ⊥
-    nothing h = omega arith
-minus-some (suc k) b c h e = subst (λ (z : ℕ). sum binary64 true (suc k) false z c ≡ round binary64 true (suc k) c) (sym e) (minus-none k c)
-
-plus-neg : (m : ℕ) (e : ℤ) → T (fits binary64 (fin true (suc m) e)) → add binary64 (fin true (suc m) e) (fin false 0 (pos 0)) ≡ fin true (suc m) e
-unfolding add
-plus-neg m e F =
-    minus-some (suc m * up e * 1) (0 * 1 * down e) (down e * 1) (some (suc m * up e) (mul-pos (zero-lt-suc m) (up-pos e))) (none (down e))
-    ∙ ap (λ (n : ℕ). round binary64 true n (down e * 1)) (one (suc m * up e))
-    ∙ ap (λ (d : ℕ). round binary64 true (suc m * up e) d) (one (down e))
-    ∙ round-own binary64 true (suc m) e F
-  where
-    some : (a : ℕ) → 0 < a → 0 < a * 1
-    some a h = omega arith
+-- one up from below the infinity's is no NaN's
+pub up-ok : (b : ℕ) → b < 0x7ff0_0000_0000_0000 → T (not (nanBits binary64 (b + 1)))
+up-ok b h = no-nanBits (b + 1) (pattern-ok (b + 1) (omega arith))
 
 -- every zero of the format is written in one way
 zero-one : (s : Bool) (e : ℤ) → T (fits binary64 (fin s zero e)) → fin s zero e ≡ fin s zero (pos 0)
@@ -88,126 +62,110 @@ zero-one s e F = unique binary64 s 0 e 0 (pos 0) F (own s) (same (up e) (down e)
     same : (a d : ℕ) → 0 * a * 1 ≡ 0 * 1 * d
     same a d = omega arith
 
-plus-nil : (s : Bool) → add binary64 (fin s zero (pos 0)) (fin false 0 (pos 0)) ≡ fin false 0 (pos 0)
-unfolding add sum round
-plus-nil true = refl
-plus-nil false = refl
-
--- ---- x + 0.0 is x, but for a zero, where it is the positive one
-abbrev pub lifted : Float → Float
-lifted x = add binary64 x (ofBits binary64 0)
-
-lifted-is : (x : Float) → lifted x ≡ add binary64 x (fin false 0 (pos 0))
-lifted-is x = ap (λ (z : Float). add binary64 x z) zero-bits
-
-pub nil-lifted : (x : Float) → T (fits binary64 x) → Nil x → lifted x ≡ fin false 0 (pos 0)
-nil-lifted x F k =
-    let e = k .2 ∙ zero-one (k .0) (k .1) (subst (λ (y : Float). T (fits binary64 y)) (k .2) F) in
-    lifted-is x ∙ ap (λ (y : Float). add binary64 y (fin false 0 (pos 0))) e ∙ plus-nil (k .0)
-
-pub pos-lifted : (x : Float) → T (fits binary64 x) → Positive x → lifted x ≡ x
-pos-lifted x F k =
-    lifted-is x ∙ ap (λ (y : Float). add binary64 y (fin false 0 (pos 0))) (k .2) ∙ plus-pos (k .0) (k .1) (subst (λ (y : Float). T (fits binary64 y)) (k .2) F) ∙ sym (k .2)
-
-low-lifted : add binary64 (inf true) (fin false 0 (pos 0)) ≡ inf true
-unfolding add
-low-lifted = refl
-
-pub neg-lifted : (x : Float) → T (fits binary64 x) → Negative x → lifted x ≡ x
-neg-lifted x F (inl e) = lifted-is x ∙ ap (λ (y : Float). add binary64 y (fin false 0 (pos 0))) e ∙ low-lifted ∙ sym e
-neg-lifted x F (inr k) =
-    lifted-is x ∙ ap (λ (y : Float). add binary64 y (fin false 0 (pos 0))) (k .2) ∙ plus-neg (k .0) (k .1) (subst (λ (y : Float). T (fits binary64 y)) (k .2) F) ∙ sym (k .2)
-
--- ---- the sign's bit of the pattern
-zero-code : toBits binary64 (fin false 0 (pos 0)) ≡ 0
+plus-zero : (e : ℤ) → T (fits binary64 (fin false zero e)) → toBits binary64 (fin false zero e) ≡ 0
 unfolding toBits
-zero-code = refl
+plus-zero e F = ap (toBits binary64) (zero-one false e F)
 
-pos-code : (x : Float) → T (fits binary64 x) → Positive x → toBits binary64 x < 9223372036854775808
-pos-code x F k = near (toBits binary64 x) (add-owed x F k)
-  where
-    near : (b : ℕ) → b + 1 ≤ 9218868437227405312 → b < 9223372036854775808
-    near b h = omega arith
-
-inf-code : 9223372036854775808 ≤ toBits binary64 (inf true)
+minus-zero : (e : ℤ) → T (fits binary64 (fin true zero e)) → toBits binary64 (fin true zero e) ≡ 0x8000_0000_0000_0000
 unfolding toBits
-inf-code = lit≤ tt
+minus-zero e F = ap (toBits binary64) (zero-one true e F)
 
-fin-code : (m : ℕ) (e : ℤ) → T (fits binary64 (fin true (suc m) e)) → 9223372036854775808 ≤ toBits binary64 (fin true (suc m) e)
-fin-code m e F = let w = written binary64 true m e F in subst (λ (z : ℕ). 9223372036854775808 ≤ z) (sym (w .minus)) (far (w .bits))
-  where
-    far : (b : ℕ) → 9223372036854775808 ≤ 9223372036854775808 + b
-    far b = omega arith
+plus-inf : toBits binary64 (inf false) ≡ 0x7ff0_0000_0000_0000
+unfolding toBits
+plus-inf = refl
 
-neg-code : (x : Float) → T (fits binary64 x) → Negative x → 9223372036854775808 ≤ toBits binary64 x
-neg-code x F (inl e) = subst (λ (y : Float). 9223372036854775808 ≤ toBits binary64 y) (sym e) inf-code
-neg-code x F (inr k) = subst (λ (y : Float). 9223372036854775808 ≤ toBits binary64 y) (sym (k .2)) (fin-code (k .0) (k .1) (subst (λ (y : Float). T (fits binary64 y)) (k .2) F))
+minus-inf : 0x8000_0000_0000_0000 < toBits binary64 (inf true)
+unfolding toBits
+minus-inf = lit≤ tt
 
--- ---- what the steps owe, and what they give
-fin-ok : (s : Bool) (m : ℕ) (e : ℤ) → T (not (isNan (fin s m e)))
-unfolding isNan
-fin-ok s m e = tt
+inf-ok : T (not (nanBits binary64 (toBits binary64 (inf true) - 1)))
+unfolding toBits nanBits
+inf-ok = tt
 
-inf-ok : (s : Bool) → T (not (isNan (inf s)))
-unfolding isNan
-inf-ok s = tt
+module _ (m : ℕ) (e : ℤ) where
+  above-zero : T (fits binary64 (fin false (suc m) e)) → toBits binary64 (fin false (suc m) e) < 0x7ff0_0000_0000_0000
+  above-zero F = let w = written binary64 false m e F in subst (λ (z : ℕ). z < 0x7ff0_0000_0000_0000) (sym (w .plus)) (w .below)
 
-pub is-number : (x : Float) → T (fits binary64 x) → Kind x → T (not (isNan (lifted x)))
-is-number x F (inl k) = subst (λ (y : Float). T (not (isNan y))) (sym (nil-lifted x F k)) (fin-ok false 0 (pos 0))
-is-number x F (inr (inl k)) = subst (λ (y : Float). T (not (isNan y))) (sym (pos-lifted x F k ∙ k .2)) (fin-ok false (suc (k .0)) (k .1))
-is-number x F (inr (inr (inl e))) = subst (λ (y : Float). T (not (isNan y))) (sym (neg-lifted x F (inl e) ∙ e)) (inf-ok true)
-is-number x F (inr (inr (inr k))) = subst (λ (y : Float). T (not (isNan y))) (sym (neg-lifted x F (inr k) ∙ k .2)) (fin-ok true (suc (k .0)) (k .1))
+  under-zero : T (fits binary64 (fin true (suc m) e)) → 0x8000_0000_0000_0000 < toBits binary64 (fin true (suc m) e)
+  under-zero G =
+      let w = written binary64 true m e G in
+      subst (λ (z : ℕ). 0x8000_0000_0000_0000 < z) (sym (w .minus)) (far (w .bits) (bits-pos m e (unsign m e G) w))
+    where
+      far : (b : ℕ) → 0 < b → 0x8000_0000_0000_0000 < 0x8000_0000_0000_0000 + b
+      far b h = omega arith
 
-nil-code : (x : Float) → T (fits binary64 x) → Nil x → toBits binary64 (lifted x) ≡ 0
-nil-code x F k = ap (toBits binary64) (nil-lifted x F k) ∙ zero-code
+  -- below zero the pattern one down is the mirror image of one below the infinity's
+  down-ok : T (fits binary64 (fin true (suc m) e)) → T (not (nanBits binary64 (toBits binary64 (fin true (suc m) e) - 1)))
+  down-ok G =
+      let F = unsign m e G in
+      let w = written binary64 false m e F in
+      no-nanBits (toBits binary64 (fin true (suc m) e) - 1) (ap isNan (below-zero m e F w) ∙ isNan-neg (ofBits binary64 (w .bits - 1)) ∙ pattern-ok (w .bits - 1) (omega (arith, w .below)))
 
-first-ok : T (not (nanBits binary64 (0 + 1)))
-unfolding nanBits
-first-ok = tt
-
-clash : (b : ℕ) → b < 9223372036854775808 → 9223372036854775808 ≤ b → ⊥
-clash b h k = omega arith
-
-clash-zero : (b : ℕ) → b ≡ 0 → 9223372036854775808 ≤ b → ⊥
-clash-zero b h k = omega arith
-
-neg-high : (x : Float) → T (fits binary64 x) → Negative x → 9223372036854775808 ≤ toBits binary64 (lifted x)
-neg-high x F k = subst (λ (y : Float). 9223372036854775808 ≤ toBits binary64 y) (sym (neg-lifted x F k)) (neg-code x F k)
-
-pos-low : (x : Float) → T (fits binary64 x) → Positive x → toBits binary64 (lifted x) < 9223372036854775808
-pos-low x F k = subst (λ (y : Float). toBits binary64 y < 9223372036854775808) (sym (pos-lifted x F k)) (pos-code x F k)
-
-pub up-ok : (x : Float) → T (fits binary64 x) → Kind x → toBits binary64 (lifted x) < 9223372036854775808 → T (not (nanBits binary64 (toBits binary64 (lifted x) + 1)))
-up-ok x F (inl k) h = subst (λ (b : ℕ). T (not (nanBits binary64 (b + 1)))) (sym (nil-code x F k)) first-ok
-up-ok x F (inr (inl k)) h = subst (λ (y : Float). T (not (nanBits binary64 (toBits binary64 y + 1)))) (sym (pos-lifted x F k)) (add-no-nan x F k)
-up-ok x F (inr (inr k)) h = absurd (clash (toBits binary64 (lifted x)) h (neg-high x F k))
-
-nil-next : (s : Bool) (e : ℤ) → ofBits binary64 (0 + 1) ≡ nextUp (fin s zero e)
+-- THE LAW, above
+pub steps : (x : Float) → T (fits binary64 x) → isNan x ≡ false → Steps x (toBits binary64 x)
 unfolding nextUp
-nil-next s e = refl
+steps nan F n = absurd (unfold isNan in true≢false n)
+steps (inf true) F n = high (inf true) _ minus-inf inf-ok refl
+steps (inf false) F n = topmost (inf false) _ plus-inf refl
+steps (fin false zero e) F n = low (fin false zero e) _ (omega (arith, plus-zero e F)) (ap (λ (b : ℕ). ofBits binary64 (b + 1)) (plus-zero e F))
+steps (fin true zero e) F n = minus (fin true zero e) _ (minus-zero e F) refl
+steps (fin false (suc m) e) F n = low (fin false (suc m) e) _ (above-zero m e F) refl
+steps (fin true (suc m) e) F n = high (fin true (suc m) e) _ (under-zero m e F) (down-ok m e F) refl
 
-pub up-is : (x : Float) → T (fits binary64 x) → Kind x → toBits binary64 (lifted x) < 9223372036854775808 → ofBits binary64 (toBits binary64 (lifted x) + 1) ≡ nextUp x
-up-is x F (inl k) h = ap (λ (b : ℕ). ofBits binary64 (b + 1)) (nil-code x F k) ∙ nil-next (k .0) (k .1) ∙ ap nextUp (sym (k .2))
-up-is x F (inr (inl k)) h = ap (λ (y : Float). ofBits binary64 (toBits binary64 y + 1)) (pos-lifted x F k) ∙ at-positive x k
-up-is x F (inr (inr k)) h = absurd (clash (toBits binary64 (lifted x)) h (neg-high x F k))
+-- ---- the neighbour below x by x's pattern b
+pub record StepsDown (x : Float) (b : ℕ) : Type 0 where
+  pub from-zero : b ≡ 0 → ofBits binary64 0x8000_0000_0000_0001 ≡ nextDown x
+  pub one-down : 0 < b → b < 0x8000_0000_0000_0000 → T (not (nanBits binary64 (b - 1))) × (ofBits binary64 (b - 1) ≡ nextDown x)
+  pub one-up : 0x8000_0000_0000_0000 ≤ b → b < 0xfff0_0000_0000_0000 → T (not (nanBits binary64 (b + 1))) × (ofBits binary64 (b + 1) ≡ nextDown x)
+  pub stays : 0xfff0_0000_0000_0000 ≤ b → x ≡ nextDown x
 
-pub down-ok : (x : Float) → T (fits binary64 x) → Kind x → 9223372036854775808 ≤ toBits binary64 (lifted x) → T (not (nanBits binary64 (toBits binary64 (lifted x) - 1)))
-down-ok x F (inl k) h = absurd (clash-zero (toBits binary64 (lifted x)) (nil-code x F k) h)
-down-ok x F (inr (inl k)) h = absurd (clash (toBits binary64 (lifted x)) (pos-low x F k) h)
-down-ok x F (inr (inr k)) h = subst (λ (y : Float). T (not (nanBits binary64 (toBits binary64 y - 1)))) (sym (neg-lifted x F k)) (sub-no-nan x F k)
+-- a pattern is a NaN's with the sign's bit as without it
+nan-signed : (b : ℕ) → b < 0x8000_0000_0000_0000 → nanBits binary64 (0x8000_0000_0000_0000 + b) ≡ nanBits binary64 b
+nan-signed b h = nanBits-is binary64 (0x8000_0000_0000_0000 + b) ∙ ap isNan (signed binary64 b h) ∙ isNan-neg (ofBits binary64 b) ∙ sym (nanBits-is binary64 b)
 
-pub down-is : (x : Float) → T (fits binary64 x) → Kind x → 9223372036854775808 ≤ toBits binary64 (lifted x) → ofBits binary64 (toBits binary64 (lifted x) - 1) ≡ nextUp x
-down-is x F (inl k) h = absurd (clash-zero (toBits binary64 (lifted x)) (nil-code x F k) h)
-down-is x F (inr (inl k)) h = absurd (clash (toBits binary64 (lifted x)) (pos-low x F k) h)
-down-is x F (inr (inr k)) h = ap (λ (y : Float). ofBits binary64 (toBits binary64 y - 1)) (neg-lifted x F k) ∙ at-negative x k
+-- b is the pattern of y, and no NaN's; the sign's bit leads to the mirror image
+abbrev Leads : ℕ → Float → Type 0
+Leads b y = T (not (nanBits binary64 b)) × (ofBits binary64 b ≡ y)
 
--- ---- a NaN and the infinity stay
-stays : (x : Float) → (T (lt x (inf false)) → ⊥) → x ≡ nextUp x
-unfolding lt nextUp
-stays nan h = refl
-stays (inf false) h = refl
-stays (inf true) h = absurd (h tt)
-stays (fin s m e) h = absurd (h tt)
+with-sign : (b : ℕ) (y : Float) → b < 0x8000_0000_0000_0000 → Leads b y → Leads (0x8000_0000_0000_0000 + b) (neg y)
+with-sign b y h l = (subst (λ (t : Bool). T (not t)) (sym (nan-signed b h)) (l .0), signed binary64 b h ∙ ap neg (l .1))
 
-pub stay : (x : Float) → lt x (ofBits binary64 0x7ff0_0000_0000_0000) ≡ false → x ≡ nextUp x
-stay x e = stays x (no (lt x (inf false)) (sym (ap (λ (z : Float). lt x z) inf-bits) ∙ e))
+without-sign : (b : ℕ) (y : Float) → b < 0x8000_0000_0000_0000 → Leads (0x8000_0000_0000_0000 + b) y → Leads b (neg y)
+without-sign b y h l = (subst (λ (t : Bool). T (not t)) (nan-signed b h) (l .0), sym (neg-neg (ofBits binary64 b)) ∙ ap neg (sym (signed binary64 b h) ∙ l .1))
+
+-- the steps up from the mirror image of x, whose pattern c is b with the other sign
+module _ (x : Float) (b c : ℕ) (u : Steps (neg x) c) where
+  from-plus : b < 0x8000_0000_0000_0000 → c ≡ 0x8000_0000_0000_0000 + b → StepsDown x b
+  unfolding nextDown
+  from-plus h e = record {
+    from-zero = λ k. signed binary64 1 (lit≤ tt) ∙ ap neg (u .from-zero (omega arith));
+    one-down = λ k _. without-sign (b - 1) (nextUp (neg x)) (omega arith) (subst (λ (z : ℕ). Leads z (nextUp (neg x))) (omega arith) (u .one-down (omega arith)));
+    one-up = λ k _. absurd (omega arith);
+    stays = λ k. absurd (omega arith);
+  }
+
+  from-minus : c < 0x8000_0000_0000_0000 → b ≡ 0x8000_0000_0000_0000 + c → StepsDown x b
+  unfolding nextDown
+  from-minus h e = record {
+    from-zero = λ k. absurd (omega arith);
+    one-down = λ _ k. absurd (omega arith);
+    one-up = λ _ k. subst (λ (z : ℕ). Leads z (neg (nextUp (neg x)))) (omega arith) (with-sign (c + 1) (nextUp (neg x)) (omega arith) (up-ok c (omega arith), u .one-up (omega arith)));
+    stays = λ k. sym (neg-neg x) ∙ ap neg (u .stays (omega arith) h);
+  }
+
+-- the patterns of the two signs
+signs : (m : ℕ) (e : ℤ) → T (fits binary64 (fin false m e)) → T (fits binary64 (fin true m e)) → (toBits binary64 (fin false m e) < 0x8000_0000_0000_0000) × (toBits binary64 (fin true m e) ≡ 0x8000_0000_0000_0000 + toBits binary64 (fin false m e))
+signs zero e F G = (omega (arith, plus-zero e F), omega (arith, plus-zero e F, minus-zero e G))
+signs (suc m) e F G = let w = written binary64 false m e F in (omega (arith, above-zero m e F), w .minus ∙ ap (λ (b : ℕ). 0x8000_0000_0000_0000 + b) (sym (w .plus)))
+
+mirrored : (x : Float) → T (fits binary64 x) → isNan x ≡ false → Steps (neg x) (toBits binary64 (neg x))
+mirrored x F n = steps (neg x) (neg-fits binary64 x F) (isNan-neg x ∙ n)
+
+-- THE LAW, below
+pub steps-down : (x : Float) → T (fits binary64 x) → isNan x ≡ false → StepsDown x (toBits binary64 x)
+unfolding neg
+steps-down nan F n = absurd (unfold isNan in true≢false n)
+steps-down (inf false) F n = unfold toBits in from-plus (inf false) _ _ (mirrored (inf false) F n) (lit≤ tt) refl
+steps-down (inf true) F n = unfold toBits in from-minus (inf true) _ _ (mirrored (inf true) F n) (lit≤ tt) refl
+steps-down (fin false m e) F n = let s = signs m e F (neg-fits binary64 (fin false m e) F) in from-plus (fin false m e) _ _ (mirrored (fin false m e) F n) (s .0) (s .1)
+steps-down (fin true m e) F n = let s = signs m e (neg-fits binary64 (fin true m e) F) F in from-minus (fin true m e) _ _ (mirrored (fin true m e) F n) (s .0) (s .1)

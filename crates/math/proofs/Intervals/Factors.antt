@@ -1,23 +1,26 @@
--- The short way of `interpolate`: a product by a factor has each bound picked from two products, and what two sums have in common is widened once, where they meet. Assumes nothing.
+-- The short way of `times` and `between`: a product by a factor has each bound picked from two products, whichever operand comes first, and what two sums have in common is widened once, where they meet.
+-- Assumes nothing.
 use mathlib.Core.Path.{_≡_, refl, sym, ap, _∙_, subst}
-use mathlib.Core.Bool.{Bool, true, false, _&&_}
-use lib.Dec.{T}
-use lib.Ieee.{Float, nan, inf, fin, binary64, add, mul, neg, lt, le, fits, isNan}
-use lib.Ieee.Fits.{add-fits, mul-fits, neg-fits}
+use mathlib.Core.Bool.{Bool, true, false, _&&_, cond}
+use Prim.Native.Nat.{_*_}
+use native.Mathlib.Nat.{mul-comm}
+use lib.Dec.{T, eqb}
+use lib.Ieee.{Float, nan, inf, fin, binary64, up, down, round, unlike, add, sub, mul, neg, lt, le, fits, isNan}
+use lib.Ieee.Fits.{add-fits, sub-fits, mul-fits, neg-fits}
 use lib.Ieee.Bits.{is-true, is-false}
 use lib.Ieee.Positive.{positive}
 use Rattle.math.specs.Neighbours.{nextUp, nextDown}
 use Rattle.math.specs.Picks.{minF, maxF}
-use Rattle.math.specs.Scalars.{zeroF, twoF, least4, most4, addS, mulS, intersectS}
-use Rattle.math.specs.Factors.{isFactor, inOrder, isTame}
+use Rattle.math.specs.Scalars.{zeroF, ONE, least4, most4, addS, subS, mulS, intersectS, widened}
+use Rattle.math.specs.Factors.{isFactor, inOrder, fractionOf, isTame}
 use Rattle.math.specs.declared.scalars.Scalar.{Scalar}
+use Rattle.math.specs.declared.scalars.Fraction.{Fraction}
 use Rattle.math.proofs.Bools.{yes, and-l, and-r}
-use Rattle.math.proofs.Doubles.Order.{number, le-number-l, le-number-r, le-trans, lt-le, le-lt, neg-le}
+use Rattle.math.proofs.Doubles.Order.{le-number-l, le-number-r, le-trans, lt-le, le-lt, neg-le}
 use Rattle.math.proofs.Doubles.Mirror.{neg-neg}
 use Rattle.math.proofs.Doubles.Same.{down-same}
-use Rattle.math.proofs.Doubles.Least.{min-either, max-is, min-left, min-right, least-fits, least-a, least-b, least-c, least-d, least-above, most-is}
-use Rattle.math.proofs.Doubles.Rounding.{down-neg}
-use Rattle.math.proofs.Intervals.Widen.{widened-meet}
+use Rattle.math.proofs.Doubles.Least.{min-either, max-is, min-left, min-right, least-number, least-fits, least-a, least-b, least-c, least-d, least-above, most-is}
+use Rattle.math.proofs.Intervals.Widen.{widened-order, widened-meet}
 use Rattle.math.proofs.Intervals.Positive.{above-zero, greatest, scale-le, scale-number}
 
 -- ---- the least of four, two of which are known to be no more than the others
@@ -49,22 +52,26 @@ module _ (a b c d : Float) (A : T (fits binary64 a)) (B : T (fits binary64 b)) (
       down-least (minF b d) a b c d (min-either (λ z. T (fits binary64 z)) b d B D) A B C D (min-either (λ z. T (le (least4 a b c d) z)) b d (least-b a b c d n) (least-d a b c d m))
       (le-trans (minF b d) b a p h) p (le-trans (minF b d) d c q k) q
 
--- the mirror image
+-- the neighbour above is the mirror image of the one below
+turned : (x : Float) → nextUp (neg x) ≡ neg (nextDown x)
+unfolding nextDown
+turned x = sym (neg-neg (nextUp (neg x)))
+
+up-most : (a b c d : Float) → nextUp (most4 a b c d) ≡ neg (nextDown (least4 (neg a) (neg b) (neg c) (neg d)))
+up-most a b c d = ap nextUp (most-is a b c d) ∙ turned (least4 (neg a) (neg b) (neg c) (neg d))
+
+-- the second and the fourth are the greater ones
 up-two : (a b c d : Float) → T (fits binary64 a) → T (fits binary64 b) → T (fits binary64 c) → T (fits binary64 d) → T (le a b) → T (le c d) → nextUp (maxF b d) ≡ nextUp (most4 a b c d)
 up-two a b c d A B C D h k =
     ap nextUp (max-is b d)
     ∙ turned (minF (neg b) (neg d))
     ∙ ap neg (down-others (neg a) (neg b) (neg c) (neg d) (neg-fits binary64 a A) (neg-fits binary64 b B) (neg-fits binary64 c C) (neg-fits binary64 d D) (neg-le a b h) (neg-le c d k))
-    ∙ sym (turned (least4 (neg a) (neg b) (neg c) (neg d)))
-    ∙ ap nextUp (sym (most-is a b c d))
-  where
-    turned : (x : Float) → nextUp (neg x) ≡ neg (nextDown x)
-    turned x = sym (down-neg (neg x)) ∙ ap (λ (z : Float). neg (nextDown z)) (neg-neg x)
+    ∙ sym (up-most a b c d)
 
 -- ---- the product by a factor
 module _ (t x : Scalar) (P : isFactor t ≡ true) (O : inOrder x ≡ true) where
   first-two : T (lt zeroF (t .lo) && le (t .lo) (t .hi))
-  first-two = and-l (lt zeroF (t .lo) && le (t .lo) (t .hi)) (le (t .hi) twoF) (yes (isFactor t) P)
+  first-two = and-l (lt zeroF (t .lo) && le (t .lo) (t .hi)) (lt (t .hi) (inf false)) (yes (isFactor t) P)
 
   low : T (lt zeroF (t .lo))
   low = and-l (lt zeroF (t .lo)) (le (t .lo) (t .hi)) first-two
@@ -73,7 +80,7 @@ module _ (t x : Scalar) (P : isFactor t ≡ true) (O : inOrder x ≡ true) where
   order = and-r (lt zeroF (t .lo)) (le (t .lo) (t .hi)) first-two
 
   high : T (lt (t .hi) (inf false))
-  high = le-lt (t .hi) twoF (inf false) (and-r (lt zeroF (t .lo) && le (t .lo) (t .hi)) (le (t .hi) twoF) (yes (isFactor t) P)) (unfold lt in tt)
+  high = and-r (lt zeroF (t .lo) && le (t .lo) (t .hi)) (lt (t .hi) (inf false)) (yes (isFactor t) P)
 
   lo-positive : T (positive (t .lo))
   lo-positive = above-zero (t .lo) low (le-lt (t .lo) (t .hi) (inf false) order high)
@@ -107,64 +114,131 @@ module _ (t x : Scalar) (P : isFactor t ≡ true) (O : inOrder x ≡ true) where
       let h2 : T (le c d) = scale-le (t .hi) (x .lo) (x .hi) hi-positive rises in
       λ i. record { lo = (LO ∙ ap nextDown L ∙ down-two a b c d A B C D h1 h2) i; hi = (HI ∙ ap nextUp H ∙ up-two a b c d A B C D h1 h2) i }
 
--- ---- what two sums have in common
+-- ---- the product does not depend on the order of its operands
 
--- only a NaN has a NaN beside it
-down-real : (x : Float) → T (number (nextDown x)) → isNan x ≡ false
-unfolding isNan nextDown nextUp neg
-down-real nan n = absurd n
-down-real (inf s) n = refl
-down-real (fin s m e) n = refl
+-- the least of four is as great in either order of the middle two, and so it has the same neighbours
+least-swap : (a b c d : Float) → T (le (least4 a b c d) (least4 a c b d))
+least-swap a b c d = least-above (least4 a b c d) a c b d (greatest (least4 a b c d) (least-number a b c d)) (least-a a b c d) (least-c a b c d) (least-b a b c d) (least-d a b c d)
 
-up-real : (x : Float) → T (number (nextUp x)) → isNan x ≡ false
-unfolding isNan nextUp
-up-real nan n = absurd n
-up-real (inf s) n = refl
-up-real (fin s m e) n = refl
+down-swap : (a b c d : Float) → T (fits binary64 a) → T (fits binary64 b) → T (fits binary64 c) → T (fits binary64 d) → nextDown (least4 a b c d) ≡ nextDown (least4 a c b d)
+down-swap a b c d A B C D = down-same (least4 a b c d) (least4 a c b d) (least-fits a b c d A B C D) (least-fits a c b d A C B D) (least-swap a b c d) (least-swap a c b d)
 
+-- the mirror image
+up-swap : (a b c d : Float) → T (fits binary64 a) → T (fits binary64 b) → T (fits binary64 c) → T (fits binary64 d) → nextUp (most4 a b c d) ≡ nextUp (most4 a c b d)
+up-swap a b c d A B C D =
+    up-most a b c d
+    ∙ ap neg (down-swap (neg a) (neg b) (neg c) (neg d) (neg-fits binary64 a A) (neg-fits binary64 b B) (neg-fits binary64 c C) (neg-fits binary64 d D))
+    ∙ sym (up-most a c b d)
+
+unlike-swap : (s t : Bool) → unlike s t ≡ unlike t s
+unlike-swap true true = refl
+unlike-swap true false = refl
+unlike-swap false true = refl
+unlike-swap false false = refl
+
+mul-swap : (x y : Float) → mul binary64 x y ≡ mul binary64 y x
+unfolding mul
+mul-swap nan nan = refl
+mul-swap nan (inf t) = refl
+mul-swap nan (fin t n d) = refl
+mul-swap (inf s) nan = refl
+mul-swap (inf s) (inf t) = ap (λ (b : Bool). inf b) (unlike-swap s t)
+mul-swap (inf s) (fin t n d) = ap (λ (b : Bool). cond (eqb n 0) nan (inf b)) (unlike-swap s t)
+mul-swap (fin s m e) nan = refl
+mul-swap (fin s m e) (inf t) = ap (λ (b : Bool). cond (eqb m 0) nan (inf b)) (unlike-swap s t)
+mul-swap (fin s m e) (fin t n d) = λ i. round binary64 (unlike-swap s t i) (mul-comm (m * up e) (n * up d) i) (mul-comm (down e) (down d) i)
+
+pub swapped : (x y : Scalar) → mulS x y ≡ mulS y x
+unfolding mulS
+swapped x y =
+    let a = mul binary64 (x .lo) (y .lo) in
+    let b = mul binary64 (x .lo) (y .hi) in
+    let c = mul binary64 (x .hi) (y .lo) in
+    let d = mul binary64 (x .hi) (y .hi) in
+    let A : T (fits binary64 a) = mul-fits binary64 (x .lo) (y .lo) in
+    let B : T (fits binary64 b) = mul-fits binary64 (x .lo) (y .hi) in
+    let C : T (fits binary64 c) = mul-fits binary64 (x .hi) (y .lo) in
+    let D : T (fits binary64 d) = mul-fits binary64 (x .hi) (y .hi) in
+    (λ i. record { lo = down-swap a b c d A B C D i; hi = up-swap a b c d A B C D i })
+    ∙ (λ i. each (mul-swap (x .lo) (y .lo) i) (mul-swap (x .hi) (y .lo) i) (mul-swap (x .lo) (y .hi) i) (mul-swap (x .hi) (y .hi) i))
+  where
+    each : Float → Float → Float → Float → Scalar
+    each a b c d = widened (least4 a b c d) (most4 a b c d)
+
+-- ---- bounds that are in order
+
+-- they are numbers
+pub lower-number : (a b : Float) → le a b ≡ true → isNan a ≡ false
+lower-number a b e = is-false (isNan a) (le-number-l a b (yes (le a b) e))
+
+pub upper-number : (a b : Float) → le a b ≡ true → isNan b ≡ false
+upper-number a b e = is-false (isNan b) (le-number-r a b (yes (le a b) e))
+
+-- what two sums have in common, where the sums meet before they are widened
 module _ (a m p q : Scalar) where
   pub common-is : (u w lo hi : Float) → (isNan u ≡ false → u ≡ maxF (add binary64 (a .lo) (m .lo)) (add binary64 (p .lo) (q .lo))) → (isNan w ≡ false → w ≡ minF (add binary64 (a .hi) (m .hi)) (add binary64 (p .hi) (q .hi)))
-      → lo ≡ nextDown u → hi ≡ nextUp w → le lo hi ≡ true → record { lo = lo; hi = hi } ≡ intersectS (addS a m) (addS p q)
+      → le u w ≡ true → lo ≡ nextDown u → hi ≡ nextUp w → record { lo = lo; hi = hi } ≡ intersectS (addS a m) (addS p q)
   unfolding addS
-  common-is u w lo hi L0 H0 LO HI e =
+  common-is u w lo hi L0 H0 e LO HI =
       let x = add binary64 (a .lo) (m .lo) in
       let y = add binary64 (a .hi) (m .hi) in
       let z = add binary64 (p .lo) (q .lo) in
       let k = add binary64 (p .hi) (q .hi) in
-      let t : T (le lo hi) = yes (le lo hi) e in
-      let L : lo ≡ nextDown (maxF x z) = LO ∙ ap nextDown (L0 (down-real u (subst (λ (j : Float). T (number j)) LO (le-number-l lo hi t)))) in
-      let H : hi ≡ nextUp (minF y k) = HI ∙ ap nextUp (H0 (up-real w (subst (λ (j : Float). T (number j)) HI (le-number-r lo hi t)))) in
-      (λ i. record { lo = L i; hi = H i })
+      let L : u ≡ maxF x z = L0 (lower-number u w e) in
+      let H : w ≡ minF y k = H0 (upper-number u w e) in
+      (λ i. record { lo = (LO ∙ ap nextDown L) i; hi = (HI ∙ ap nextUp H) i })
       ∙ widened-meet x y z k (add-fits binary64 (a .lo) (m .lo)) (add-fits binary64 (a .hi) (m .hi)) (add-fits binary64 (p .lo) (q .lo)) (add-fits binary64 (p .hi) (q .hi)) (sym (λ i. le (L i) (H i)) ∙ e)
 
--- ---- what `tame` says of the three products
-module _ (a b d t u : Scalar) (r : Bool) (E : r ≡ isTame a b d t u) (R : r ≡ true) where
-  abbrev t2 : Bool
-  t2 = isFactor t && isFactor u
+-- a difference, and its order from before it was widened
+module _ (a b : Scalar) (lo hi : Float) (LO : lo ≡ nextDown (sub binary64 (b .lo) (a .hi))) (HI : hi ≡ nextUp (sub binary64 (b .hi) (a .lo))) where
+  pub delta-is : record { lo = lo; hi = hi } ≡ subS b a
+  unfolding subS
+  delta-is = λ i. record { lo = LO i; hi = HI i }
 
-  abbrev t3 : Bool
-  t3 = t2 && inOrder a
+  pub delta-order : le (sub binary64 (b .lo) (a .hi)) (sub binary64 (b .hi) (a .lo)) ≡ true → le lo hi ≡ true
+  delta-order e = (λ i. le (LO i) (HI i)) ∙ widened-order (sub binary64 (b .lo) (a .hi)) (sub binary64 (b .hi) (a .lo)) (sub-fits binary64 (b .lo) (a .hi)) (sub-fits binary64 (b .hi) (a .lo)) e
 
-  abbrev t4 : Bool
-  t4 = t3 && inOrder b
+-- ---- the fraction of alpha
 
-  all5 : T (t4 && inOrder d)
-  all5 = yes (t4 && inOrder d) (sym E ∙ R)
+-- what makes one
+pub fraction-is : (alpha beta : Scalar) (gentle : Bool) → beta ≡ subS ONE alpha → gentle ≡ (isFactor alpha && isFactor beta) → record { alpha = alpha; beta = beta; gentle = gentle } ≡ fractionOf alpha
+unfolding fractionOf
+fraction-is alpha beta gentle B G = λ i. record { alpha = alpha; beta = B i; gentle = (G ∙ ap (λ (s : Scalar). isFactor alpha && isFactor s) B) i }
 
-  all4 : T t4
-  all4 = and-l t4 (inOrder d) all5
+-- it has its alpha, and is the fraction of that
+pub fraction-own : (f : Fraction) (alpha : Scalar) → f ≡ fractionOf alpha → (f .alpha ≡ alpha) × (f ≡ fractionOf (f .alpha))
+unfolding fractionOf
+fraction-own f alpha e = let a = ap (λ (g : Fraction). g .alpha) e in (a, e ∙ ap fractionOf (sym a))
 
-  all3 : T t3
-  all3 = and-l t3 (inOrder b) all4
+module _ (f : Fraction) (F : f ≡ fractionOf (f .alpha)) where
+  pub fraction-beta : f .beta ≡ subS ONE (f .alpha)
+  unfolding fractionOf
+  fraction-beta = ap (λ (g : Fraction). g .beta) F
 
-  all2 : T t2
-  all2 = and-l t2 (inOrder a) all3
+  both-factors : f .gentle ≡ (isFactor (f .alpha) && isFactor (f .beta))
+  unfolding fractionOf
+  both-factors = ap (λ (g : Fraction). g .gentle) F ∙ ap (λ (s : Scalar). isFactor (f .alpha) && isFactor s) (sym fraction-beta)
 
-  pub tame-delta : (isFactor t ≡ true) × (inOrder d ≡ true)
-  tame-delta = (is-true (isFactor t) (and-l (isFactor t) (isFactor u) all2), is-true (inOrder d) (and-r t4 (inOrder d) all5))
+-- ---- what `tame` says, test by test
+pub record Tame (f : Fraction) (a b d : Scalar) : Type 0 where
+  pub alpha : isFactor (f .alpha) ≡ true
+  pub beta : isFactor (f .beta) ≡ true
+  pub first : inOrder a ≡ true
+  pub second : inOrder b ≡ true
+  pub diff : inOrder d ≡ true
 
-  pub tame-first : (isFactor u ≡ true) × (inOrder a ≡ true)
-  tame-first = (is-true (isFactor u) (and-r (isFactor t) (isFactor u) all2), is-true (inOrder a) (and-r t2 (inOrder a) all3))
-
-  pub tame-second : (isFactor t ≡ true) × (inOrder b ≡ true)
-  tame-second = (is-true (isFactor t) (and-l (isFactor t) (isFactor u) all2), is-true (inOrder b) (and-r t3 (inOrder b) all4))
+pub tame-is : (f : Fraction) (a b d : Scalar) → f ≡ fractionOf (f .alpha) → isTame (f .gentle) a b d ≡ true → Tame f a b d
+tame-is f a b d F e =
+    let t2 = f .gentle && inOrder a in
+    let t3 = t2 && inOrder b in
+    let h3 : T (t3 && inOrder d) = yes (t3 && inOrder d) e in
+    let h2 : T t3 = and-l t3 (inOrder d) h3 in
+    let h1 : T t2 = and-l t2 (inOrder b) h2 in
+    let g : T (isFactor (f .alpha) && isFactor (f .beta)) = subst T (both-factors f F) (and-l (f .gentle) (inOrder a) h1) in
+    record {
+      alpha = is-true (isFactor (f .alpha)) (and-l (isFactor (f .alpha)) (isFactor (f .beta)) g);
+      beta = is-true (isFactor (f .beta)) (and-r (isFactor (f .alpha)) (isFactor (f .beta)) g);
+      first = is-true (inOrder a) (and-r (f .gentle) (inOrder a) h1);
+      second = is-true (inOrder b) (and-r t2 (inOrder b) h2);
+      diff = is-true (inOrder d) (and-r t3 (inOrder d) h3);
+    }

@@ -6,14 +6,15 @@ use mathlib.Core.Bool.{Bool, true, false, not}
 use lib.Dec.{T}
 use lib.Ieee.{Float, nan, inf, fin, binary64, isNan, lt, le, fits, neg}
 use lib.Ieee.Fits.{neg-fits}
+use lib.Ieee.Bits.{is-true}
 use Rattle.math.specs.Neighbours.{nextUp, nextDown}
 use Rattle.math.specs.Picks.{minF, maxF}
 use Rattle.math.specs.Scalars.{unionS, intersectS, widened}
 use Rattle.math.proofs.Bools.{yes, no, decide}
 use Rattle.math.proofs.Picks.{lesser-yes, lesser-no, greater-yes, greater-no, meets}
-use Rattle.math.proofs.Doubles.Order.{number, le-number-l, lt→le-f, le-self, le-trans, lt-le, lt-not-le, total-order}
+use Rattle.math.proofs.Doubles.Order.{number, number-neg, le-number-l, le-number-r, lt→le-f, le-self, le-trans, lt-le, lt-not-le, total-order, neg-le}
 use Rattle.math.proofs.Doubles.Mirror.{neg-neg}
-use Rattle.math.proofs.Doubles.Least.{max-is}
+use Rattle.math.proofs.Doubles.Least.{min-either, max-either, max-is}
 use Rattle.math.proofs.Doubles.Next.{nextDown-fits, nextDown-below}
 use Rattle.math.proofs.Doubles.NextLeast.{nextDown-greatest}
 
@@ -192,7 +193,23 @@ pub widened-union : (a b c d : Float) → T (fits binary64 a) → T (fits binary
 unfolding unionS
 widened-union a b c d A B C D = λ i. record { lo = down-min a c A C i; hi = up-max b d B D i }
 
--- and so is what two that were widened have in common, where they meet
-pub widened-meet : (a b c d : Float) → T (fits binary64 a) → T (fits binary64 b) → T (fits binary64 c) → T (fits binary64 d) → le (nextDown (maxF a c)) (nextUp (minF b d)) ≡ true
+-- ---- the order of two bounds
+
+-- the neighbour above is no less than its double
+up-le : (a : Float) → T (fits binary64 a) → T (number a) → T (le a (nextUp a))
+up-le a F n =
+    subst (λ (x : Float). T (le x (nextUp a))) (neg-neg a)
+    (subst (λ (x : Float). T (le (neg (neg a)) x)) (up-neg a) (neg-le (nextDown (neg a)) (neg a) (down-le (neg a) (neg-fits binary64 a F) (number-neg a n))))
+
+-- two bounds that are in order stay so when they are widened
+pub widened-order : (a b : Float) → T (fits binary64 a) → T (fits binary64 b) → le a b ≡ true → le (nextDown a) (nextUp b) ≡ true
+widened-order a b F G e =
+    let h : T (le a b) = yes (le a b) e in
+    is-true (le (nextDown a) (nextUp b)) (le-trans (nextDown a) a (nextUp b) (down-le a F (le-number-l a b h)) (le-trans a b (nextUp b) h (up-le b G (le-number-r a b h))))
+
+-- what two intervals have in common, where they meet, is widened once
+pub widened-meet : (a b c d : Float) → T (fits binary64 a) → T (fits binary64 b) → T (fits binary64 c) → T (fits binary64 d) → le (maxF a c) (minF b d) ≡ true
     → widened (maxF a c) (minF b d) ≡ intersectS (widened a b) (widened c d)
-widened-meet a b c d A B C D e = meets (widened a b) (widened c d) (nextDown (maxF a c)) (nextUp (minF b d)) (sym (down-max a c A C)) (sym (up-min b d B D)) e
+widened-meet a b c d A B C D e =
+    meets (widened a b) (widened c d) (nextDown (maxF a c)) (nextUp (minF b d)) (sym (down-max a c A C)) (sym (up-min b d B D))
+    (widened-order (maxF a c) (minF b d) (max-either (λ (x : Float). T (fits binary64 x)) a c A C) (min-either (λ (x : Float). T (fits binary64 x)) b d B D) e)

@@ -44,14 +44,14 @@ loop-again c =
     let l = c .before .before .before .before in
     (omega arith, sum-turn _ (l .loop .sum) _ _ (l .loop .j) (omega arith) (c .before .from-f64 .ensures) (c .add .ensures) (l .loop .inv .1))
 
-mul-requires : tie.Need-mul-requires Inv-loop μ-loop
-mul-requires c κs = search needs
+times-requires : tie.Need-times-requires Inv-loop μ-loop
+times-requires c κs = search needs
 
 returns : tie.Need-returns Inv-loop μ-loop
 returns c =
     let l = c .before .before in
     let a = l .before .before .args in
-    c .mul .ensures ∙ ap (λ (s : Scalar). mulS s (a .reciprocal)) (sum-done (a .w .now) (l .loop .sum) (l .loop .j) (omega arith) (l .loop .inv .1))
+    c .times .ensures ∙ ap (λ (s : Scalar). mulS s (a .reciprocal)) (sum-done (a .w .now) (l .loop .sum) (l .loop .j) (omega arith) (l .loop .inv .1))
 
 pub abscissa-spec : {M : Type 1} → statement M
 abscissa-spec =
@@ -67,5 +67,5 @@ abscissa-spec =
     add-j
     loop-less
     loop-again
-    mul-requires
+    times-requires
     returns)

@@ -6,8 +6,8 @@ use borrow.Author.Needs.{needs}
 use Rattle.geometry.proofs.fat_line.chord.Statement.{statement}
 use Rattle.geometry.proofs.fat_line.chord.Tie as tie
 
-mul-requires : tie.Need-mul-requires
-mul-requires c κs = search needs
+times-requires : tie.Need-times-requires
+times-requires c κs = search needs
 
 add-requires : tie.Need-add-requires
 add-requires c κs = search needs
@@ -15,7 +15,7 @@ add-requires c κs = search needs
 returns : tie.Need-returns
 returns c =
     let a = c .before .before .args in
-    c .add .ensures ∙ ap (λ (v : Scalar). addS (a .y0) v) (c .before .mul .ensures)
+    c .add .ensures ∙ ap (λ (v : Scalar). addS (a .y0) v) (c .before .times .ensures)
 
 pub chord-spec : {M : Type 1} → statement M
-chord-spec = tie.close (tie.spec mul-requires add-requires returns)
+chord-spec = tie.close (tie.spec times-requires add-requires returns)

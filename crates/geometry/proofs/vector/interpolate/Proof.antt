@@ -3,6 +3,8 @@ use mathlib.Core.Path.{_≡_, refl, sym, ap, _∙_}
 use Prim.Native.Nat.{ℕ, _*_, _+_, _-_, _≤_}
 use lib.ListN.{length}
 use Rattle.lists.proofs.Put.{put-nil}
+use Rattle.math.specs.declared.scalars.Fraction.{Fraction}
+use Rattle.math.proofs.Intervals.Factors.{fraction-own}
 use Rattle.search.specs.Layout.{flat}
 use Rattle.geometry.proofs.Memory.Between.{after, turn, done}
 use borrow.Author.Needs.{needs}
@@ -11,14 +13,17 @@ use Rattle.geometry.proofs.vector.interpolate.Statement.{statement}
 use Rattle.geometry.proofs.vector.interpolate.Tie as tie
 
 abbrev Inv-loop : tie.InvT-loop
-Inv-loop words₀ a b c d alpha k₀ words k = (k ≤ d) × ((length words ≡ length words₀) × (words ≡ after words₀ a b c d alpha k))
+Inv-loop words₀ a b c d f k₀ words k = (k ≤ d) × ((length words ≡ length words₀) × (words ≡ after words₀ a b c d (f .alpha) k))
 
 abbrev μ-loop : tie.MeasureT-loop
-μ-loop words₀ a b c d alpha k₀ words k = d - k
+μ-loop words₀ a b c d f k₀ words k = d - k
+
+fraction-requires : tie.Need-fraction-requires Inv-loop μ-loop
+fraction-requires c κs = search needs
 
 loop-holds : tie.Need-loop-holds Inv-loop μ-loop
 unfolding flat
-loop-holds c = (omega arith, (refl, sym (put-nil (c .before .args .words .now) (c .before .args .c))))
+loop-holds c = (omega arith, (refl, sym (put-nil (c .before .before .args .words .now) (c .before .before .args .c))))
 
 mul-scalar-from : tie.Need-mul-scalar-from Inv-loop μ-loop
 mul-scalar-from c = omega arith
@@ -38,8 +43,8 @@ add-scalar-from-2 c = omega arith
 scalar-from-requires-2 : tie.Need-scalar-from-requires-2 Inv-loop μ-loop
 scalar-from-requires-2 c κs = omega arith
 
-interpolate-requires : tie.Need-interpolate-requires Inv-loop μ-loop
-interpolate-requires c κs = search needs
+between-requires : tie.Need-between-requires Inv-loop μ-loop
+between-requires c κs = fraction-own _ _ (c .before .before .before .before .before .before .fraction .ensures) .1
 
 mul-set-scalar : tie.Need-mul-set-scalar Inv-loop μ-loop
 mul-set-scalar c = omega arith
@@ -58,19 +63,26 @@ loop-less c = omega arith
 
 loop-again : tie.Need-loop-again Inv-loop μ-loop
 loop-again c =
-    let l = c .before .before .before .before .before .before .before .before .before .before .loop in
-    let s = c .before .before .before .before .before .before .before .before .before .before .before .before in
+    let n = c .before .before .before .before .before .before .before .before .before in
+    let l = n .before .loop in
+    let u = n .before .before in
+    let s = u .before .before in
     let g = s .args in
-    (omega arith, (c .before .before .set-scalar .kept .0 ∙ l .inv .1 .0, turn (g .words .now) (g .a) (g .b) (g .c) (g .d) (g .alpha) (s .pre .1 .0) (s .pre .1 .1) (s .pre .0 .2) (l .k) _ _ _ _ _ (omega arith) (l .inv .1 .1) (c .before .before .before .before .before .before .before .scalar-from .ensures) (c .before .before .before .before .before .scalar-from2 .ensures) (c .before .before .before .before .interpolate .ensures) (c .before .before .set-scalar .ensures)))
+    let t = n .loop-test .taken in
+    let z = c .before .before .before .before in
+    (omega (arith, t), (c .before .before .set-scalar .kept .0 ∙ l .inv .1 .0, turn (g .words .now) (g .a) (g .b) (g .c) (g .d) (u .fraction .result .alpha) (s .pre .1 .0) (s .pre .1 .1) (s .pre .0 .2) (l .k) _ _ _ _ _ (omega (arith, t)) (l .inv .1 .1) (c .before .before .before .before .before .before .before .scalar-from .ensures) (c .before .before .before .before .before .scalar-from2 .ensures) (z .between .ensures) (c .before .before .set-scalar .ensures)))
 
 same-length : tie.Need-same-length Inv-loop μ-loop
 same-length c = c .before .loop .inv .1 .0
 
 returns : tie.Need-returns Inv-loop μ-loop
 returns c =
-    let g = c .before .before .before .args in
-    let e : c .before .loop .k ≡ g .d = omega arith in
-    c .before .loop .inv .1 .1 ∙ ap (after (g .words .now) (g .a) (g .b) (g .c) (g .d) (g .alpha)) e ∙ done (g .words .now) (g .a) (g .b) (g .c) (g .d) (g .alpha)
+    let l = c .before .loop in
+    let u = c .before .before in
+    let g = u .before .before .args in
+    let e : l .k ≡ g .d = omega arith in
+    let at = after (g .words .now) (g .a) (g .b) (g .c) (g .d) in
+    l .inv .1 .1 ∙ (λ i. at (fraction-own _ _ (u .fraction .ensures) .0 i) (e i)) ∙ done (g .words .now) (g .a) (g .b) (g .c) (g .d) (g .alpha)
 
 pub interpolate-spec : {M : Type 1} → statement M
 interpolate-spec =
@@ -78,6 +90,7 @@ interpolate-spec =
     (tie.spec
     Inv-loop
     μ-loop
+    fraction-requires
     loop-holds
     mul-scalar-from
     add-scalar-from
@@ -85,7 +98,7 @@ interpolate-spec =
     mul-scalar-from-2
     add-scalar-from-2
     scalar-from-requires-2
-    interpolate-requires
+    between-requires
     mul-set-scalar
     add-set-scalar
     set-scalar-requires

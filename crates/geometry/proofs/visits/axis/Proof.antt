@@ -26,11 +26,11 @@ coordinate-requires c κs =
     let h : suc (s .args .dim) * 1 ≤ suc (s .args .dim) * s .args .count = mul-le-mul-left (suc (s .args .dim)) (s .pre .0 .0) in
     (omega arith, omega arith)
 
-mul-requires : tie.Need-mul-requires Inv-loop μ-loop
-mul-requires c κs = search needs
+times-requires : tie.Need-times-requires Inv-loop μ-loop
+times-requires c κs = search needs
 
 loop-holds : tie.Need-loop-holds Inv-loop μ-loop
-loop-holds c = let a = c .before .before .before .before .args in (omega arith, (refl, (flat-none (axisAt (a .points .now) (a .dim) (a .k) (a .e)) _, c .mul .ensures)))
+loop-holds c = let a = c .before .before .before .before .args in (omega arith, (refl, (flat-none (axisAt (a .points .now) (a .dim) (a .k) (a .e)) _, c .times .ensures)))
 
 coordinate-requires-2 : tie.Need-coordinate-requires-2 Inv-loop μ-loop
 coordinate-requires-2 c κs =
@@ -114,7 +114,7 @@ axis-spec =
     Inv-loop
     μ-loop
     coordinate-requires
-    mul-requires
+    times-requires
     loop-holds
     coordinate-requires-2
     times-weight-requires

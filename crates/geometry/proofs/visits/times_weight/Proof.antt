@@ -15,11 +15,11 @@ returns c =
     let q = c .before .repeats .ensures .1 (c .if1 .taken) in
     (sym q, s .pre ∙ ap (λ (v : Scalar). mulS (s .args .e) v) (sym q))
 
-mul-requires : tie.Need-mul-requires
-mul-requires c κs = search needs
+times-requires : tie.Need-times-requires
+times-requires c κs = search needs
 
 returns-2 : tie.Need-returns-2
 returns-2 c = search needs
 
 pub times-weight-spec : {M : Type 1} → statement M
-times-weight-spec = tie.close (tie.spec repeats-requires returns mul-requires returns-2)
+times-weight-spec = tie.close (tie.spec repeats-requires returns times-requires returns-2)

@@ -1,6 +1,6 @@
 -- `common` equals its definition: where the two sums meet each bound is picked and then widened, and else the sums are intersected as they are.
 use Rattle.math.proofs.Picks.{sums-meet}
-use Rattle.math.proofs.Intervals.Factors.{common-is}
+use Rattle.math.proofs.Intervals.Factors.{lower-number, upper-number, common-is}
 use borrow.Author.Needs.{needs}
 use Rattle.math.proofs.scalars.Scalar.common.Statement.{statement}
 use Rattle.math.proofs.scalars.Scalar.common.Tie as tie
@@ -8,23 +8,23 @@ use Rattle.math.proofs.scalars.Scalar.common.Tie as tie
 above-requires : tie.Need-above-requires
 above-requires c κs = search needs
 
-next-down-requires : tie.Need-next-down-requires
-next-down-requires c κs = search needs
-
 below-requires : tie.Need-below-requires
 below-requires c κs = search needs
 
-next-up-requires : tie.Need-next-up-requires
-next-up-requires c κs = search needs
+down-requires : tie.Need-down-requires
+down-requires c κs = lower-number _ _ (c .if1 .taken)
+
+up-requires : tie.Need-up-requires
+up-requires c κs = upper-number _ _ (c .before .if1 .taken)
 
 returns : tie.Need-returns
 returns c =
-    let n = c .before in
+    let d = c .before in
+    let n = d .before in
     let b = n .before in
-    let d = b .before .before .before .before .before in
-    let a = d .before in
+    let a = b .before .before .before .before .before in
     let k = a .before .before .before .before .before .args in
-    common-is (k .a) (k .m) (k .p) (k .q) (a .above .result) (b .below .result) (d .next-down .result) (n .next-up .result) (a .above .ensures) (b .below .ensures) (d .next-down .ensures) (n .next-up .ensures) (c .if1 .taken)
+    common-is (k .a) (k .m) (k .p) (k .q) (a .above .result) (b .below .result) (d .down .result) (c .up .result) (a .above .ensures) (b .below .ensures) (n .if1 .taken) (d .down .ensures) (c .up .ensures)
 
 add-requires : tie.Need-add-requires
 add-requires c κs = search needs
@@ -39,7 +39,7 @@ returns-2 : tie.Need-returns-2
 returns-2 c =
     let y = c .before in
     let x = y .before in
-    let k = x .before .before .before .before .before .before .before .before .before .before .before .before .before .before .args in
+    let k = x .before .before .before .before .before .before .before .before .before .before .before .before .args in
     sums-meet (k .a) (k .m) (k .p) (k .q) (x .add .result) (y .add2 .result) (c .intersect .result) (x .add .ensures) (y .add2 .ensures) (c .intersect .ensures)
 
 pub common-spec : {M : Type 1} → statement M
@@ -47,9 +47,9 @@ common-spec =
     tie.close
     (tie.spec
     above-requires
-    next-down-requires
     below-requires
-    next-up-requires
+    down-requires
+    up-requires
     returns
     add-requires
     add-requires-2

@@ -2,7 +2,7 @@
 use mathlib.Core.Path.{_≡_, sym, _∙_}
 use mathlib.Core.Logic.{inl, inr}
 use mathlib.Core.Bool.{_&&_}
-use lib.Ieee.{lt, le, ofBits}
+use lib.Ieee.{lt, le, ofBits, nanBits}
 use Rattle.math.specs.Scalars.{zeroF}
 use Rattle.math.proofs.Bools.{and-yes, and-no}
 use Rattle.math.proofs.scalars.Scalar.is_factor.Statement.{statement}
@@ -16,6 +16,10 @@ both n = elim (n .if1 .came) [
   | inr p ↦ p .1 ∙ and-no _ _ (p .0 .left)
 ]
 
+float-from-bits-result : tie.Need-float-from-bits-result
+unfolding nanBits
+float-from-bits-result c = tt
+
 returns : tie.Need-returns
 unfolding ofBits
 returns c = and-yes _ _ (sym (both (c .before .before)) ∙ c .before .if2 .taken)
@@ -25,4 +29,4 @@ unfolding ofBits
 returns-2 c = both (c .before) ∙ and-no _ _ (sym (both (c .before)) ∙ c .if2 .left)
 
 pub is-factor-spec : {M : Type 1} → statement M
-is-factor-spec = tie.close (tie.spec returns returns-2)
+is-factor-spec = tie.close (tie.spec float-from-bits-result returns returns-2)

@@ -38,11 +38,11 @@ greater-requires-3 c κs = search needs
 greater-requires-4 : tie.Need-greater-requires-4
 greater-requires-4 c κs = search needs
 
-next-down-requires : tie.Need-next-down-requires
-next-down-requires c κs = search needs
+down-requires : tie.Need-down-requires
+down-requires c κs = search needs
 
-next-up-requires : tie.Need-next-up-requires
-next-up-requires c κs = search needs
+up-requires : tie.Need-up-requires
+up-requires c κs = search needs
 
 returns : tie.Need-returns
 unfolding mulS ofBits neg
@@ -51,7 +51,7 @@ returns c =
     let hi = most-of _ _ _ _ _ _ _ _ (k .before .before .before .greater .ensures .0) (k .before .before .greater2 .ensures .0) (k .before .greater3 .ensures .0) (k .greater4 .ensures .0) in
     let l = k .before .before .before .before in
     let lo = least-of _ _ _ _ _ _ _ _ (l .before .before .before .lesser .ensures .0) (l .before .before .lesser2 .ensures .0) (l .before .lesser3 .ensures .0) (l .lesser4 .ensures .0) in
-    λ i. record { lo = (c .before .next-down .ensures ∙ ap nextDown lo) i; hi = (c .next-up .ensures ∙ ap nextUp hi) i }
+    λ i. record { lo = (c .before .down .ensures ∙ ap nextDown lo) i; hi = (c .up .ensures ∙ ap nextUp hi) i }
 
 pub mul-spec : {M : Type 1} → statement M
 mul-spec =
@@ -66,6 +66,6 @@ mul-spec =
     greater-requires-2
     greater-requires-3
     greater-requires-4
-    next-down-requires
-    next-up-requires
+    down-requires
+    up-requires
     returns)

@@ -7,16 +7,16 @@ use Rattle.math.proofs.scalars.Scalar.scale.Tie as tie
 lesser-requires : tie.Need-lesser-requires
 lesser-requires c κs = let k = c .before .before .before .before in scale-low (k .args .self) (k .args .other) (k .pre .0) (k .pre .1)
 
-next-down-requires : tie.Need-next-down-requires
-next-down-requires c κs = search needs
+down-requires : tie.Need-down-requires
+down-requires c κs = search needs
 
 greater-requires : tie.Need-greater-requires
 greater-requires c κs =
     let k = c .before .before .before .before .before .before .before .before .before .before in
     scale-high (k .args .self) (k .args .other) (k .pre .0) (k .pre .1)
 
-next-up-requires : tie.Need-next-up-requires
-next-up-requires c κs = search needs
+up-requires : tie.Need-up-requires
+up-requires c κs = search needs
 
 returns : tie.Need-returns
 returns c =
@@ -24,9 +24,9 @@ returns c =
     let d = g .before .before .before .before .before in
     let l = d .before in
     let k = l .before .before .before .before .before in
-    scale-is (k .args .self) (k .args .other) (k .pre .0) (k .pre .1) (l .lesser .result) (g .greater .result) (d .next-down .result) (c .next-up .result) (l .lesser .ensures .0) (g .greater .ensures .0) (d .next-down .ensures) (c .next-up .ensures)
+    scale-is (k .args .self) (k .args .other) (k .pre .0) (k .pre .1) (l .lesser .result) (g .greater .result) (d .down .result) (c .up .result) (l .lesser .ensures .0) (g .greater .ensures .0) (d .down .ensures) (c .up .ensures)
 
 pub scale-spec : {M : Type 1} → statement M
 scale-spec =
     tie.close
-    (tie.spec lesser-requires next-down-requires greater-requires next-up-requires returns)
+    (tie.spec lesser-requires down-requires greater-requires up-requires returns)

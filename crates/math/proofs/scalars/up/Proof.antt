@@ -1,0 +1,60 @@
+-- `up` equals its definition: the pattern tells which step leads to the neighbour above.
+use mathlib.Core.Path.{sym, subst}
+use mathlib.Core.Bool.{Bool, not}
+use native.Mathlib.Omega.{arith}
+use lib.Dec.{T}
+use lib.Ieee.{binary64, toBits, nanBits}
+use Rattle.math.proofs.Doubles.Steps.{Steps, steps, up-ok}
+use borrow.Author.Needs.{needs}
+use Rattle.math.proofs.scalars.up.Statement.{statement}
+use Rattle.math.proofs.scalars.up.Tie as tie
+
+-- an f64 holds a double of its format, and x is no NaN
+by-pattern : (c : tie.Start) → Steps (c .args .x) (toBits binary64 (c .args .x))
+by-pattern c = steps (c .args .x) (subst T (sym (c .good .0 .1)) tt) (c .pre)
+
+float-to-bits-b : tie.Need-float-to-bits-b
+float-to-bits-b c = subst (λ (b : Bool). T (not b)) (sym (c .pre)) tt
+
+add-result : tie.Need-add-result
+add-result c = search needs
+
+float-from-bits-result : tie.Need-float-from-bits-result
+float-from-bits-result c = up-ok _ (omega arith)
+
+returns : tie.Need-returns
+returns c = by-pattern (c .before) .one-up (omega arith)
+
+sub-result : tie.Need-sub-result
+sub-result c = search needs
+
+float-from-bits-result-2 : tie.Need-float-from-bits-result-2
+float-from-bits-result-2 c = by-pattern (c .before .before) .one-down (omega arith) .0
+
+returns-2 : tie.Need-returns-2
+returns-2 c = by-pattern (c .before .before) .one-down (omega arith) .1
+
+float-from-bits-result-3 : tie.Need-float-from-bits-result-3
+unfolding nanBits
+float-from-bits-result-3 c = tt
+
+returns-3 : tie.Need-returns-3
+returns-3 c = by-pattern (c .before .before .before) .from-zero (omega arith)
+
+returns-4 : tie.Need-returns-4
+returns-4 c = by-pattern (c .before .before .before) .stays (omega arith) (omega arith)
+
+pub up-spec : {M : Type 1} → statement M
+up-spec =
+    tie.close
+    (tie.spec
+    float-to-bits-b
+    add-result
+    float-from-bits-result
+    returns
+    sub-result
+    float-from-bits-result-2
+    returns-2
+    float-from-bits-result-3
+    returns-3
+    returns-4)
