@@ -1,7 +1,7 @@
 -- How the state of the code is read as the state of the search: what a visit made of its piece, what was reported, and the pieces that wait in the ring. Definitions only.
 use Prim.Native.Nat.{ℕ, suc, _+_, _-_, _≤_}
 use mathlib.Core.Path.{_≡_}
-use mathlib.Core.Bool.{Bool, true, false}
+use mathlib.Core.Bool.{Bool, true, false, cond}
 use mathlib.Core.List.{List}
 use mathlib.Core.Option.{Option, none, some}
 use lib.Ieee.{Float}
@@ -17,13 +17,11 @@ use Rattle.geometry.specs.declared.slots.Shape.{Shape}
 use Rattle.geometry.specs.declared.subdivide.Outcome.{Outcome}
 use Rattle.geometry.specs.declared.subdivide.Outcome.the-variants.{Dropped, Reported, Restricted, Halved, BadWeight}
 use Rattle.geometry.specs.declared.subdivide.Reports.{Reports}
-use Rattle.geometry.specs.declared.subdivide.Reports.the-variants.{Silent, Union}
 use Rattle.geometry.specs.declared.subdivide.Search.{Search}
 
 -- What was reported so far.
 unfoldable pub foundOf : Reports → Option Scalar
-foundOf Silent = none
-foundOf (Union t) = some t
+foundOf f = cond (f .any) (some (f .all)) none
 
 -- What a visit made of its piece, where l is the memory it left, and the slots at a and b hold what it hands on.
 unfoldable pub outcomeOf : Shape → List Float → ℕ → ℕ → Outcome → Visit

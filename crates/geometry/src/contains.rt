@@ -13,6 +13,7 @@ use crate::subdivide::after_visit;
 use crate::subdivide::is_bad;
 use crate::subdivide::wrap;
 use crate::visits::visit;
+use math::scalars::Scalar;
 use search::contains::Found;
 ghost use mathlib.Core.Path.{_≡_};
 ghost use Prim.Native.Nat.{_+_, _*_, _≤_, _<_};
@@ -41,10 +42,11 @@ fn plain(x: f64) -> f64
 fn completed(f: Reports, visited: usize) -> Found
     ensures { λ r. ⌜ r ≡ complete (foundOf f) visited ⌝ }
 {
-    match f {
-        Reports::Silent => Found::Nothing(visited),
-        Reports::Union(t) => Found::Enclosed(plain(t.lo), plain(t.hi), visited),
+    let t = f.all;
+    if f.any {
+        return Found::Enclosed(plain(t.lo), plain(t.hi), visited);
     }
+    Found::Nothing(visited)
 }
 
 // ---- the search
@@ -82,7 +84,10 @@ fn run(work: &mut [f64], s: Shape, point_box: &[f64], resolution: f64, nodes: us
         head: 0,
         count: 1,
         visited: 0,
-        found: Reports::Silent,
+        found: Reports {
+            any: false,
+            all: Scalar::ZERO,
+        },
     };
     while 0 < q.count {
         if q.visited == nodes {

@@ -22,11 +22,11 @@ pub enum Outcome {
 }
 
 // The union of what was reported so far.
-pub enum Reports {
-    // Nothing was.
-    Silent,
+pub struct Reports {
+    // Something was.
+    pub any: bool,
     // All of it lies here.
-    Union(Scalar),
+    pub all: Scalar,
 }
 
 // Where a search stands: the slot of the first piece that waits, how many wait, how many were visited, and what was reported.
@@ -48,10 +48,14 @@ pub(crate) fn wrap(i: usize, cap: usize) -> usize
 fn joined(f: Reports, t: Scalar) -> Reports
     ensures { λ r. ⌜ foundOf r ≡ some (joined (foundOf f) t) ⌝ }
 {
-    match f {
-        Reports::Silent => Reports::Union(t),
-        Reports::Union(s) => Reports::Union(s.union(t)),
+    let s = f.all;
+    if f.any {
+        return Reports {
+            any: true,
+            all: s.union(t),
+        };
     }
+    Reports { any: true, all: t }
 }
 
 // How many pieces a visit hands on.

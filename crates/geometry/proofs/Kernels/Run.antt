@@ -7,7 +7,7 @@ use Prim.Native.Nat.{ℕ, zero, suc, _+_, _-_, _*_, _≤_, _<_}
 use native.Mathlib.Nat.{zero-mul}
 use native.Mathlib.Omega.{arith}
 use lib.ListN.{length, drop}
-use lib.Ieee.{Float}
+use lib.Ieee.{Float, binary64, ofBits}
 use borrow.Author.Tests.{lt-ltb, le-ltb}
 use Rattle.lists.specs.Ring.{wrapped}
 use Rattle.math.specs.declared.scalars.Scalar.{Scalar}
@@ -24,7 +24,6 @@ use Rattle.search.specs.declared.contains.Found.{Found}
 use Rattle.search.specs.declared.contains.Found.the-variants.{Spent, Refused}
 use Rattle.geometry.specs.declared.slots.Shape.{Shape}
 use Rattle.geometry.specs.declared.subdivide.Outcome.{Outcome}
-use Rattle.geometry.specs.declared.subdivide.Reports.the-variants.{Silent}
 use Rattle.geometry.specs.declared.subdivide.Search.{Search}
 use Rattle.search.proofs.Pause.{ends, once, fails, waits}
 use Rattle.geometry.proofs.Memory.Piece.{count-points}
@@ -69,7 +68,7 @@ module _ (see : Piece → Visit) (nodes : ℕ) (s : Shape) (l₀ : List Float) w
 
   -- The start.
   abbrev pub origin : Search
-  origin = record { head = 0; count = 1; visited = 0; found = Silent }
+  origin = record { head = 0; count = 1; visited = 0; found = record { any = false; all = record { lo = ofBits binary64 0; hi = ofBits binary64 0 } } }
 
   pub going-start : Ring s l₀ (nodes + 3) 0 1 → Going see nodes s l₀ l₀ origin
   going-start r = record {

@@ -2,7 +2,7 @@
 use mathlib.Core.Path.{_≡_, refl, sym, ap, _∙_, subst}
 use mathlib.Core.Bool.{true, false}
 use mathlib.Core.List.{List, [], _∷_, _++_}
-use mathlib.Core.Option.{Option}
+use mathlib.Core.Option.{Option, none, some}
 use Prim.Native.Nat.{ℕ, zero, suc, _+_, _-_, _*_, _≤_, _<_}
 use native.Mathlib.Nat.{add-zero}
 use native.Mathlib.Omega.{arith}
@@ -10,7 +10,7 @@ use lib.ListN.{length, drop}
 use lib.Ieee.{Float}
 use Rattle.lists.specs.Ring.{wrapped}
 use Rattle.math.specs.declared.scalars.Scalar.{Scalar}
-use Rattle.math.proofs.Bools.{yes, no}
+use Rattle.math.proofs.Bools.{yes, no, pick-yes, pick-no}
 use Rattle.search.specs.NurbCurve.{Piece}
 use Rattle.search.specs.Layout.{slotWords}
 use Rattle.search.specs.Subdivide.{Visit, State, Step, going, over, after, step}
@@ -21,9 +21,19 @@ use Rattle.search.specs.declared.contains.Found.the-variants.{Refused}
 use Rattle.geometry.specs.declared.slots.Shape.{Shape}
 use Rattle.geometry.specs.declared.subdivide.Outcome.{Outcome}
 use Rattle.geometry.specs.declared.subdivide.Outcome.the-variants.{Dropped, Reported, Restricted, Halved, BadWeight}
+use Rattle.geometry.specs.declared.subdivide.Reports.{Reports}
 use Rattle.geometry.specs.declared.subdivide.Search.{Search}
 use Rattle.geometry.proofs.Memory.Apart.{other}
 use Rattle.geometry.proofs.Memory.Ring.{ring-inside, head-held, head-apart, ring-apart, waiting-pop, ring-pop, next-base, push-none, push-one, push-two, push-behind, ring-none, ring-one, ring-two}
+
+-- ---- what was reported so far
+pub found-some : (f : Reports) → f .any ≡ true → foundOf f ≡ some (f .all)
+unfolding foundOf
+found-some f e = sym (pick-yes (f .any) (some (f .all)) none e)
+
+pub found-none : (f : Reports) → f .any ≡ false → foundOf f ≡ none
+unfolding foundOf
+found-none f e = sym (pick-no (f .any) (some (f .all)) none e)
 
 pub handed-few : (o : Outcome) → handed o ≤ 2
 unfolding handed

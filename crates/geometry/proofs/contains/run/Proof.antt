@@ -55,8 +55,8 @@ turn-requires c κs =
 is-bad-requires : tie.Need-is-bad-requires Inv-loop μ-loop
 is-bad-requires c κs = tt
 
-add-t16 : tie.Need-add-t16 Inv-loop μ-loop
-add-t16 c = omega (arith, c .before .before .before .before .before .before .before .before .before .before .before .loop .inv .within, c .before .before .before .before .before .before .before .before .before .before .before .before .before .before .before .pre .0 .few)
+add-t17 : tie.Need-add-t17 Inv-loop μ-loop
+add-t17 c = omega (arith, c .before .before .before .before .before .before .before .before .before .before .before .loop .inv .within, c .before .before .before .before .before .before .before .before .before .before .before .before .before .before .before .pre .0 .few)
 
 same-length-2 : tie.Need-same-length-2 Inv-loop μ-loop
 same-length-2 c = c .before .before .before .before .before .turn .kept .0 ∙ c .before .before .before .before .before .before .before .before .before .before .before .loop .inv .long
@@ -91,12 +91,12 @@ completed-requires : tie.Need-completed-requires Inv-loop μ-loop
 completed-requires c κs = tt
 
 same-length-3 : tie.Need-same-length-3 Inv-loop μ-loop
-same-length-3 c = c .before .before .before .loop .inv .long
+same-length-3 c = c .before .before .before .before .loop .inv .long
 
 returns-3 : tie.Need-returns-3 Inv-loop μ-loop
 returns-3 c =
-    let g = c .before .before .before .before .before .before .before .args in
-    let l = c .before .before .before .loop in
+    let g = c .before .before .before .before .before .before .before .before .args in
+    let l = c .before .before .before .before .loop in
     (going-none (seeing (g .s) (g .point-box .now) (g .resolution) (g .nodes)) (g .nodes) (g .s) (g .work .now) (l .work) (l .q) (l .inv) _ (omega arith) (c .completed .ensures), l .inv .rest)
 
 pub run-spec : {M : Type 1} → statement M
@@ -112,7 +112,7 @@ run-spec =
     returns
     turn-requires
     is-bad-requires
-    add-t16
+    add-t17
     same-length-2
     returns-2
     after-visit-requires
