@@ -4,6 +4,7 @@ use mathlib.Core.Path.{_≡_}
 use mathlib.Core.Bool.{Bool, true, false, cond}
 use mathlib.Core.List.{List}
 use mathlib.Core.Option.{Option, none, some}
+use lib.Dec.{eqb}
 use lib.Ieee.{Float}
 use Rattle.lists.specs.Ring.{wrapped}
 use Rattle.math.specs.declared.scalars.Scalar.{Scalar}
@@ -21,7 +22,7 @@ use Rattle.geometry.specs.declared.subdivide.Search.{Search}
 
 -- What was reported so far.
 unfoldable pub foundOf : Reports → Option Scalar
-foundOf f = cond (f .any) (some (f .all)) none
+foundOf f = cond (eqb (f .any) 0) none (some (f .all))
 
 -- What a visit made of its piece, where l is the memory it left, and the slots at a and b hold what it hands on.
 unfoldable pub outcomeOf : Shape → List Float → ℕ → ℕ → Outcome → Visit

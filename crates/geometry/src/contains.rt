@@ -43,10 +43,10 @@ fn completed(f: Reports, visited: usize) -> Found
     ensures { λ r. ⌜ r ≡ complete (foundOf f) visited ⌝ }
 {
     let t = f.all;
-    if f.any {
-        return Found::Enclosed(plain(t.lo), plain(t.hi), visited);
+    if f.any == 0 {
+        return Found::Nothing(visited);
     }
-    Found::Nothing(visited)
+    Found::Enclosed(plain(t.lo), plain(t.hi), visited)
 }
 
 // ---- the search
@@ -85,7 +85,7 @@ fn run(work: &mut [f64], s: Shape, point_box: &[f64], resolution: f64, nodes: us
         count: 1,
         visited: 0,
         found: Reports {
-            any: false,
+            any: 0,
             all: Scalar::ZERO,
         },
     };

@@ -23,8 +23,8 @@ pub enum Outcome {
 
 // The union of what was reported so far.
 pub struct Reports {
-    // Something was.
-    pub any: bool,
+    // 0 where nothing was, else 1. (A bool would leave bytes unused, which are copied one by one.)
+    pub any: usize,
     // All of it lies here.
     pub all: Scalar,
 }
@@ -49,13 +49,13 @@ fn joined(f: Reports, t: Scalar) -> Reports
     ensures { λ r. ⌜ foundOf r ≡ some (joined (foundOf f) t) ⌝ }
 {
     let s = f.all;
-    if f.any {
-        return Reports {
-            any: true,
-            all: s.union(t),
-        };
+    if f.any == 0 {
+        return Reports { any: 1, all: t };
     }
-    Reports { any: true, all: t }
+    Reports {
+        any: 1,
+        all: s.union(t),
+    }
 }
 
 // How many pieces a visit hands on.

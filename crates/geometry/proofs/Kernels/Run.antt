@@ -68,7 +68,7 @@ module _ (see : Piece → Visit) (nodes : ℕ) (s : Shape) (l₀ : List Float) w
 
   -- The start.
   abbrev pub origin : Search
-  origin = record { head = 0; count = 1; visited = 0; found = record { any = false; all = record { lo = ofBits binary64 0; hi = ofBits binary64 0 } } }
+  origin = record { head = 0; count = 1; visited = 0; found = record { any = 0; all = record { lo = ofBits binary64 0; hi = ofBits binary64 0 } } }
 
   pub going-start : Ring s l₀ (nodes + 3) 0 1 → Going see nodes s l₀ l₀ origin
   going-start r = record {

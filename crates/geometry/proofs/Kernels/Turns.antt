@@ -7,6 +7,8 @@ use Prim.Native.Nat.{ℕ, zero, suc, _+_, _-_, _*_, _≤_, _<_}
 use native.Mathlib.Nat.{add-zero}
 use native.Mathlib.Omega.{arith}
 use lib.ListN.{length, drop}
+use lib.Dec.{eqb}
+use borrow.Author.Tests.{eq-eqb, ne-eqb}
 use lib.Ieee.{Float}
 use Rattle.lists.specs.Ring.{wrapped}
 use Rattle.math.specs.declared.scalars.Scalar.{Scalar}
@@ -27,13 +29,13 @@ use Rattle.geometry.proofs.Memory.Apart.{other}
 use Rattle.geometry.proofs.Memory.Ring.{ring-inside, head-held, head-apart, ring-apart, waiting-pop, ring-pop, next-base, push-none, push-one, push-two, push-behind, ring-none, ring-one, ring-two}
 
 -- ---- what was reported so far
-pub found-some : (f : Reports) → f .any ≡ true → foundOf f ≡ some (f .all)
+pub found-none : (f : Reports) → f .any ≡ 0 → foundOf f ≡ none
 unfolding foundOf
-found-some f e = sym (pick-yes (f .any) (some (f .all)) none e)
+found-none f e = sym (pick-yes (eqb (f .any) 0) none (some (f .all)) (eq-eqb (f .any) 0 e))
 
-pub found-none : (f : Reports) → f .any ≡ false → foundOf f ≡ none
+pub found-some : (f : Reports) → (f .any ≡ 0 → ⊥) → foundOf f ≡ some (f .all)
 unfolding foundOf
-found-none f e = sym (pick-no (f .any) (some (f .all)) none e)
+found-some f e = sym (pick-no (eqb (f .any) 0) none (some (f .all)) (ne-eqb (f .any) 0 e))
 
 pub handed-few : (o : Outcome) → handed o ≤ 2
 unfolding handed

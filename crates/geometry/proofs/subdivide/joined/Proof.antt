@@ -1,4 +1,4 @@
--- `joined` equals its definition: something was reported before, or nothing.
+-- `joined` equals its definition: nothing was reported before, or something.
 use mathlib.Core.Path.{sym, ap, _∙_}
 use mathlib.Core.Option.{some}
 use Rattle.search.specs.Subdivide.{joined}
@@ -8,21 +8,19 @@ use borrow.Author.Needs.{needs}
 use Rattle.geometry.proofs.subdivide.joined.Statement.{statement}
 use Rattle.geometry.proofs.subdivide.joined.Tie as tie
 
-union-requires : tie.Need-union-requires
-union-requires c κs = search needs
-
 returns : tie.Need-returns
 unfolding foundOf joined
-returns c =
-    let n = c .before in
-    let a = n .before .before .args in
-    ap some (c .union .ensures) ∙ ap (λ f. some (joined f (a .t))) (sym (found-some (a .f) (n .if1 .taken)))
+returns c = let a = c .before .before .before .args in ap (λ f. some (joined f (a .t))) (sym (found-none (a .f) (c .if1 .taken)))
+
+union-requires : tie.Need-union-requires
+union-requires c κs = search needs
 
 returns-2 : tie.Need-returns-2
 unfolding foundOf joined
 returns-2 c =
-    let a = c .before .before .args in
-    ap (λ f. some (joined f (a .t))) (sym (found-none (a .f) (c .if1 .left)))
+    let n = c .before in
+    let a = n .before .before .before .args in
+    ap some (c .union .ensures) ∙ ap (λ f. some (joined f (a .t))) (sym (found-some (a .f) (n .if1 .left)))
 
 pub joined-spec : {M : Type 1} → statement M
-joined-spec = tie.close (tie.spec union-requires returns returns-2)
+joined-spec = tie.close (tie.spec returns union-requires returns-2)
