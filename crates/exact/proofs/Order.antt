@@ -43,6 +43,9 @@ lt→le {x} {y} h = le-by (nn-neg (x -ℚ y) (λ k. lt→not-le h (le-in k))) (b
 pub le-or-lt : (x y : ℚ) → (x ≤ℚ y) ⊎ (y <ℚ x)
 le-or-lt x y = elim (le-dec x y) [ yes h ↦ inl h | no n ↦ inr (not-le→lt n) ]
 
+pub lt-or-le : (x y : ℚ) → (x <ℚ y) ⊎ (y ≤ℚ x)
+lt-or-le x y = elim (le-dec y x) [ yes h ↦ inr h | no n ↦ inl (not-le→lt n) ]
+
 pub lt-le-trans : {x y z : ℚ} → x <ℚ y → y ≤ℚ z → x <ℚ z
 lt-le-trans h k = not-le→lt (λ m. lt→not-le h (le-trans k m))
 

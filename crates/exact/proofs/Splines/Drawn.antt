@@ -1,6 +1,5 @@
 -- The curve as document 01 draws it and the rounds with the index shifted are the same, and the curve has exactly one value at each parameter of its domain.
 use mathlib.Core.Path.{_≡_, refl, sym, _∙_, ap, subst}
-use mathlib.Core.Logic.{_⊎_, inl, inr}
 use Prim.Native.Nat.{ℕ, zero, suc, pred, _+_, _-_, _≤_, _<_}
 use native.Mathlib.Nat.{lt-of-not-le, sub-add-cancel, le-antisymm}
 use native.Mathlib.Decide.{decLe}
@@ -9,7 +8,7 @@ use Rattle.exact.specs.Rational.{ℚ, _≤ℚ_, _<ℚ_, lt→not-le}
 use Rattle.exact.specs.Spline.{drawn, Domain, HalfOpen, Traced, round, boor, curve, Sorted, right, Fit, Runs, On}
 use Rattle.exact.proofs.Order.{le-trans, le-or-lt, lt-le-trans, le-lt-trans}
 use Rattle.exact.proofs.Splines.Boor.{lerp-cong}
-use Rattle.exact.proofs.Splines.On.{runs-on}
+use Rattle.exact.proofs.Splines.On.{Crossing, crossing, runs-on}
 
 -- ---- the two ways to write the rounds
 
@@ -53,18 +52,8 @@ span-one p n u t k l srt h i = le-antisymm (upto k l h i) (upto l k i h)
 
 -- there is one for each parameter of the domain
 pub span-some : (p n : ℕ) (u : ℕ → ℚ) (t : ℚ) → p ≤ n → Domain p n u t → (k : ℕ) × HalfOpen p n u t k
-span-some p n u t o d = find (n - p) p (omega arith) (omega arith) (d .from)
-  where
-    find : (f k : ℕ) → f + k ≡ n → p ≤ k → u k ≤ℚ t → (k : ℕ) × HalfOpen p n u t k
-    find zero k e h m = absurd (lt→not-le (d .upto) (subst (λ (z : ℕ). u z ≤ℚ t) (ix k e) m))
-      where
-        ix : (k : ℕ) → zero + k ≡ n → k ≡ n
-        ix k e = omega arith
-    find (suc f) k e h m = go (find f (suc k) (omega arith) (omega arith)) (le-or-lt (u (suc k)) t)
-      where
-        go : (u (suc k) ≤ℚ t → (k : ℕ) × HalfOpen p n u t k) → (u (suc k) ≤ℚ t) ⊎ (t <ℚ u (suc k)) → (k : ℕ) × HalfOpen p n u t k
-        go rec (inl a) = rec a
-        go rec (inr b) = (k, record { first = h; last = omega arith; from = m; upto = b })
+span-some p n u t o d = let c : Crossing (λ k. u k ≤ℚ t) (λ k. t <ℚ u k) p n = crossing _ _ (λ k. le-or-lt (u k) t) p n o (d .from) (lt→not-le (d .upto)) in
+    (c .at, record { first = c .first; last = c .last; from = c .here; upto = c .next })
 
 -- the divisor of round r at point i is above 0
 pub divisor-pos : (p n : ℕ) (u : ℕ → ℚ) (t : ℚ) (k : ℕ) → Sorted u (n + p) → HalfOpen p n u t k → (r i : ℕ) → 1 ≤ r → r ≤ p → k + r ≤ i + p → i ≤ k → u i <ℚ u (i + p + 1 - r)

@@ -9,6 +9,31 @@ use Rattle.exact.specs.Spline.{round, boor, curve, Sorted, Segment, Side
 use Rattle.exact.proofs.Order.{le-refl, le-trans, lt→le, le-or-lt, lt-le-trans, le-lt-trans}
 use Rattle.exact.proofs.Splines.Boor.{lerp-cong}
 
+-- ---- a search among places
+
+-- A place from a to b - 1 at which A holds, and B at the next.
+pub record Crossing (A B : ℕ → Type 0) (a b : ℕ) : Type 0 where
+  pub at : ℕ
+  pub first : a ≤ at
+  pub last : at < b
+  pub here : A at
+  pub next : B (suc at)
+
+-- There is one where A holds at a and not at b, and each place has one of the two.
+pub crossing : (A B : ℕ → Type 0) → ((k : ℕ) → A k ⊎ B k) → (a b : ℕ) → a ≤ b → A a → (A b → ⊥) → Crossing A B a b
+crossing A B either a b o h off = climb (b - a) a (omega arith) h
+  where
+    climb : (f a : ℕ) → f + a ≡ b → A a → Crossing A B a b
+    climb zero a e h = absurd (off (subst A (ix a e) h))
+      where
+        ix : (a : ℕ) → zero + a ≡ b → a ≡ b
+        ix a e = omega arith
+    climb (suc f) a e h = go (climb f (suc a) (omega arith)) (either (suc a))
+      where
+        go : (A (suc a) → Crossing A B (suc a) b) → A (suc a) ⊎ B (suc a) → Crossing A B a b
+        go rec (inl m) = let c : Crossing A B (suc a) b = rec m in record { at = c .at; first = omega (arith, c .first); last = c .last; here = c .here; next = c .next }
+        go rec (inr m) = record { at = a; first = omega arith; last = omega arith; here = h; next = m }
+
 -- ---- spans and their sides
 -- a span of any side is a closed one
 pub fit-shut : (s : Side) (a b t : ℚ) → Fit s a b t → Shut a b t
@@ -43,17 +68,6 @@ fit-split right a b t x ax xb h = ⊎-elim
 unfoldable pub runs-on : (s : Side) (p n : ℕ) (u : ℕ → ℚ) (c : ℕ → ℕ → ℚ) (t : ℚ) (y : ℕ → ℚ) → Runs s p n u c t y → On p n u c t y
 unfolding Fit
 runs-on s p n u c t y w = record { place = w .place; inside = w .inside; fits = fit-shut s _ _ t (w .fits); there = w .there }
-
--- from document 01's span: knot k at most t, t below knot k + 1
-pub half-open : (p n k : ℕ) (u : ℕ → ℚ) (c : ℕ → ℕ → ℚ) (t : ℚ) (y : ℕ → ℚ) (j : ℕ) → j + p ≡ k → k < n → u k ≤ℚ t → t <ℚ u (suc k)
-    → ((a : ℕ) → curve p u (c a) j t ≡ y a) → Runs right p n u c t y
-unfolding Fit
-half-open p n k u c t y j e h a b v = record {
-  place = j;
-  inside = omega arith;
-  fits = fit-cast right t (ap u (sym e)) (ap (λ (z : ℕ). u (suc z)) (sym e)) (record { from = a; upto = b });
-  there = v;
-}
 
 -- ---- the order of the knots
 pub sorted-steps : (u : ℕ → ℚ) (N : ℕ) → ((i : ℕ) → i < N → u i ≤ℚ u (suc i)) → Sorted u N

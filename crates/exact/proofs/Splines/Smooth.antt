@@ -11,8 +11,9 @@ use Rattle.exact.specs.Rational.{ℚ, _*ℚ_, -ℚ_, _-ℚ_, 1ℚ, inv�
 use Rattle.exact.specs.Spline.{Traced, round, boor, curve, Sorted, left, right, Shut, Fit, Runs, On}
 use Rattle.exact.specs.Cut.{Thin}
 use Rattle.exact.proofs.Field.{ℚring, *ℚ-comm}
-use Rattle.exact.proofs.Order.{le-refl, le-trans, le-antisym, le-or-lt, lt-le-trans, le-lt-trans, sub-inv}
+use Rattle.exact.proofs.Order.{le-refl, le-trans, le-antisym, le-or-lt, lt-or-le, lt-le-trans, le-lt-trans, sub-inv}
 use Rattle.exact.proofs.Splines.Boor.{lt-cast}
+use Rattle.exact.proofs.Splines.On.{Crossing, crossing}
 use Rattle.exact.proofs.Splines.Drawn.{runs-traced}
 
 -- ---- at a knot that is the parameter itself a round picks one of the two values
@@ -123,93 +124,59 @@ module _ (p n : ℕ) (u : ℕ → ℚ) (srt : Sorted u (n + p)) (thin : Thin p n
           ix : p < m - l → suc (l + p) + p ≤ m + p
           ix k = omega arith
 
-  -- the span that ends at t, looked for downwards, and the span that begins at t, looked for upwards
-  record Ends (d : ℕ) : Type 0 where
-    at : ℕ
-    less : at < d
-    below : u (at + p) <ℚ t
-    reach : t ≤ℚ u (suc (at + p))
+  next-knot : (j : ℕ) → suc j + p ≡ suc (j + p)
+  next-knot j = omega arith
 
-  find-end : u p <ℚ t → (d : ℕ) → t ≤ℚ u (d + p) → Ends d
-  find-end h zero k = absurd (lt→not-le h (subst (λ (z : ℕ). t ≤ℚ u z) (ix p) k))
-    where
-      ix : (p : ℕ) → zero + p ≡ p
-      ix p = omega arith
-  find-end h (suc d) k = go (find-end h d) (le-or-lt t (u (d + p)))
-    where
-      ix : (d : ℕ) → suc d + p ≡ suc (d + p)
-      ix d = omega arith
-
-      go : (t ≤ℚ u (d + p) → Ends d) → (t ≤ℚ u (d + p)) ⊎ (u (d + p) <ℚ t) → Ends (suc d)
-      go rec (inl m) = let e : Ends d = rec m in record { at = e .at; less = more (e .at) (e .less); below = e .below; reach = e .reach }
-        where
-          more : (a : ℕ) → a < d → a < suc d
-          more a h = omega arith
-      go rec (inr m) = record { at = d; less = omega arith; below = m; reach = subst (λ (z : ℕ). t ≤ℚ u z) (ix d) k }
-
-  record Begins (d : ℕ) : Type 0 where
-    at : ℕ
-    more : d ≤ at
-    fits : at + p < n
-    reach : u (at + p) ≤ℚ t
-    above : t <ℚ u (suc (at + p))
-
-  find-begin : t <ℚ u n → (f d : ℕ) → f + d + p ≡ n → u (d + p) ≤ℚ t → Begins d
-  find-begin h zero d e k = absurd (lt→not-le h (subst (λ (z : ℕ). u z ≤ℚ t) (ix d e) k))
-    where
-      ix : (d : ℕ) → zero + d + p ≡ n → d + p ≡ n
-      ix d e = omega arith
-  find-begin h (suc f) d e k = go (find-begin h f (suc d) (omega arith)) (le-or-lt (u (suc (d + p))) t)
-    where
-      ix : suc (d + p) ≡ suc d + p
-      ix = omega arith
-
-      go : (u (suc d + p) ≤ℚ t → Begins (suc d)) → (u (suc (d + p)) ≤ℚ t) ⊎ (t <ℚ u (suc (d + p))) → Begins d
-      go rec (inl m) = let b : Begins (suc d) = rec (subst (λ (z : ℕ). u z ≤ℚ t) ix m) in record { at = b .at; more = less (b .at) (b .more); fits = b .fits; reach = b .reach; above = b .above }
-        where
-          less : (a : ℕ) → suc d ≤ a → d ≤ a
-          less a h = omega arith
-      go rec (inr m) = record { at = d; more = omega arith; fits = omega arith; reach = k; above = m }
-
-  -- inside the domain a point of the curve is one from the left and one from the right
+  -- inside the domain a point of the curve is one from the left: on the span that ends at t or has it inside
   pub from-left : (c : ℕ → ℕ → ℚ) (y : ℕ → ℚ) → u p <ℚ t → t <ℚ u n → On p n u c t y → Runs left p n u c t y
   unfolding Fit
   from-left c y h k w = ⊎-elim at-knot (λ (m : u (w .place + p) <ℚ t). record { place = w .place; inside = w .inside; fits = record { from = m; upto = w .fits .upto }; there = w .there }) (le-or-lt t (u (w .place + p)))
     where
-      at-knot : t ≤ℚ u (w .place + p) → Runs left p n u c t y
-      at-knot m = go (find-end h (w .place) m)
+      Ends : Type 0
+      Ends = Crossing (λ j. u (j + p) <ℚ t) (λ j. t ≤ℚ u (j + p)) 0 (w .place)
+
+      go : Ends → Runs left p n u c t y
+      go e = record {
+        place = e .at;
+        inside = omega (arith, e .last, w .inside);
+        fits = record { from = e .here; upto = reach };
+        there = λ a. agree (e .at) (w .place) (e .last) (w .inside) (lt-le-trans (e .here) reach) reach (w .fits .from) k (c a) ∙ w .there a;
+      }
         where
-          lt : (a b : ℕ) → a < b → b + p < n → a + p < n
-          lt a b h k = omega arith
+          reach : t ≤ℚ u (suc (e .at + p))
+          reach = subst (λ (z : ℕ). t ≤ℚ u z) (next-knot (e .at)) (e .next)
 
-          go : Ends (w .place) → Runs left p n u c t y
-          go e = record {
-            place = e .at;
-            inside = lt (e .at) (w .place) (e .less) (w .inside);
-            fits = record { from = e .below; upto = e .reach };
-            there = λ a. agree (e .at) (w .place) (e .less) (w .inside) (lt-le-trans (e .below) (e .reach)) (e .reach) (w .fits .from) k (c a) ∙ w .there a;
-          }
+      at-knot : t ≤ℚ u (w .place + p) → Runs left p n u c t y
+      at-knot m = go (crossing _ _ (λ j. lt-or-le (u (j + p)) t) 0 (w .place) (omega arith) (subst (λ (z : ℕ). u z <ℚ t) ix h) (λ o. lt→not-le o m))
+        where
+          ix : p ≡ 0 + p
+          ix = omega arith
 
+  -- and before the domain's end one from the right: on the span that begins at t or has it inside
   pub from-right : (c : ℕ → ℕ → ℚ) (y : ℕ → ℚ) → t <ℚ u n → On p n u c t y → Runs right p n u c t y
   unfolding Fit
   from-right c y k w = ⊎-elim at-knot (λ (m : t <ℚ u (suc (w .place + p))). record { place = w .place; inside = w .inside; fits = record { from = w .fits .from; upto = m }; there = w .there }) (le-or-lt (u (suc (w .place + p))) t)
     where
-      ix : suc (w .place + p) ≡ suc (w .place) + p
-      ix = omega arith
+      Begins : Type 0
+      Begins = Crossing (λ j. u (j + p) ≤ℚ t) (λ j. t <ℚ u (j + p)) (suc (w .place)) (n - p)
 
-      fuel : (m : ℕ) → m + p < n → n - (suc m + p) + suc m + p ≡ n
-      fuel m h = omega arith
-
-      go : Begins (suc (w .place)) → Runs right p n u c t y
+      go : Begins → Runs right p n u c t y
       go e = record {
         place = e .at;
-        inside = e .fits;
-        fits = record { from = e .reach; upto = e .above };
-        there = λ a. sym (agree (w .place) (e .at) (e .more) (e .fits) (w .fits .wide) (w .fits .upto) (e .reach) k (c a)) ∙ w .there a;
+        inside = inside;
+        fits = record { from = e .here; upto = subst (λ (z : ℕ). t <ℚ u z) (next-knot (e .at)) (e .next) };
+        there = λ a. sym (agree (w .place) (e .at) (e .first) inside (w .fits .wide) (w .fits .upto) (e .here) k (c a)) ∙ w .there a;
       }
+        where
+          inside : e .at + p < n
+          inside = omega (arith, e .last)
 
       at-knot : u (suc (w .place + p)) ≤ℚ t → Runs right p n u c t y
-      at-knot m = go (find-begin k (n - (suc (w .place) + p)) (suc (w .place)) (fuel (w .place) (w .inside)) (subst (λ (z : ℕ). u z ≤ℚ t) ix m))
+      at-knot m = go (crossing _ _ (λ j. le-or-lt (u (j + p)) t) (suc (w .place)) (n - p) (omega (arith, w .inside)) (subst (λ (z : ℕ). u z ≤ℚ t) (sym (next-knot (w .place))) m)
+          (λ o. lt→not-le k (subst (λ (z : ℕ). u z ≤ℚ t) ix o)))
+        where
+          ix : n - p + p ≡ n
+          ix = omega (arith, w .inside)
 
   -- the value at t does not depend on the span
   after-one : (c : ℕ → ℚ) (l m : ℕ) → l < m → m + p < n → Shut (u (l + p)) (u (suc (l + p))) t → Shut (u (m + p)) (u (suc (m + p))) t → curve p u c l t ≡ curve p u c m t
