@@ -21,7 +21,7 @@ extern "C" {
 
 /* The kinds of an answer, in counts[0]. */
 enum {
-    PUHLWAZO_NONE = 0,     /* the path meets the box nowhere */
+    PUHLWAZO_NONE = 0,     /* the path meets the box nowhere: at no parameter from knots[degree] to knots[count], both included */
     PUHLWAZO_ENCLOSED = 1, /* every parameter at which it does lies between bounds[0] and bounds[1], these included */
     PUHLWAZO_SPENT = 2,    /* the nodes were used up with counts[2] pieces left: nothing is known */
     PUHLWAZO_REFUSED = 3   /* the call is refused: by the number that the function gives */

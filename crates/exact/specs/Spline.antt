@@ -12,22 +12,36 @@ unfoldable pub drawn : (ℕ → ℚ) → ℕ → ℚ → (ℕ → ℚ) → ℕ �
 drawn u p t c zero i = c i
 drawn u p t c (suc r) i = lerp (ratio t (u i) (u (i + p + 1 - suc r))) (drawn u p t c r (pred i)) (drawn u p t c r i)
 
--- The domain: from knot p to knot n, the start included and the end excluded.
+-- The domain: from knot p to knot n, both included.
 pub record Domain (p n : ℕ) (u : ℕ → ℚ) (t : ℚ) : Type 0 where
   pub from : u p ≤ℚ t
-  pub upto : t <ℚ u n
+  pub upto : t ≤ℚ u n
 
--- The span of t is number k: k is from p to n - 1, knot k is at most t, and t is below knot k + 1.
+-- Before the domain's end the span of t is number k: k is from p to n - 1, knot k is at most t, and t is below knot k + 1.
 pub record HalfOpen (p n : ℕ) (u : ℕ → ℚ) (t : ℚ) (k : ℕ) : Type 0 where
   pub first : p ≤ k
   pub last : k < n
   pub from : u k ≤ℚ t
   pub upto : t <ℚ u (suc k)
 
+-- At the domain's end it is the last span that isn't empty, closed: k is from p to n - 1, knot k is below knot k + 1, and knot k + 1 and t are both knot n.
+pub record Closing (p n : ℕ) (u : ℕ → ℚ) (t : ℚ) (k : ℕ) : Type 0 where
+  pub first : p ≤ k
+  pub last : k < n
+  pub wide : u k <ℚ u (suc k)
+  pub stop : u (suc k) ≡ u n
+  pub here : t ≡ u n
+
+-- The span of t is number k. "The end of the domain now belongs to it" (the curve on paper), "with the last span that isn't empty closed as in The NURBS Book,
+-- for degree 0 too." (document 02, E3)
+pub data Span (p n : ℕ) (u : ℕ → ℚ) (t : ℚ) (k : ℕ) : Type 0 where
+  before : HalfOpen p n u t k → Span p n u t k
+  closing : Closing p n u t k → Span p n u t k
+
 -- The curve on paper has the value y a at t on each axis a, where c a are the axis's control values: it is point k after p rounds, with k the span of t.
 pub record Traced (p n : ℕ) (u : ℕ → ℚ) (c : ℕ → ℕ → ℚ) (t : ℚ) (y : ℕ → ℚ) : Type 0 where
   pub k : ℕ
-  pub span : HalfOpen p n u t k
+  pub span : Span p n u t k
   pub there : (a : ℕ) → drawn u p t (c a) p k ≡ y a
 
 -- ---- the same with the index shifted: what stood at i after r rounds stands at j = i - r, and nothing is subtracted
@@ -85,14 +99,13 @@ Fit left = Left
 Fit right = Right
 
 -- The curve with the control values c a has the value y a at t on each axis a, on some span that holds t in the sense of the side. On the side `right` this is
--- `Traced`.
+-- `Traced` before the domain's end.
 pub record Runs (s : Side) (p n : ℕ) (u : ℕ → ℚ) (c : ℕ → ℕ → ℚ) (t : ℚ) (y : ℕ → ℚ) : Type 0 where
   pub place : ℕ
   pub inside : place + p < n
   pub fits : Fit s (u (place + p)) (u (suc (place + p))) t
   pub there : (a : ℕ) → curve p u (c a) place t ≡ y a
 
--- The curve passes y at t, its spans closed at both ends. Every point of the curve on paper is one of these, and this form has the domain's end too, which
--- document 02's E3 will need.
+-- The curve passes y at t, its spans closed at both ends. Every point of the curve on paper is one of these.
 abbrev pub On : ℕ → ℕ → (ℕ → ℚ) → (ℕ → ℕ → ℚ) → ℚ → (ℕ → ℚ) → Type 0
 On = Runs shut

@@ -1,4 +1,4 @@
--- DEMAND 3: `enclosure` for every arithmetic that encloses, and `geop-enclosure` for the Rust's. Assumes nothing.
+-- DEMAND 3: `enclosure` for every arithmetic that encloses, and `geop-enclosure` for the Rust's. Of the curve on paper: `one-span`. Assumes nothing.
 use mathlib.Core.Path.{_≡_, refl, sym, ap, _∙_, subst}
 use mathlib.Core.Logic.{inl}
 use mathlib.Core.List.{List, [], _∷_}
@@ -10,11 +10,11 @@ use lib.Dec.{T, eqb, eqb→eq}
 use lib.IntN.{pos}
 use lib.ListN.{length, getD}
 use lib.Ieee.{Float, nan, inf, fin, lt, le, eq, fits}
-use Rattle.exact.specs.Rational.{ℚ, _≤ℚ_}
-use Rattle.exact.specs.Spline.{On}
+use Rattle.exact.specs.Rational.{ℚ, _≤ℚ_, _<ℚ_}
+use Rattle.exact.specs.Spline.{Sorted, On}
 use Rattle.exact.proofs.Order.{le-refl, lt→le}
 use Rattle.exact.proofs.Splines.Accept.{good-counted}
-use Rattle.exact.proofs.Splines.Drawn.{traced-on}
+use Rattle.exact.proofs.Splines.Drawn.{span-domain, span-one, span-some, traced-on}
 use Rattle.lists.proofs.Tab.{length-tab, getD-tab}
 use Rattle.math.specs.declared.scalars.Scalar.{Scalar}
 use Rattle.math.specs.Scalars.{Arithmetic, geop, absent, zeroF, unionS}
@@ -32,7 +32,7 @@ use Rattle.search.specs.Subdivide.{Question, dropped, plain, Step, going
 use Rattle.search.specs.Contains.{clipped, visit, begun, couldContain}
 use Rattle.search.specs.Layout.{scalarAt, pointAt, pointsOf}
 use Rattle.search.specs.Call.{Call, curve, boxOf, question, refusal, searched, searchedBy}
-use Rattle.search.specs.Enclosure.{HitAt, Doubles, Accepted, Completes, BoundsHold, NotOutside, BoundsInDomain, NoNegativeZero, BoundsPlain, Enclosure, PieceOf, Every, OnlyWeights, PiecesKept, Pieces}
+use Rattle.search.specs.Enclosure.{OneSpan, HitAt, Doubles, Accepted, Completes, BoundsHold, NotOutside, BoundsInDomain, NoNegativeZero, BoundsPlain, Enclosure, PieceOf, Every, OnlyWeights, PiecesKept, Pieces}
 use Rattle.search.specs.declared.contains.Found.{Found}
 use Rattle.search.specs.declared.contains.Found.the-variants.{Nothing, Enclosed, Spent, Refused}
 use Rattle.search.proofs.Sound.Base.{values, Known, Knots, Carries, Lined}
@@ -115,8 +115,14 @@ module _ (c : Call) (d : Doubles c) (acc : Accepted c) where
   final : Known (end (curve c))
   final = subst Known (sym last-is) (ch .known n (omega (arith, ch .long, ch .room)))
 
+  rising : Sorted (values (c .knots)) (c .count + c .degree)
+  rising = sorted p n (c .knots) (ch .long) (ch .room) (ch .known) (ch .sound-knots)
+
+  nonempty : values (c .knots) (c .degree) <ℚ values (c .knots) (c .count)
+  nonempty = wide p n (c .knots) (ch .long) (ch .room) (ch .known) (ch .sound-knots)
+
   whole-lined : Lined (c .degree) (length (curve c .points)) (c .knots)
-  whole-lined = subst (λ (m : ℕ). Lined p m (c .knots)) (sym (points-long c)) (record { long = ch .long; known = ch .known; sorted = sorted p n (c .knots) (ch .long) (ch .room) (ch .known) (ch .sound-knots); room = ch .room })
+  whole-lined = subst (λ (m : ℕ). Lined p m (c .knots)) (sym (points-long c)) (record { long = ch .long; known = ch .known; sorted = rising; room = ch .room })
 
   pub whole-ok : 1 ≤ c .degree → Ok (c .dim) (c .degree) (c .count) (value (start (c .degree) (curve c))) (value (end (curve c))) (curve c)
   whole-ok one = record {
@@ -125,6 +131,14 @@ module _ (c : Call) (d : Doubles c) (acc : Accepted c) where
     from = le-refl (value (start p (curve c)));
     upto = le-refl (value (end (curve c)));
     weights = ch .weights;
+  }
+
+  -- ---- each parameter of the domain has exactly one span, and no other has any
+  pub one-span : OneSpan c
+  one-span = record {
+    some = λ t. span-some p n (values (c .knots)) t rising (omega (arith, ch .room)) nonempty;
+    one = λ t. span-one p n (values (c .knots)) t rising;
+    domain = λ t. span-domain p n (values (c .knots)) t rising;
   }
 
   -- ---- an exact hit is one of the piece that the search begins with
@@ -165,7 +179,7 @@ module _ (c : Call) (d : Doubles c) (acc : Accepted c) where
         ordered : T (le (start (c .degree) (curve c)) (end (curve c)))
         ordered =
             le-known (start p (curve c)) (end (curve c)) first final
-            (subst (λ (x : Float). value (start p (curve c)) ≤ℚ value x) (sym last-is) (lt→le (wide p n (c .knots) (ch .long) (ch .room) (ch .known) (ch .sound-knots))))
+            (subst (λ (x : Float). value (start p (curve c)) ≤ℚ value x) (sym last-is) (lt→le nonempty))
 
     flat-fine : c .degree ≡ 0 → (s : Piece) → s ≡ curve c → Fine (Inner (value (start (c .degree) (curve c))) (value (end (curve c)))) (λ s. s ≡ curve c) (visit ar (question c) s)
     unfolding visit

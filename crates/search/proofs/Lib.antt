@@ -6,3 +6,4 @@ pub mod Pause
 pub mod Counts
 pub mod Sound
 pub mod Enclosure
+pub mod Witness

@@ -50,7 +50,7 @@ abbrev floats : List ℕ → List Float
 floats l = map (λ b. ofBits binary64 b) l
 
 -- The call of a text; the program lends 8,192 numbers.
-abbrev callOf : Text → Call
+abbrev pub callOf : Text → Call
 callOf t = record {
   dim = t .dim;
   degree = t .degree;

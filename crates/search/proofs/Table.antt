@@ -8,7 +8,7 @@ use Rattle.lists.specs.Lists.{all}
 use Rattle.search.proofs.Rows.{Text, Row, prints, sums, products, roots, right}
 
 -- The text of P1, a single point (3, 5) of degree 0, with so many nodes and a box at this abscissa.
-abbrev single : ℕ → ℕ → Text
+abbrev pub single : ℕ → ℕ → Text
 single nodes x = record {
   dim = 2;
   degree = 0;

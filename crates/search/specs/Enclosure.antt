@@ -7,7 +7,7 @@ use lib.Dec.{T}
 use lib.ListN.{length}
 use lib.Ieee.{Float, le, eq}
 use Rattle.exact.specs.Rational.{ℚ, _*ℚ_, invℚ}
-use Rattle.exact.specs.Spline.{Traced}
+use Rattle.exact.specs.Spline.{Domain, Span, Traced}
 use Rattle.exact.specs.Cut.{Counted}
 use Rattle.math.specs.Scalars.{Arithmetic, zeroF}
 use Rattle.math.specs.Values.{value, Holds}
@@ -25,6 +25,20 @@ use Rattle.search.specs.declared.contains.Found.the-variants.{Nothing, E
 abbrev pub knotValues : List Float → ℕ → ℚ
 knotValues knots i = value (knot knots i)
 
+-- The parameter t lies in the domain of the curve, from the knot numbered degree to the knot numbered count, both included.
+abbrev pub DomainOf : Call → ℚ → Type 0
+DomainOf c = Domain (c .degree) (c .count) (knotValues (c .knots))
+
+-- The span of t is number k.
+abbrev pub SpanOf : Call → ℚ → ℕ → Type 0
+SpanOf c = Span (c .degree) (c .count) (knotValues (c .knots))
+
+-- "There is exactly one": every parameter of the domain has a span, it has only one, and no other parameter has any. So it is for every accepted call (`one-span`).
+pub record OneSpan (c : Call) : Type 0 where
+  pub some : (t : ℚ) → DomainOf c t → (k : ℕ) × SpanOf c t k
+  pub one : (t : ℚ) (k l : ℕ) → SpanOf c t k → SpanOf c t l → k ≡ l
+  pub domain : (t : ℚ) (k : ℕ) → SpanOf c t k → DomainOf c t
+
 -- "Exact control values are one fraction in each of the D intervals of every point": C k i is in interval k of point i. "Bounds count as inside."
 pub record ControlValues (c : Call) (C : ℕ → ℕ → ℚ) : Type 0 where
   pub inside : (k i : ℕ) → k < suc (c .dim) → i < c .count → Holds (scalarAt (c .points) (suc (c .dim) * i + k)) (C k i)
@@ -33,8 +47,8 @@ pub record ControlValues (c : Call) (C : ℕ → ℕ → ℚ) : Type 0 where
 pub record PointInBox (c : Call) (x : ℕ → ℚ) : Type 0 where
   pub inside : (k : ℕ) → k < c .dim → Holds (scalarAt (c .box) k) (x k)
 
--- "The exact curve at t is a given point when all dim quotients equal its values." The parameter t is a fraction of the domain, its start included and its end excluded, and the
--- rounds from the exact control values on end in `last`, whose number dim is the weight.
+-- "The exact curve at t is a given point when all dim quotients equal its values." The parameter t is a fraction of the domain, both ends included, and the rounds
+-- from the exact control values on end in `last`, whose number dim is the weight.
 pub record Passes (c : Call) (C : ℕ → ℕ → ℚ) (t : ℚ) (x : ℕ → ℚ) : Type 0 where
   pub last : ℕ → ℚ
   pub rounds : Traced (c .degree) (c .count) (knotValues (c .knots)) C t last

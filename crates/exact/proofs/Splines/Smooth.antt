@@ -1,4 +1,5 @@
--- Continuity: at a knot inside the domain that occurs at most degree times, the span on the left and the span on the right have one value.
+-- Continuity: at a knot inside the domain that occurs at most degree times, the span on the left and the span on the right have one value. So the curve with closed
+-- spans is the curve on paper. And where the last knots are one value, that curve ends in its last control point.
 use mathlib.Core.Path.{_≡_, refl, sym, _∙_, ap, subst}
 use mathlib.Core.List.{[], _∷_}
 use mathlib.Core.Logic.{_⊎_, inl, inr, ⊎-elim}
@@ -8,13 +9,13 @@ use native.Mathlib.Decide.{decLe}
 use native.Mathlib.Omega.{arith}
 use Rattle.exact.specs.Ring.{by-rep, by-eq, read}
 use Rattle.exact.specs.Rational.{ℚ, _*ℚ_, -ℚ_, _-ℚ_, 1ℚ, invℚ, lerp, ratio, _≤ℚ_, _<ℚ_, lt→not-le}
-use Rattle.exact.specs.Spline.{Traced, round, boor, curve, Sorted, left, right, Shut, Fit, Runs, On}
+use Rattle.exact.specs.Spline.{closing, Traced, round, boor, curve, Sorted, left, right, Shut, Fit, Runs, On}
 use Rattle.exact.specs.Cut.{Thin}
 use Rattle.exact.proofs.Field.{ℚring, *ℚ-comm}
 use Rattle.exact.proofs.Order.{le-refl, le-trans, le-antisym, le-or-lt, lt-or-le, lt-le-trans, le-lt-trans, sub-inv}
 use Rattle.exact.proofs.Splines.Boor.{lt-cast}
 use Rattle.exact.proofs.Splines.On.{Crossing, crossing}
-use Rattle.exact.proofs.Splines.Drawn.{runs-traced}
+use Rattle.exact.proofs.Splines.Drawn.{drawn-curve, runs-traced, end-traced}
 
 -- ---- at a knot that is the parameter itself a round picks one of the two values
 lerp-at-0 : (t i x y : ℚ) → lerp ((t -ℚ t) *ℚ i) x y ≡ x
@@ -91,6 +92,19 @@ module _ (u : ℕ → ℚ) (p : ℕ) (c : ℕ → ℚ) (t : ℚ) where
 
       far : (s p m i : ℕ) → s ≤ p → s + m + (p - s) < i → m + p < i
       far s p m i h a = omega arith
+
+-- ---- where the knots from number n to n + p - 1 are one value, and knot n - 1 is below it, the curve on paper ends in control point n - 1 (here n is m + p + 1)
+pub clamped-end : (p m : ℕ) (u : ℕ → ℚ) (c : ℕ → ℕ → ℚ) → u (m + p) <ℚ u (suc (m + p)) → ((i : ℕ) → m + p < i → i ≤ m + p + p → u i ≡ u (suc (m + p)))
+    → Traced p (suc (m + p)) u c (u (suc (m + p))) (λ a. c a (m + p))
+unfolding boor
+clamped-end p m u c w e = record {
+  k = m + p;
+  span = closing (record { first = omega arith; last = omega arith; wide = w; stop = refl; here = refl });
+  there = λ a. drawn-curve u p (u (suc (m + p))) (c a) m (m + p) refl ∙ move u p (c a) (u (suc (m + p))) p p 0 m (omega arith) w e ∙ ap (c a) last;
+}
+  where
+    last : p + m ≡ m + p
+    last = omega arith
 
 -- ---- a knot strictly inside the domain occurs at most degree times
 module _ (p n : ℕ) (u : ℕ → ℚ) (srt : Sorted u (n + p)) (thin : Thin p n u) (t : ℚ) where
@@ -202,6 +216,6 @@ module _ (p n : ℕ) (u : ℕ → ℚ) (srt : Sorted u (n + p)) (thin : Thin p n
           go (inl e) = ap (λ (m : ℕ). curve p u (c a) m t) (sym e)
           go (inr h) = sym (after-one (c a) (w .place) (v .place) h (v .inside) (w .fits) (v .fits))
 
-  -- before the domain's end the curve with closed spans is the curve on paper
-  pub on-traced : (c : ℕ → ℕ → ℚ) (y : ℕ → ℚ) → t <ℚ u n → On p n u c t y → Traced p n u c t y
-  on-traced c y k w = runs-traced p n u c t y (from-right c y k w)
+  -- the curve with closed spans is the curve on paper
+  pub on-traced : (c : ℕ → ℕ → ℚ) (y : ℕ → ℚ) → On p n u c t y → Traced p n u c t y
+  on-traced c y w = ⊎-elim (λ (m : t <ℚ u n). runs-traced p n u c t y (from-right c y m w)) (λ (m : u n ≤ℚ t). end-traced p n u c t y srt m w) (lt-or-le t (u n))
