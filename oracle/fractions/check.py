@@ -27,8 +27,13 @@ NOTHING, ENCLOSED, SPENT, REFUSED = range(4)
 # ---- the curve on paper
 
 def span_of(q, t):
-    """The number k from degree to count - 1 with knot k at most t and t below knot k + 1. There must be exactly one."""
-    found = [k for k in range(q.degree, q.count) if q.exact_knots[k] <= t < q.exact_knots[k + 1]]
+    """The number k from degree to count - 1 with knot k at most t and t below knot k + 1; at the domain's end that of the last span that isn't empty, closed.
+    There must be exactly one."""
+    knot, spans = q.exact_knots, range(q.degree, q.count)
+    if t == q.end:
+        found = [k for k in spans if knot[k] < knot[k + 1]][-1:]
+    else:
+        found = [k for k in spans if knot[k] <= t < knot[k + 1]]
     assert len(found) == 1
     return found[0]
 
@@ -130,18 +135,30 @@ def acceptable(knots, degree, count):
     return all(knots.count(x) <= (max(degree, 1) if x != a and x != b else degree + 1) for x in knots if a <= x <= b)
 
 
+def end_group(r, degree, count):
+    """The first and the last number of the knots that are the domain's end, of which count is one: its value occurs 1 to degree + 1 times. In half of the cases
+    where it can be, some of them stand before knot count and some behind it."""
+    most = min(degree, count - degree - 1)
+    both = 1 if degree > 1 and most > 0 and r.random() < 0.5 else 0
+    before = r.randint(both, min(most, degree - both))
+    return count - before, count + r.randint(both, degree - before)
+
+
 def some_knots(r, degree, count):
     while True:
         size = r.randrange(24)
         step = power(r, -60, 0) if size < 3 else power(r, 0, 60) if size == 3 else power(r, -1074, -1000) if size == 4 else 1.0
         at = r.choice((0.0, 0.0, 0.0, -step * r.randint(0, count), number(r, 2), r.uniform(-3.0, 3.0)))
-        clamped, again, rough = r.random() < 0.6, r.choice((0.0, 0.0, 0.3, 0.6, 0.9)), r.random() < 0.4
+        clamped, again, rough = r.random() < 0.45, r.choice((0.0, 0.0, 0.3, 0.6, 0.9)), r.random() < 0.4
+        group = end_group(r, degree, count) if not clamped and r.random() < 0.7 else None
         knots, times = [at], 1
         for i in range(1, count + degree + 1):
             if clamped and (i <= degree or i > count):
                 same = True
             elif clamped and i in (degree + 1, count):
                 same = False
+            elif group and group[0] <= i <= group[1] + 1:
+                same = group[0] < i <= group[1]
             else:
                 same = times < max(degree, 1) + (0 if degree < i < count else 1) and degree > 0 and r.random() < again
             if not same:
@@ -199,18 +216,20 @@ def some_points(r, dim, count):
     return points
 
 
-PLACES = ("start", "knot", "by a knot", "by the start", "by the end", "a double", "a fraction")
+PLACES = ("start", "end", "knot", "by a knot", "by the start", "by the end", "a double", "a fraction")
 
 
 def some_parameter(r, q):
-    """A fraction in the domain, the start included and the end excluded, and which kind it is."""
+    """A fraction in the domain, both ends included, and which kind it is."""
     knots, a, b = q.exact_knots, q.start, q.end
-    place = r.choices(PLACES, (8, 18, 12, 6, 8, 16, 32))[0]
+    place = r.choices(PLACES, (8, 26, 18, 12, 6, 8, 16, 32))[0]
     gap = (b - a) / r.choice((10 ** 3, 2 ** 20, 3 ** 33, 2 ** 53, 2 ** 60, 10 ** 40))
     if place == "start":
         t = a
+    elif place == "end":
+        t = b
     elif place == "knot":
-        t = r.choice([x for x in knots[q.degree:q.count] if a <= x < b])
+        t = r.choice([x for x in knots[q.degree:q.count] if x < b])
     elif place == "by a knot":
         t = r.choice(knots[q.degree:q.count + 1]) + gap * r.choice((1, -1))
     elif place == "by the start":
@@ -222,7 +241,7 @@ def some_parameter(r, q):
     else:
         m = r.choice((2, 3, 7, 10, 64, 1000, 10 ** 6 + 3))
         t = a + (b - a) * Fraction(r.randrange(m), m)
-    return (t, place) if a <= t < b else (a, "start")
+    return (a, "start") if not a <= t <= b else (b, "end") if t == b else (t, place)
 
 
 def some_box(r, exact):
@@ -273,10 +292,13 @@ def question(r):
         return None
     q.box, q.resolution = some_box(r, q.exact), some_resolution(r)
     q.nodes = r.choice((1, 2, 4, 8, 16)) if r.random() < 0.1 else 4096 if r.random() < 0.004 else r.choice((64, 128, 256))
-    # What the question promises, once more: the values are inside their intervals, the point is in the box, t is in the domain.
+    # What the question promises, once more: the values are inside their intervals, the point is in the box, t is in the domain; and a clamped curve ends in its
+    # last control point.
     assert all(lo <= x <= hi for values, point in zip(q.control, q.points) for x, (lo, hi) in zip(values, point))
     assert all(lo <= x <= hi and -MOST <= lo and hi <= MOST for x, (lo, hi) in zip(q.exact, q.box))
-    assert q.start <= q.t < q.end
+    assert q.start <= q.t <= q.end
+    if q.t == q.end and q.exact_knots[q.count - 1] < q.end == q.exact_knots[q.count + max(q.degree - 1, 0)]:
+        assert q.exact == [x / q.control[-1][q.dim] for x in q.control[-1][:q.dim]]
     return q
 
 
@@ -380,7 +402,7 @@ def wrong(q, answer):
     return ""
 
 
-BREAKS = ("lo", "hi", "step", "beyond", "zero", "none", "box")
+BREAKS = ("lo", "hi", "step", "short", "beyond", "zero", "none", "box")
 
 
 def broken(r, q, answer, how):
@@ -394,6 +416,8 @@ def broken(r, q, answer, how):
         hi = hi - (hi - lo) / 64
     elif how == "step" and lo < hi:
         lo, hi = (math.nextafter(lo, UP), hi) if r.random() < 0.5 else (lo, math.nextafter(hi, DOWN))
+    elif how == "short" and Fraction(hi) == q.end and lo < hi:
+        hi = math.nextafter(hi, DOWN)
     elif how == "beyond" and Fraction(hi) == q.end:
         hi = math.nextafter(hi, UP)
     elif how == "zero":
@@ -440,6 +464,16 @@ def features(q):
         yield "the box one point"
 
 
+def at_end(q):
+    """How often the end's value occurs before and behind knot count, and the degree, for the tally of the hits at the domain's end."""
+    before, behind = (sum(x == q.end for x in part) for part in (q.exact_knots[:q.count], q.exact_knots[q.count + 1:]))
+    yield "all"
+    yield "degree 0" if q.degree == 0 else "clamped" if (before, behind) == (0, q.degree) else "not clamped"
+    if q.degree > 0:
+        yield f"the end's value {1 + before + behind} times"
+        yield ("before and behind" if behind else "before only") if before else "behind only" if behind else "once"
+
+
 def show(q, answer, fault):
     kind, visited, number, lo, hi = answer
     print(f"---- {fault}\n{text(q)}t={q.t} ({q.place})\nexact point={' '.join(map(str, q.exact))}")
@@ -460,7 +494,7 @@ def main():
     r, other = random.Random(o.seed), random.Random(0)
     heads = ("questions", "hit", "outside", "spent", "refused 11", "narrow", "sharp box", "visits", "most")
     rows, places, faults, over = {d: [0] * len(heads) for d in range(8)}, {x: 0 for x in PLACES}, {}, 0
-    asked, tally = 0, {}
+    asked, tally, ends = 0, {}, {}
     while asked < o.questions:
         q = question(r)
         if q is None:
@@ -491,6 +525,8 @@ def main():
             places[q.place] += 1
             for x in features(q):
                 tally[x] = tally.get(x, 0) + 1
+            for x in at_end(q) if q.place == "end" else ():
+                ends[x] = ends.get(x, 0) + 1
             row[5] += (Fraction(hi) - Fraction(lo)) * 1000 <= q.end - q.start
             row[6] += all(math.nextafter(a, UP) >= b for a, b in q.box)
     print("degree " + "".join(f"{h:>12}" for h in heads))
@@ -500,6 +536,7 @@ def main():
     print(f"{'all':<7}" + "".join(f"{x:>12}" for x in total))
     print("hits by the place of t: " + ", ".join(f"{x} {n}" for x, n in places.items()))
     print("hits by what was asked: " + ", ".join(f"{x} {n}" for x, n in sorted(tally.items())))
+    print("hits at the domain's end: " + ", ".join(f"{x} {n}" for x, n in sorted(ends.items())))
     print(f"not asked, the exact point being above 2^100 in size: {over}")
     print("wrong: " + (", ".join(f"{x} {n}" for x, n in sorted(faults.items())) or "nothing"))
     sys.exit(1 if faults else 0)
