@@ -136,7 +136,7 @@ module _ (c : Call) (d : Doubles c) (acc : Accepted c) where
   -- ---- each parameter of the domain has exactly one span, and no other has any
   pub one-span : OneSpan c
   one-span = record {
-    some = λ t. span-some p n (values (c .knots)) t rising (omega (arith, ch .room)) nonempty;
+    some = λ t. span-some p n (values (c .knots)) t rising nonempty;
     one = λ t. span-one p n (values (c .knots)) t rising;
     domain = λ t. span-domain p n (values (c .knots)) t rising;
   }

@@ -77,9 +77,15 @@ module _ (p n : ℕ) (u : ℕ → ℚ) (t : ℚ) where
         ]
 
     -- there is one for each parameter of the domain, where its start is below its end
-    pub span-some : p ≤ n → u p <ℚ u n → Domain p n u t → (k : ℕ) × Span p n u t k
-    span-some o w d = ⊎-elim inside at-end (lt-or-le t (u n))
+    pub span-some : u p <ℚ u n → Domain p n u t → (k : ℕ) × Span p n u t k
+    span-some w d = ⊎-elim inside at-end (lt-or-le t (u n))
       where
+        o : p ≤ n
+        o = elim (decLe p n) [
+          | yes m ↦ m
+          | no m ↦ absurd (lt→not-le w (srt .up n p (omega (arith, lt-of-not-le m)) (omega arith)))
+        ]
+
         inside : t <ℚ u n → (k : ℕ) × Span p n u t k
         inside m = let c : Crossing (λ k. u k ≤ℚ t) (λ k. t <ℚ u k) p n = crossing _ _ (λ k. le-or-lt (u k) t) p n o (d .from) (lt→not-le m) in
             (c .at, before (record { first = c .first; last = c .last; from = c .here; upto = c .next }))
@@ -142,8 +148,8 @@ end-traced p n u c t y srt h w = record {
     below = srt .up (suc (w .place + p)) n (w .inside) (omega arith)
 
 -- ---- it has exactly one value at each parameter of the domain
-pub traced-some : (p n : ℕ) (u : ℕ → ℚ) (c : ℕ → ℕ → ℚ) (t : ℚ) → Sorted u (n + p) → p ≤ n → u p <ℚ u n → Domain p n u t → (y : ℕ → ℚ) × Traced p n u c t y
-traced-some p n u c t srt o w d = let s = span-some p n u t srt o w d in ((λ a. drawn u p t (c a) p (s .0)), record { k = s .0; span = s .1; there = λ a. refl })
+pub traced-some : (p n : ℕ) (u : ℕ → ℚ) (c : ℕ → ℕ → ℚ) (t : ℚ) → Sorted u (n + p) → u p <ℚ u n → Domain p n u t → (y : ℕ → ℚ) × Traced p n u c t y
+traced-some p n u c t srt w d = let s = span-some p n u t srt w d in ((λ a. drawn u p t (c a) p (s .0)), record { k = s .0; span = s .1; there = λ a. refl })
 
 pub traced-one : (p n : ℕ) (u : ℕ → ℚ) (c : ℕ → ℕ → ℚ) (t : ℚ) (y z : ℕ → ℚ) → Sorted u (n + p) → Traced p n u c t y → Traced p n u c t z → (a : ℕ) → y a ≡ z a
 traced-one p n u c t y z srt v w a = sym (v .there a) ∙ ap (drawn u p t (c a) p) (span-one p n u t srt (v .k) (w .k) (v .span) (w .span)) ∙ w .there a
