@@ -484,7 +484,7 @@ def show(q, answer, fault):
 
 def main():
     p = argparse.ArgumentParser()
-    p.add_argument("questions", nargs="?", type=int, default=140000)
+    p.add_argument("questions", nargs="?", type=int, default=150000)
     p.add_argument("seed", nargs="?", type=int, default=1)
     p.add_argument("--library", help="a library that is already built")
     p.add_argument("--program", help="ask gripcheck, one process for each question")
