@@ -140,7 +140,8 @@ fn answer(
 // Nothing is asked of the caller: every input comes to a result. The promises, in the words of specs/:
 // result: the answer is that of the definition, `searched`. paper: so are the word, the number and the values that document 01 gives for it.
 // memory: a call refused by 1 to 10 leaves `work` as it was; any other leaves the stated words 0 and the rest as it was.
-// encloses: when the search of an accepted curve completes, every exact parameter of the domain, both ends included, at which the exact curve meets the box lies between the bounds.
+// encloses: when the search of an accepted curve completes, every exact parameter at which the exact curve meets the box lies between
+// the bounds; the parameters are those of the domain, both ends included.
 // within: no bound lies outside the domain, and none is a negative zero.
 pub fn curve_could_contain(
     dim: usize,

@@ -1,11 +1,11 @@
 -- Where a curve passes: closed and half-open spans, knots in order, and what a curve depends on.
-use mathlib.Core.Path.{_≡_, sym, _∙_, ap, subst}
+use mathlib.Core.Path.{_≡_, sym, _∙_, subst}
 use mathlib.Core.Logic.{_⊎_, inl, inr, ⊎-elim}
 use Prim.Native.Nat.{ℕ, zero, suc, _+_, _-_, _≤_, _<_}
 use native.Mathlib.Nat.{sub-add-cancel}
 use native.Mathlib.Omega.{arith}
 use Rattle.exact.specs.Rational.{ℚ, _≤ℚ_, _<ℚ_}
-use Rattle.exact.specs.Spline.{round, boor, curve, Sorted, Segment, Side, shut, left, right, Shut, Fit, Runs, On}
+use Rattle.exact.specs.Spline.{round, boor, Sorted, Segment, Side, shut, left, right, Shut, Fit, Runs, On}
 use Rattle.exact.proofs.Order.{le-refl, le-trans, lt→le, le-or-lt, lt-le-trans, le-lt-trans}
 use Rattle.exact.proofs.Splines.Boor.{lerp-cong}
 
