@@ -1,11 +1,15 @@
 -- What the library gives out for an answer of the search, in numbers alone, and how many words a work area needs. Definitions only.
 use Prim.Native.Nat.{ℕ, _+_, _*_}
-use mathlib.Core.Bool.{cond, _&&_}
+use mathlib.Core.Path.{_≡_}
+use mathlib.Core.Bool.{true, false, cond, _&&_}
 use mathlib.Core.List.{List, [], _∷_}
-use lib.Dec.{leb}
-use lib.Ieee.{Float}
+use lib.Dec.{T, leb}
+use lib.ListN.{getD}
+use lib.Ieee.{Float, nan, inf, lt, le}
 use Rattle.math.specs.Scalars.{zeroF}
 use Rattle.search.specs.Layout.{slotWords}
+use Rattle.search.specs.Call.{Call}
+use Rattle.search.specs.Debug.{DebugSays}
 use Rattle.search.specs.declared.contains.Found.{Found}
 use Rattle.search.specs.declared.contains.Found.the-variants.{Nothing, Enclosed, Spent, Refused}
 
@@ -29,6 +33,18 @@ boundsOf (Nothing v) = zeroF ∷ zeroF ∷ []
 boundsOf (Enclosed lo hi v) = lo ∷ hi ∷ []
 boundsOf (Spent n v) = zeroF ∷ zeroF ∷ []
 boundsOf (Refused n v) = zeroF ∷ zeroF ∷ []
+
+-- Document 02, E14, of the two bounds as they are given out: lo is at most hi, and both are finite. So it is of 0 and 0, too.
+abbrev pub BoundsOrdered : List Float → Type 0
+BoundsOrdered bounds = T (lt (inf true) (getD bounds 0 nan) && le (getD bounds 0 nan) (getD bounds 1 nan) && lt (getD bounds 1 nan) (inf false))
+
+-- Document 02, E14, of all that is given out: with the tests of the Rust's debug build the call comes to an answer with these numbers, and no test has fired.
+pub record DebugGives (c : Call) (number : ℕ) (counts : List ℕ) (bounds : List Float) : Type 0 where
+  pub answer : Found
+  pub says : DebugSays c answer
+  pub of-number : number ≡ numberOf answer
+  pub of-counts : counts ≡ countsOf answer
+  pub of-bounds : bounds ≡ boundsOf answer
 
 -- The stated words of a work area (document 01), and 0 for sizes that are refused whatever else is lent.
 unfoldable pub workWords : ℕ → ℕ → ℕ → ℕ → ℕ

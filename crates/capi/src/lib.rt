@@ -5,7 +5,7 @@ ghost use mathlib.Core.Path.{_≡_};
 ghost use Rattle.math.specs.Scalars.{geop};
 ghost use Rattle.search.specs.Call.{curve, lent, searched, areaAfter};
 ghost use Rattle.search.specs.Enclosure.{HitsEnclosed, BoundsInDomain, BoundsPlain};
-ghost use Rattle.capi.specs.Answers.{numberOf, countsOf, boundsOf, workWords};
+ghost use Rattle.capi.specs.Answers.{numberOf, countsOf, boundsOf, BoundsOrdered, DebugGives, workWords};
 
 // The number of the refusal, and 0 where there is none.
 fn number_of(f: Found) -> u64
@@ -44,7 +44,7 @@ fn bounds_of(f: Found) -> [f64; 2]
 }
 
 // `curve_could_contain` of crates/geometry, with its answer in lent memory: the result is the number of the refusal or 0, `counts` the kind of the answer, visited and pending, `bounds` lo and hi.
-// The promises are those of that function. Nothing is asked of the caller but what the types say.
+// The promises are those of that function; order and debug are said of what is given out. Nothing is asked of the caller but what the types say.
 #[no_mangle]
 pub extern "C" fn puhlwazo_curve_could_contain(
     dim: usize,
@@ -65,6 +65,8 @@ pub extern "C" fn puhlwazo_curve_could_contain(
     ensures memory { λ _. ⌜ now (work .exit) ≡ areaAfter (lent dim degree count (now (knots .entry)) (now (points .entry)) (now («point_box» .entry)) resolution nodes (now (work .entry))) (now (work .entry)) ⌝ }
     ensures encloses { λ _. ⌜ HitsEnclosed (lent dim degree count (now (knots .entry)) (now (points .entry)) (now («point_box» .entry)) resolution nodes (now (work .entry))) (searched geop (lent dim degree count (now (knots .entry)) (now (points .entry)) (now («point_box» .entry)) resolution nodes (now (work .entry)))) ⌝ }
     ensures within { λ _. ⌜ BoundsInDomain (curve (lent dim degree count (now (knots .entry)) (now (points .entry)) (now («point_box» .entry)) resolution nodes (now (work .entry)))) degree (searched geop (lent dim degree count (now (knots .entry)) (now (points .entry)) (now («point_box» .entry)) resolution nodes (now (work .entry)))) × BoundsPlain (searched geop (lent dim degree count (now (knots .entry)) (now (points .entry)) (now («point_box» .entry)) resolution nodes (now (work .entry)))) ⌝ }
+    ensures order { λ _. ⌜ BoundsOrdered (now (bounds .exit)) ⌝ }
+    ensures debug { λ r. ⌜ DebugGives (lent dim degree count (now (knots .entry)) (now (points .entry)) (now («point_box» .entry)) resolution nodes (now (work .entry))) r (now (counts .exit)) (now (bounds .exit)) ⌝ }
 {
     let f = curve_could_contain(
         dim,

@@ -25,7 +25,8 @@ ghost use Rattle.search.specs.Subdivide.{plain, complete, advance, answered};
 ghost use Rattle.geometry.specs.Slots.{pieceAt, Fit};
 ghost use Rattle.geometry.specs.Waiting.{baseOf, ringBase, Ring};
 ghost use Rattle.search.specs.Call.{AllDoubles, curve, lent, searched, areaAfter};
-ghost use Rattle.search.specs.Enclosure.{Accepted, HitsEnclosed, BoundsInDomain, BoundsPlain};
+ghost use Rattle.search.specs.Enclosure.{Accepted, HitsEnclosed, BoundsInDomain, BoundsPlain, BoundsInOrder};
+ghost use Rattle.search.specs.Debug.{DebugSays};
 ghost use Rattle.search.specs.Paper.{paper};
 ghost use Rattle.geometry.specs.Turns.{foundOf, Visited, Begins};
 
@@ -143,6 +144,8 @@ fn answer(
 // encloses: when the search of an accepted curve completes, every exact parameter at which the exact curve meets the box lies between
 // the bounds; the parameters are those of the domain, both ends included.
 // within: no bound lies outside the domain, and none is a negative zero.
+// order: lo is at most hi, and both are finite.
+// debug: with the test of the Rust's debug build at each interval that is formed, the search comes to the same answer: no test fires.
 pub fn curve_could_contain(
     dim: usize,
     degree: usize,
@@ -159,6 +162,8 @@ pub fn curve_could_contain(
     ensures memory { λ _. ⌜ now (work .exit) ≡ areaAfter (lent dim degree count (now (knots .entry)) (now (points .entry)) (now («point_box» .entry)) resolution nodes (now (work .entry))) (now (work .entry)) ⌝ }
     ensures encloses { λ r. ⌜ HitsEnclosed (lent dim degree count (now (knots .entry)) (now (points .entry)) (now («point_box» .entry)) resolution nodes (now (work .entry))) r ⌝ }
     ensures within { λ r. ⌜ BoundsInDomain (curve (lent dim degree count (now (knots .entry)) (now (points .entry)) (now («point_box» .entry)) resolution nodes (now (work .entry)))) degree r × BoundsPlain r ⌝ }
+    ensures order { λ r. ⌜ BoundsInOrder r ⌝ }
+    ensures debug { λ r. ⌜ DebugSays (lent dim degree count (now (knots .entry)) (now (points .entry)) (now («point_box» .entry)) resolution nodes (now (work .entry))) r ⌝ }
 {
     let number = refusal(
         dim,

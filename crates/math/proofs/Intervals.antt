@@ -9,6 +9,7 @@ pub mod Laws
 pub mod Sizes
 pub mod Alpha
 pub mod Instance
+pub mod Proper
 pub mod Widen
 pub mod Positive
 pub mod Factors

@@ -9,7 +9,7 @@ use Rattle.exact.specs.Rational.{ℚ, _+ℚ_, _-ℚ_, _*ℚ_, 0ℚ, invℚ, _÷
 use Rattle.math.specs.declared.scalars.Scalar.{Scalar}
 use Rattle.math.specs.declared.scalars.Divided.the-variants.{Value, Failed}
 use Rattle.math.specs.Scalars.{Arithmetic, sharp, ENTIRE, ZERO, ONE, isSame}
-use Rattle.math.specs.Values.{Holds}
+use Rattle.math.specs.Values.{Holds, Proper}
 
 -- ENTIRE times [0, 0], in either order: the one product whose four corners are all NaN
 abbrev pub isClash : Scalar → Scalar → Bool
@@ -56,3 +56,11 @@ pub record Tame (ar : Arithmetic) (E : Encloses ar) (a b t : Scalar) : Type 0 wh
   pub delta : T (not (E .exempt t (ar .sub b a)))
   pub first : T (not (E .exempt (ar .sub ONE t) a))
   pub second : T (not (E .exempt t b))
+
+-- What order needs of an arithmetic: results are in order wherever the operands are, but for the products that are exempt. Every arithmetic that encloses has this (`in-order`).
+pub record InOrder (ar : Arithmetic) (exempt : Scalar → Scalar → Bool) : Type 0 where
+  pub add-proper : (a b : Scalar) → Proper a → Proper b → Proper (ar .add a b)
+  pub sub-proper : (a b : Scalar) → Proper a → Proper b → Proper (ar .sub a b)
+  pub mul-proper : (a b : Scalar) → Proper a → Proper b → T (not (exempt a b)) → Proper (ar .mul a b)
+  pub div-proper : (a b c : Scalar) → Proper a → Proper b → ar .div a b ≡ Value c → Proper c
+  pub ratio-proper : Proper (ar .fourFifths)

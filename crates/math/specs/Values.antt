@@ -1,6 +1,7 @@
 -- The numbers that doubles are, and the numbers that lie in an interval. Definitions only.
 use Prim.Native.Nat.{ℕ, _*_}
-use mathlib.Core.Bool.{Bool, true, false, _&&_}
+use mathlib.Core.Bool.{true, false}
+use lib.Dec.{T}
 use lib.Ieee.{Float, nan, inf, fin, up, down, lt, le}
 use Rattle.exact.specs.Rational.{ℚ, _≤ℚ_, 0ℚ, _÷_, signed}
 use Rattle.math.specs.declared.scalars.Scalar.{Scalar}
@@ -30,6 +31,8 @@ pub record Holds (x : Scalar) (q : ℚ) : Type 0 where
   pub low : Below (x .lo) q
   pub high : Above (x .hi) q
 
--- an interval that holds some number: no bound is a NaN, lo is at most hi, lo lies below the positive infinity and hi above the negative one
-abbrev pub isProper : Scalar → Bool
-isProper x = le (x .lo) (x .hi) && lt (x .lo) (inf false) && lt (inf true) (x .hi)
+-- an interval in order: lo is at most hi, so neither is a NaN, and they are not the same infinity. These are the intervals that hold some number.
+pub record Proper (x : Scalar) : Type 0 where
+  pub order : T (le (x .lo) (x .hi))
+  pub low : T (lt (x .lo) (inf false))
+  pub high : T (lt (inf true) (x .hi))

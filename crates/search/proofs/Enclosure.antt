@@ -1,4 +1,4 @@
--- DEMAND 3: `enclosure` for every arithmetic that encloses, and `geop-enclosure` for the Rust's. Of the curve on paper: `one-span`. Assumes nothing.
+-- DEMAND 3, and the order of the bounds: `enclosure` for every arithmetic that encloses, and `geop-enclosure` for the Rust's. Of the curve on paper: `one-span`. Assumes nothing.
 use mathlib.Core.Path.{_≡_, refl, sym, ap, _∙_, subst}
 use mathlib.Core.Logic.{inl}
 use mathlib.Core.List.{List, [], _∷_}
@@ -18,11 +18,12 @@ use Rattle.exact.proofs.Splines.Drawn.{span-domain, span-one, span-some, traced
 use Rattle.lists.proofs.Tab.{length-tab, getD-tab}
 use Rattle.math.specs.declared.scalars.Scalar.{Scalar}
 use Rattle.math.specs.Scalars.{Arithmetic, geop, absent, zeroF, unionS}
-use Rattle.math.specs.Values.{value, Below, Above, Holds}
+use Rattle.math.specs.Values.{value, Below, Above, Holds, Proper}
 use Rattle.math.specs.Encloses.{Encloses}
 use Rattle.math.proofs.Bools.{and-i, and-l, never, pick, taken}
 use Rattle.math.proofs.Doubles.Values.{eq→value}
 use Rattle.math.proofs.Intervals.Tests.{union-left, union-right}
+use Rattle.math.proofs.Intervals.Proper.{union-proper}
 use Rattle.math.proofs.Intervals.Instance.{geop-encloses}
 use Rattle.search.specs.Vector.{Vector, coordinate}
 use Rattle.search.specs.NurbCurve.{Piece, knot, point, start, end, domain}
@@ -32,11 +33,12 @@ use Rattle.search.specs.Subdivide.{Question, dropped, plain, Step, going
 use Rattle.search.specs.Contains.{clipped, visit, begun, couldContain}
 use Rattle.search.specs.Layout.{scalarAt, pointAt, pointsOf}
 use Rattle.search.specs.Call.{Call, curve, boxOf, question, refusal, searched, searchedBy}
-use Rattle.search.specs.Enclosure.{OneSpan, HitAt, Doubles, Accepted, Completes, BoundsHold, NotOutside, BoundsInDomain, NoNegativeZero, BoundsPlain, Enclosure, PieceOf, Every, OnlyWeights, PiecesKept, Pieces}
+use Rattle.search.specs.Enclosure.{OneSpan, HitAt, Doubles, Accepted, Completes, BoundsHold, NotOutside, BoundsInDomain, NoNegativeZero, BoundsPlain, BoundsInOrder, Enclosure, PieceOf, Every, OnlyWeights, PiecesKept, Pieces}
 use Rattle.search.specs.declared.contains.Found.{Found}
 use Rattle.search.specs.declared.contains.Found.the-variants.{Nothing, Enclosed, Spent, Refused}
+use Rattle.search.proofs.Every.{every-at}
 use Rattle.search.proofs.Sound.Base.{values, Known, Knots, Carries, Lined}
-use Rattle.search.proofs.Sound.Known.{le-known, eq-known}
+use Rattle.search.proofs.Sound.Known.{le-known, le-value, eq-known}
 use Rattle.search.proofs.Sound.Search.{Right, Hit, Fine, Kept, Stands, stands, answers, lives, answers-hit}
 use Rattle.search.proofs.Sound.Visits.{Lies, Inner, inner-union, within-inner, Ok, visit-fine, visit-kept}
 use Rattle.search.proofs.Sound.Visit.Within.{domain-within}
@@ -44,6 +46,9 @@ use Rattle.search.proofs.Sound.Visit.Box.{box-overlaps}
 use Rattle.search.proofs.Sound.Visit.Clip.{domain-holds}
 use Rattle.search.proofs.Sound.Visit.Door.{Bounded, door}
 use Rattle.search.proofs.Sound.Accepted.{Checked, checked, good, sorted, wide}
+use Rattle.search.proofs.Proper.Blend.{known-proper}
+use Rattle.search.proofs.Proper.Visit.{Well, domain-proper, visit-well}
+use Rattle.search.proofs.Proper.Lent.{curve-held, box-bounded as boxes-bounded, asked}
 
 -- ---- a bound without its negative zero is the same number
 zero-known : Known zeroF
@@ -76,6 +81,19 @@ plain-lies l u x kl ku h = pick (λ (z : Float). NotOutside l u z) (eq x zeroF) 
     inside : (z : Float) → Known z → value l ≤ℚ value z → value z ≤ℚ value u → NotOutside l u z
     inside z k f g = and-i (le l z) (le z u) (le-known l z kl k f) (le-known z u k ku g)
 
+plain-known : (x : Float) → Known x → Known (plain x) × (value (plain x) ≡ value x)
+unfolding plain
+plain-known x k = pick (λ (z : Float). Known z × (value z ≡ value x)) (eq x zeroF) zeroF x (λ e. (zero-known, sym (eq-known x zeroF k zero-known e))) (λ _. (k, refl))
+
+plain-order : (l h : Float) → Known l → Known h → T (le l h) → T (lt (inf true) (plain l) && le (plain l) (plain h) && lt (plain h) (inf false))
+plain-order l h kl kh o =
+    let x = plain-known l kl in
+    let y = plain-known h kh in
+    and-i (lt (inf true) (plain l) && le (plain l) (plain h)) (lt (plain h) (inf false))
+    (and-i (lt (inf true) (plain l)) (le (plain l) (plain h)) (known-proper (plain l) (x .0) .high)
+    (le-known (plain l) (plain h) (x .0) (y .0) (subst (λ (z : ℚ). z ≤ℚ value (plain h)) (sym (x .1)) (subst (λ (z : ℚ). value l ≤ℚ z) (sym (y .1)) (le-value l h kl kh o)))))
+    (known-proper (plain h) (y .0) .low)
+
 plain-zero : (x : Float) → NoNegativeZero (plain x)
 unfolding plain
 plain-zero x = pick NoNegativeZero (eq x zeroF) zeroF x (λ _ _. refl) (λ n e. absurd (never (eq x zeroF) n e))
@@ -106,13 +124,13 @@ module _ (c : Call) (d : Doubles c) (acc : Accepted c) where
   ch : Checked c
   ch = checked c d acc
 
-  first : Known (start (c .degree) (curve c))
+  pub first : Known (start (c .degree) (curve c))
   first = ch .known p (omega (arith, ch .long))
 
   last-is : end (curve c) ≡ knot (c .knots) (c .count)
   last-is = ap (λ (m : ℕ). knot (c .knots) m) (points-long c)
 
-  final : Known (end (curve c))
+  pub final : Known (end (curve c))
   final = subst Known (sym last-is) (ch .known n (omega (arith, ch .long, ch .room)))
 
   rising : Sorted (values (c .knots)) (c .count + c .degree)
@@ -153,7 +171,7 @@ module _ (c : Call) (d : Doubles c) (acc : Accepted c) where
   box-holds t h k kd = subst (λ (s : Scalar). Holds s (h .place k)) (sym (side c k kd)) (h .inBox .inside k kd)
 
   box-bounded : (k : ℕ) → k < c .dim → Bounded (getD (boxOf c) k absent)
-  box-bounded k kd = subst Bounded (sym (side c k kd)) (record { from = ch .box-known (2 * k) (omega (arith, ch .box-long)); upto = ch .box-known (2 * k + 1) (omega (arith, ch .box-long)) })
+  box-bounded k kd = every-at Bounded (boxOf c) k absent (boxes-bounded c d acc) (omega (arith, asked c d acc .long))
 
   -- ---- the search
   module _ (ar : Arithmetic) (E : Encloses ar) where
@@ -170,36 +188,45 @@ module _ (c : Call) (d : Doubles c) (acc : Accepted c) where
     none-of : c .degree ≡ 0 → greville ar (c .degree) (length (curve c .points)) (c .knots) ≡ none
     none-of e = ap (λ (m : ℕ). greville ar m (length (curve c .points)) (c .knots)) e ∙ (unfold greville in refl)
 
-    flat : c .degree ≡ 0
-        → Fine (Inner (value (start (c .degree) (curve c))) (value (end (curve c)))) (λ s. s ≡ curve c) (clipped ar (question c) (curve c) (greville ar (c .degree) (length (curve c .points)) (c .knots)))
-    unfolding clipped
-    flat z = subst (λ (g : Option (List Scalar)). Fine (Inner a b) (λ s. s ≡ curve c) (clipped ar q (curve c) g)) (sym (none-of z))
-        (within-inner a b (start p (curve c)) (end (curve c)) (domain (start p (curve c)) (end (curve c))) first final (le-refl a) (le-refl b) (domain-within (start p (curve c)) (end (curve c)) first final ordered))
+    -- what is reported has the property In, where it is one of the whole domain, and of a union if it is one of both
+    module _ (In : Scalar → Type 0) (whole : In (domain (start (c .degree) (curve c)) (end (curve c)))) where
+      pub flat-fine : c .degree ≡ 0 → (s : Piece) → s ≡ curve c → Fine In (λ s. s ≡ curve c) (visit ar (question c) s)
+      unfolding visit clipped
+      flat-fine z s e = subst (λ (r : Piece). Fine In (λ s. s ≡ curve c) (visit ar q r)) (sym e)
+          (pick (Fine In (λ s. s ≡ curve c)) (couldOverlap (aabb ar (c .dim) (curve c .points)) (boxOf c)) (clipped ar q (curve c) (greville ar p (length (curve c .points)) (c .knots))) dropped
+          (λ _. subst (λ (g : Option (List Scalar)). Fine In (λ s. s ≡ curve c) (clipped ar q (curve c) g)) (sym (none-of z)) whole) (λ _. tt))
+
+      -- a search whose visits are fine gives an answer that is right
+      right-by : ((s t : Scalar) → In s → In t → In (unionS s t)) → (Good : Piece → Type 0) → Good (curve c) → ((s : Piece) → Good s → Fine In Good (visit ar (question c) s)) → Right In (couldContain ar (question c) (curve c))
+      unfolding couldContain
+      right-by join Good w f = pick (Right In) (couldMeet ar (c .dim) p (curve c .points) (boxOf c)) _ (Nothing 0)
+          (λ _. answers (visit ar q) (c .nodes) In Good join f (advance (visit ar q) (c .nodes) (c .nodes) (begun (curve c)))
+          (stands (visit ar q) (c .nodes) In Good join f (c .nodes) (begun (curve c)) (record { pieces = (w, tt); inside = tt }))) (λ _. tt)
+
+    -- a report lies in the domain, and is in order
+    abbrev pub Told : Scalar → Type 0
+    Told s = Inner (value (start (c .degree) (curve c))) (value (end (curve c))) s × Proper s
+
+    whole-inner : Inner (value (start (c .degree) (curve c))) (value (end (curve c))) (domain (start (c .degree) (curve c)) (end (curve c)))
+    whole-inner = within-inner a b (start p (curve c)) (end (curve c)) (domain (start p (curve c)) (end (curve c))) first final (le-refl a) (le-refl b) (domain-within (start p (curve c)) (end (curve c)) first final ordered)
       where
         ordered : T (le (start (c .degree) (curve c)) (end (curve c)))
         ordered =
             le-known (start p (curve c)) (end (curve c)) first final
             (subst (λ (x : Float). value (start p (curve c)) ≤ℚ value x) (sym last-is) (lt→le nonempty))
 
-    flat-fine : c .degree ≡ 0 → (s : Piece) → s ≡ curve c → Fine (Inner (value (start (c .degree) (curve c))) (value (end (curve c)))) (λ s. s ≡ curve c) (visit ar (question c) s)
-    unfolding visit
-    flat-fine z s e = subst (λ (r : Piece). Fine (Inner a b) (λ s. s ≡ curve c) (visit ar q r)) (sym e)
-        (pick (Fine (Inner a b) (λ s. s ≡ curve c)) (couldOverlap (aabb ar (c .dim) (curve c .points)) (boxOf c)) (clipped ar q (curve c) (greville ar p (length (curve c .points)) (c .knots))) dropped (λ _. flat z) (λ _. tt))
+    pub whole-told : Told (domain (start (c .degree) (curve c)) (end (curve c)))
+    whole-told = (whole-inner, domain-proper (start p (curve c)) (end (curve c)) first final)
 
-    -- a search whose visits are fine gives an answer that is right
-    right-by : (Good : Piece → Type 0) → Good (curve c) → ((s : Piece) → Good s → Fine (Inner (value (start (c .degree) (curve c))) (value (end (curve c)))) Good (visit ar (question c) s))
-        → Right (Inner (value (start (c .degree) (curve c))) (value (end (curve c)))) (couldContain ar (question c) (curve c))
-    unfolding couldContain
-    right-by Good w f = pick (Right (Inner a b)) (couldMeet ar (c .dim) p (curve c .points) (boxOf c)) _ (Nothing 0)
-        (λ _. answers (visit ar q) (c .nodes) (Inner a b) Good (inner-union a b) f (advance (visit ar q) (c .nodes) (c .nodes) (begun (curve c)))
-        (stands (visit ar q) (c .nodes) (Inner a b) Good (inner-union a b) f (c .nodes) (begun (curve c)) (record { pieces = (w, tt); inside = tt }))) (λ _. tt)
+    pub told-union : (s t : Scalar) → Told s → Told t → Told (unionS s t)
+    told-union s t h k = (inner-union a b s t (h .0) (k .0), union-proper s t (h .1) (k .1))
 
-    right : Right (Inner (value (start (c .degree) (curve c))) (value (end (curve c)))) (couldContain ar (question c) (curve c))
+    right : Right Told (couldContain ar (question c) (curve c))
     right = go (c .degree) refl
       where
-        go : (m : ℕ) → c .degree ≡ m → Right (Inner (value (start (c .degree) (curve c))) (value (end (curve c)))) (couldContain ar (question c) (curve c))
-        go zero e = right-by (λ s. s ≡ curve c) refl (flat-fine e)
-        go (suc m) e = right-by (Ok (c .dim) p n a b) (whole-ok (omega (arith, e))) (visit-fine ar E q n a b)
+        go : (m : ℕ) → c .degree ≡ m → Right Told (couldContain ar (question c) (curve c))
+        go zero e = right-by Told whole-told told-union (λ s. s ≡ curve c) refl (flat-fine Told whole-told e)
+        go (suc m) e = right-by Told whole-told told-union (Well (c .dim) p n a b) (whole-ok (omega (arith, e)), curve-held c d acc) (visit-well ar E q (asked c d acc) n a b)
 
     -- ---- a search that loses nothing finds the hit
     module _ (t : ℚ) (h : HitAt c t) where
@@ -207,7 +234,7 @@ module _ (c : Call) (d : Doubles c) (acc : Accepted c) where
       At s = Holds s t
 
       long : length (boxOf c) ≡ c .dim
-      long = length-tab (c .dim) (λ k. scalarAt (c .box) k)
+      long = asked c d acc .long
 
       hit-by : (Good Has : Piece → Type 0) → Good (curve c) → Has (curve c)
           → ((s : Piece) → Good s → Fine (Inner (value (start (c .degree) (curve c))) (value (end (curve c)))) Good (visit ar (question c) s))
@@ -250,18 +277,27 @@ module _ (c : Call) (d : Doubles c) (acc : Accepted c) where
       hit = go (c .degree) refl
         where
           go : (m : ℕ) → c .degree ≡ m → Hit (λ s. Holds s t) (couldContain ar (question c) (curve c))
-          go zero e = hit-by (λ s. s ≡ curve c) (λ s. s ≡ curve c) refl refl (flat-fine e) (flat-kept e) (flat-meets e)
+          go zero e = hit-by (λ s. s ≡ curve c) (λ s. s ≡ curve c) refl refl (flat-fine (Inner a b) whole-inner e) (flat-kept e) (flat-meets e)
           go (suc m) e = let one : 1 ≤ c .degree = omega (arith, e) in hit-by (Ok (c .dim) p n a b) (Carries (suc (c .dim)) p t (h .passes .last)) (whole-ok one) (carries t h) (visit-fine ar E q n a b) (kept one) (meets one)
 
     -- ---- what the answers say
-    bounds-right : (r : Found) → Right (Inner (value (start (c .degree) (curve c))) (value (end (curve c)))) r → BoundsInDomain (curve c) (c .degree) r
+    bounds-right : (r : Found) → Right Told r → BoundsInDomain (curve c) (c .degree) r
     bounds-right (Nothing v) h = tt
     bounds-right (Enclosed lo hi v) h =
         let at = plain-lies (start p (curve c)) (end (curve c)) in
-        let i = h .1 .0 in
+        let i = h .1 .0 .0 in
         (subst (NotOutside (start p (curve c)) (end (curve c))) (sym (h .1 .1 .0)) (at (h .0 .lo) first final (i .low)), subst (NotOutside (start p (curve c)) (end (curve c))) (sym (h .1 .1 .1)) (at (h .0 .hi) first final (i .high)))
     bounds-right (Spent m v) h = tt
     bounds-right (Refused m v) h = tt
+
+    order-right : (r : Found) → Right Told r → BoundsInOrder r
+    order-right (Nothing v) h = tt
+    order-right (Enclosed lo hi v) h =
+        let i = h .1 .0 .0 in
+        subst (λ (l : Float). T (lt (inf true) l && le l hi && lt hi (inf false))) (sym (h .1 .1 .0))
+        (subst (λ (u : Float). T (lt (inf true) (plain (h .0 .lo)) && le (plain (h .0 .lo)) u && lt u (inf false))) (sym (h .1 .1 .1)) (plain-order (h .0 .lo) (h .0 .hi) (i .low .known) (i .high .known) (h .1 .0 .1 .order)))
+    order-right (Spent m v) h = tt
+    order-right (Refused m v) h = tt
 
     bounds-hit : (t : ℚ) (r : Found) → Hit (λ s. Holds s t) r → Completes r → BoundsHold r t
     bounds-hit t (Nothing v) h k = h
@@ -322,8 +358,13 @@ enclosure ar E = record {
   hits = λ c d acc k t h. let e = ap (searchedBy ar c) acc in subst (λ (r : Found). BoundsHold r t) (sym e) (bounds-hit c d acc ar E t (couldContain ar (question c) (curve c)) (hit c d acc ar E t h) (subst Completes e k));
   bounds = λ c d. by c d (refusal c) refl;
   zeros = λ c. plain-by c (refusal c);
+  order = λ c d. order-by c d (refusal c) refl;
 }
   where
+    order-by : (c : Call) → Doubles c → (m : ℕ) → refusal c ≡ m → BoundsInOrder (searchedBy ar c m)
+    order-by c d zero e = order-right c d e ar E (couldContain ar (question c) (curve c)) (right c d e ar E)
+    order-by c d (suc m) e = tt
+
     by : (c : Call) → Doubles c → (m : ℕ) → refusal c ≡ m → BoundsInDomain (curve c) (c .degree) (searchedBy ar c m)
     by c d zero e = bounds-right c d e ar E (couldContain ar (question c) (curve c)) (right c d e ar E)
     by c d (suc m) e = tt

@@ -3,7 +3,12 @@ pub mod Rows
 pub mod Table
 pub mod Spans
 pub mod Pause
+pub mod Checks
+pub mod Nodes
 pub mod Counts
+pub mod Every
 pub mod Sound
+pub mod Proper
 pub mod Enclosure
+pub mod Debug
 pub mod Witness

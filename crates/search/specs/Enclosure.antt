@@ -1,11 +1,11 @@
 -- Demand 3, over document 01's words: what an exact hit is, and where the bounds of a result lie. Definitions only.
 use Prim.Native.Nat.{ℕ, suc, _+_, _*_, _≤_, _<_}
 use mathlib.Core.Path.{_≡_}
-use mathlib.Core.Bool.{_&&_}
+use mathlib.Core.Bool.{true, false, _&&_}
 use mathlib.Core.List.{List, [], _∷_}
 use lib.Dec.{T}
 use lib.ListN.{length}
-use lib.Ieee.{Float, le, eq}
+use lib.Ieee.{Float, inf, lt, le, eq}
 use Rattle.exact.specs.Rational.{ℚ, _*ℚ_, invℚ}
 use Rattle.exact.specs.Spline.{Domain, Span, Traced}
 use Rattle.exact.specs.Cut.{Counted}
@@ -109,17 +109,25 @@ BoundsPlain (Enclosed lo hi v) = NoNegativeZero lo × NoNegativeZero hi
 BoundsPlain (Spent n v) = Unit {0}
 BoundsPlain (Refused n v) = Unit {0}
 
+-- Document 02, E14: lo is at most hi, and both are finite. A NaN is above nothing and below nothing.
+abbrev pub BoundsInOrder : Found → Type 0
+BoundsInOrder (Nothing v) = Unit {0}
+BoundsInOrder (Enclosed lo hi v) = T (lt (inf true) lo && le lo hi && lt hi (inf false))
+BoundsInOrder (Spent n v) = Unit {0}
+BoundsInOrder (Refused n v) = Unit {0}
+
 -- ---- demand 3
 
 -- On a completed search of an accepted curve, every exact hit lies between the bounds.
 abbrev pub HitsEnclosed : Call → Found → Type 0
 HitsEnclosed c r = Accepted c → Completes r → (t : ℚ) → HitAt c t → BoundsHold r t
 
--- Every exact hit is enclosed; and of any call, no bound lies outside the domain, and none is a negative zero.
+-- Every exact hit is enclosed; and of any call, no bound lies outside the domain, none is a negative zero, and the two are in order.
 pub record Enclosure (ar : Arithmetic) : Type 0 where
   pub hits : (c : Call) → Doubles c → HitsEnclosed c (searched ar c)
   pub bounds : (c : Call) → Doubles c → BoundsInDomain (curve c) (c .degree) (searched ar c)
   pub zeros : (c : Call) → BoundsPlain (searched ar c)
+  pub order : (c : Call) → Doubles c → BoundsInOrder (searched ar c)
 
 -- ---- the pieces of a search
 

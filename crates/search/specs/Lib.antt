@@ -11,3 +11,6 @@ pub mod Layout
 pub mod Call
 pub mod Paper
 pub mod Enclosure
+pub mod Nodes
+pub mod Tested
+pub mod Debug

@@ -1,9 +1,12 @@
 -- `puhlwazo_curve_could_contain` hands out what the contract of the search promises, and nothing else.
-use mathlib.Core.Path.{_∙_, ap, subst}
+use mathlib.Core.Path.{_≡_, sym, _∙_, ap, subst}
+use mathlib.Core.List.{List}
+use lib.Ieee.{Float, lt, le}
 use Rattle.search.specs.Call.{Call, lent, curve}
-use Rattle.search.specs.Enclosure.{HitsEnclosed, BoundsInDomain, BoundsPlain}
+use Rattle.search.specs.Enclosure.{HitsEnclosed, BoundsInDomain, BoundsPlain, BoundsInOrder}
 use Rattle.search.specs.declared.contains.Found.{Found}
-use Rattle.capi.specs.Answers.{numberOf, countsOf, boundsOf}
+use Rattle.search.specs.declared.contains.Found.the-variants.{Nothing, Enclosed, Spent, Refused}
+use Rattle.capi.specs.Answers.{numberOf, countsOf, boundsOf, BoundsOrdered}
 use borrow.Author.Needs.{needs}
 use Rattle.capi.proofs.puhlwazo_curve_could_contain.Statement.{statement}
 use Rattle.capi.proofs.puhlwazo_curve_could_contain.Tie as tie
@@ -33,18 +36,38 @@ same-length c = search needs
 abbrev asked : tie.Start → Call
 asked k = let g = k .args in lent (g .dim) (g .degree) (g .count) (g .knots .now) (g .points .now) (g .point-box .now) (g .resolution) (g .nodes) (g .work .now)
 
+-- The bounds as they are given out.
+in-order : (f : Found) (b : List Float) → BoundsInOrder f → b ≡ boundsOf f → BoundsOrdered b
+in-order f b o e = subst BoundsOrdered (sym e) (go f o)
+  where
+    go : (f : Found) → BoundsInOrder f → BoundsOrdered (boundsOf f)
+    go (Nothing v) o = unfold boundsOf lt le in tt
+    go (Enclosed lo hi v) o = unfold boundsOf in o
+    go (Spent n v) o = unfold boundsOf lt le in tt
+    go (Refused n v) o = unfold boundsOf lt le in tt
+
 returns : tie.Need-returns
 returns c =
     let k = c .before .before .before .before .before .before .before .before .before .before .before in
-    let r = c .before .before .before .before .before .curve-could-contain .ensures in (
-      c .number-of .ensures ∙ ap numberOf (r .0),
+    let r = c .before .before .before .before .before .curve-could-contain .ensures in
+    let number = c .number-of .ensures in
+    let counts = c .before .before .counts-of .ensures in
+    let bounds = c .before .bounds-of .ensures in
+    let rest = r .1 .1 .1 .1 in (
+      number ∙ ap numberOf (r .0),
       (
-        c .before .before .counts-of .ensures ∙ ap countsOf (r .0),
+        counts ∙ ap countsOf (r .0),
         (
-          c .before .bounds-of .ensures ∙ ap boundsOf (r .0),
+          bounds ∙ ap boundsOf (r .0),
           (
             r .1 .1 .0,
-            (subst (HitsEnclosed (asked k)) (r .0) (r .1 .1 .1 .0), subst (λ (f : Found). BoundsInDomain (curve (asked k)) (asked k .degree) f × BoundsPlain f) (r .0) (r .1 .1 .1 .1)),
+            (
+              subst (HitsEnclosed (asked k)) (r .0) (r .1 .1 .1 .0),
+              (
+                subst (λ (f : Found). BoundsInDomain (curve (asked k)) (asked k .degree) f × BoundsPlain f) (r .0) (rest .0),
+                (in-order _ _ (rest .1 .0) bounds, record { answer = _; says = rest .1 .1; of-number = number; of-counts = counts; of-bounds = bounds }),
+              ),
+            ),
           ),
         ),
       ),

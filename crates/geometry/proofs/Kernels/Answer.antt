@@ -19,7 +19,8 @@ use Rattle.search.specs.Aabb.{couldMeet}
 use Rattle.search.specs.Subdivide.{advance, answered}
 use Rattle.search.specs.Contains.{visit, begun, couldContain}
 use Rattle.search.specs.Call.{Call, curve, boxOf, question, refusal, stated, searchedBy, searched, areaBy, areaAfter}
-use Rattle.search.specs.Enclosure.{Doubles, Accepted, HitsEnclosed, BoundsInDomain, BoundsPlain}
+use Rattle.search.specs.Enclosure.{Doubles, Accepted, HitsEnclosed, BoundsInDomain, BoundsPlain, BoundsInOrder}
+use Rattle.search.specs.Debug.{DebugSays}
 use Rattle.geometry.specs.Slots.{pointWords, pieceAt, placed, Fits, Inside, Held}
 use Rattle.geometry.specs.Waiting.{ringBase, Ring, Beside}
 use Rattle.geometry.specs.Turns.{AllFit, Begins}
@@ -30,6 +31,7 @@ use Rattle.geometry.proofs.Memory.Numbers.{length-points, wide-points}
 use Rattle.geometry.proofs.Memory.Piece.{wordsOf, length-placed, piece-placed, held-placed}
 use Rattle.geometry.proofs.Memory.Ring.{beside-placed, beside-behind}
 use Rattle.search.proofs.Enclosure.{geop-enclosure}
+use Rattle.search.proofs.Debug.Call.{never-fires, debug-says}
 use Rattle.geometry.proofs.Kernels.Fit.{shapeOf, all-fit}
 
 -- ---- a call that is refused
@@ -39,12 +41,16 @@ unfolding searched searchedBy areaAfter areaBy
 refused c area zero e h = absurd (h refl)
 refused c area (suc n) e h = (ap (searchedBy geop c) e, ap (areaBy c area) e)
 
--- ---- demand 3, of a result
+-- its answer in the debug build
+pub refused-debug : (c : Call) (r : Found) (n : ℕ) → n ≡ refusal c → (n ≡ 0 → ⊥) → r ≡ searched geop c → DebugSays c r
+refused-debug c r n e h k = debug-says c r (λ acc. absurd (h (e ∙ acc))) k
 
-pub encloses : (c : Call) (r : Found) → Doubles c → r ≡ searched geop c → HitsEnclosed c r × (BoundsInDomain (curve c) (c .degree) r × BoundsPlain r)
+-- ---- demand 3, the order of the bounds and the debug build, of a result
+
+pub encloses : (c : Call) (r : Found) → Doubles c → r ≡ searched geop c → HitsEnclosed c r × ((BoundsInDomain (curve c) (c .degree) r × BoundsPlain r) × (BoundsInOrder r × DebugSays c r))
 encloses c r d e =
-    subst (λ (x : Found). HitsEnclosed c x × (BoundsInDomain (curve c) (c .degree) x × BoundsPlain x)) (sym e)
-    (geop-enclosure .hits c d, (geop-enclosure .bounds c d, geop-enclosure .zeros c))
+    subst (λ (x : Found). HitsEnclosed c x × ((BoundsInDomain (curve c) (c .degree) x × BoundsPlain x) × (BoundsInOrder x × DebugSays c x))) (sym e)
+    (geop-enclosure .hits c d, ((geop-enclosure .bounds c d, geop-enclosure .zeros c), (geop-enclosure .order c d, never-fires .same c (λ _. d))))
 
 -- ---- a call that is accepted
 

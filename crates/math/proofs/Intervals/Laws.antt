@@ -1,9 +1,8 @@
--- What follows for every arithmetic that encloses: `interpolate` holds every point between, and results of proper operands are proper. Assumes nothing.
-use mathlib.Core.Path.{_≡_, refl, sym, ap, _∙_, subst}
-use mathlib.Core.List.{List, [], _∷_}
-use mathlib.Core.Bool.{Bool, true, false, not, _&&_, _||_, cond}
-use Prim.Native.Nat.{ℕ}
-use lib.IntN.{ℤ, pos}
+-- What follows for every arithmetic that encloses: `interpolate` holds every point between. Assumes nothing.
+use mathlib.Core.Path.{_≡_, subst}
+use mathlib.Core.List.{[], _∷_}
+use mathlib.Core.Bool.{true, false}
+use lib.IntN.{pos}
 use lib.Dec.{T}
 use lib.Ieee.{Float, nan, inf, fin, le}
 use Rattle.exact.specs.Ring.{by-rep, read}
@@ -12,14 +11,13 @@ use Rattle.exact.proofs.Field.{ℚring}
 use Rattle.exact.proofs.Order.{lerp-ge, lerp-le}
 use Rattle.exact.proofs.Embed.{÷-one}
 use Rattle.math.specs.declared.scalars.Scalar.{Scalar}
-use Rattle.math.specs.declared.scalars.Divided.the-variants.{Value, Failed}
-use Rattle.math.specs.Scalars.{Arithmetic, ONE, ZERO, ENTIRE, zeroF, oneF, isExactly, inUnit, isSteady, viaDelta, viaWeights, interpolateS, intersectS}
-use Rattle.math.specs.Values.{value, Below, Above, Holds, isProper}
+use Rattle.math.specs.Scalars.{Arithmetic, ONE, zeroF, oneF, isExactly, inUnit, isSteady, viaDelta, viaWeights, interpolateS, intersectS}
+use Rattle.math.specs.Values.{value, Below, Above, Holds}
 use Rattle.math.specs.Encloses.{Encloses, Tame}
 use Rattle.math.proofs.Bools.{and-l, and-r, pick}
 use Rattle.math.proofs.Doubles.Values.{value-zero}
 use Rattle.math.proofs.Doubles.Order.{le-below, le-above}
-use Rattle.math.proofs.Intervals.Tests.{zero-holds, one-holds, exactly-holds, intersect-holds, holds-proper, proper-holds}
+use Rattle.math.proofs.Intervals.Tests.{one-holds, exactly-holds, intersect-holds}
 
 -- ---- a point between two numbers of one interval lies in it
 below-lerp : (f : Float) (a x y : ℚ) → 0ℚ ≤ℚ a → a ≤ℚ 1ℚ → Below f x → Below f y → Below f (lerp a x y)
@@ -69,17 +67,3 @@ module _ (ar : Arithmetic) (E : Encloses ar) where
           E .add-holds (ar .mul (ar .sub ONE t) a) (ar .mul t b) ((1ℚ -ℚ α) *ℚ x) (α *ℚ y)
           (E .mul-holds (ar .sub ONE t) a (1ℚ -ℚ α) x (w .first) (E .sub-holds ONE t 1ℚ α one-holds T′) A)
           (E .mul-holds t b α y (w .second) T′ B)
-
-  -- ---- proper operands give proper results
-  module _ (a b : Scalar) (A : T (isProper a)) (B : T (isProper b)) where
-    pub add-proper : T (isProper (ar .add a b))
-    add-proper = let x = proper-holds a A in let y = proper-holds b B in holds-proper _ _ (E .add-holds a b (x .0) (y .0) (x .1) (y .1))
-
-    pub sub-proper : T (isProper (ar .sub a b))
-    sub-proper = let x = proper-holds a A in let y = proper-holds b B in holds-proper _ _ (E .sub-holds a b (x .0) (y .0) (x .1) (y .1))
-
-    pub mul-proper : T (not (E .exempt a b)) → T (isProper (ar .mul a b))
-    mul-proper n = let x = proper-holds a A in let y = proper-holds b B in holds-proper _ _ (E .mul-holds a b (x .0) (y .0) n (x .1) (y .1))
-
-    pub div-proper : (c : Scalar) → ar .div a b ≡ Value c → T (isProper c)
-    div-proper c e = let x = proper-holds a A in let y = proper-holds b B in holds-proper _ _ (E .div-holds a b c (x .0) (y .0) e (x .1) (y .1))

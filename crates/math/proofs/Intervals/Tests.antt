@@ -1,6 +1,6 @@
 -- What the comparisons of two intervals say of the numbers in them, and what `union`, `intersect` and a sharp interval hold. The same for every arithmetic. Assumes nothing.
-use mathlib.Core.Path.{_≡_, refl, sym, ap, _∙_, subst}
-use mathlib.Core.Bool.{Bool, true, false, not, _&&_, cond}
+use mathlib.Core.Path.{_≡_, sym, subst}
+use mathlib.Core.Bool.{Bool, true, false, not, cond}
 use Prim.Native.Nat.{ℕ}
 use lib.IntN.{ℤ, pos}
 use lib.Dec.{T}
@@ -10,11 +10,11 @@ use Rattle.exact.proofs.Order.{le-refl, le-antisym, le-trans as ≤-trans, lt-l
 use Rattle.exact.proofs.Embed.{÷-one}
 use Rattle.math.specs.Picks.{minF, maxF}
 use Rattle.math.specs.declared.scalars.Scalar.{Scalar}
-use Rattle.math.specs.Scalars.{sharp, ZERO, ONE, ENTIRE, zeroF, oneF, couldBeEqual, couldBeGreater, couldBeLess, definitelyGreater, definitelyLess, isSame, isSubsetOf, isExactly, unionS, intersectS}
-use Rattle.math.specs.Values.{value, Below, Above, Holds, isProper}
+use Rattle.math.specs.Scalars.{sharp, ZERO, ONE, ENTIRE, oneF, couldBeEqual, couldBeGreater, couldBeLess, definitelyGreater, definitelyLess, isSame, isSubsetOf, isExactly, unionS, intersectS}
+use Rattle.math.specs.Values.{value, Below, Above, Holds, Proper}
 use Rattle.math.proofs.Bools.{and-i, and-l, and-r, pick}
 use Rattle.math.proofs.Doubles.Values.{value-zero, lt→value, eq→value}
-use Rattle.math.proofs.Doubles.Order.{number, below-number, above-number, le-below, le-above, meet-le, total-order}
+use Rattle.math.proofs.Doubles.Order.{below-number, above-number, le-below, le-above, meet-le, total-order}
 use Rattle.math.proofs.Doubles.Least.{min-either, max-either, min-left, min-second, max-left, max-second}
 
 -- ---- intervals that no operation made
@@ -134,11 +134,8 @@ high-finite (inf true) x h = h
 high-finite (inf false) x h = tt
 high-finite (fin s m e) x h = tt
 
-pub holds-proper : (a : Scalar) (x : ℚ) → Holds a x → T (isProper a)
-holds-proper a x h =
-    and-i (le (a .lo) (a .hi) && lt (a .lo) (inf false)) (lt (inf true) (a .hi))
-    (and-i (le (a .lo) (a .hi)) (lt (a .lo) (inf false)) (meet-le (a .lo) (a .hi) x (h .low) (h .high)) (low-finite (a .lo) x (h .low)))
-    (high-finite (a .hi) x (h .high))
+pub holds-proper : (a : Scalar) (x : ℚ) → Holds a x → Proper a
+holds-proper a x h = record { order = meet-le (a .lo) (a .hi) x (h .low) (h .high); low = low-finite (a .lo) x (h .low); high = high-finite (a .hi) x (h .high) }
 
 between : (l g : Float) → T (le l g) → T (lt l (inf false)) → T (lt (inf true) g) → (x : ℚ) × Below l x × Above g x
 between nan g t u v = unfold le in absurd t
@@ -149,8 +146,5 @@ between (inf true) (inf false) t u v = (0ℚ, tt, tt)
 between (inf true) (fin s m e) t u v = (value (fin s m e), tt, le-refl (value (fin s m e)))
 between (fin s m e) g t u v = (value (fin s m e), le-refl (value (fin s m e)), le-above (fin s m e) g (value (fin s m e)) t (le-refl (value (fin s m e))))
 
-pub proper-holds : (a : Scalar) → T (isProper a) → (x : ℚ) × Holds a x
-proper-holds a t =
-    let p = and-l (le (a .lo) (a .hi) && lt (a .lo) (inf false)) (lt (inf true) (a .hi)) t in
-    let w = between (a .lo) (a .hi) (and-l (le (a .lo) (a .hi)) (lt (a .lo) (inf false)) p) (and-r (le (a .lo) (a .hi)) (lt (a .lo) (inf false)) p) (and-r (le (a .lo) (a .hi) && lt (a .lo) (inf false)) (lt (inf true) (a .hi)) t) in
-    (w .0, record { low = w .1; high = w .2 })
+pub proper-holds : (a : Scalar) → Proper a → (x : ℚ) × Holds a x
+proper-holds a P = let w = between (a .lo) (a .hi) (P .order) (P .low) (P .high) in (w .0, record { low = w .1; high = w .2 })

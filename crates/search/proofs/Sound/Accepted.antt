@@ -8,7 +8,7 @@ use native.Mathlib.Omega.{arith}
 use lib.Dec.{T, leb, eqb, leb→le, eqb→eq}
 use lib.ListN.{length, getD}
 use lib.Ieee.Bits.{is-true}
-use lib.Ieee.{Float, nan, binary64, lt, le, eq, fits}
+use lib.Ieee.{Float, nan, lt, le, eq}
 use Rattle.exact.specs.Rational.{ℚ, _<ℚ_, lt→not-le}
 use Rattle.exact.specs.Spline.{Sorted}
 use Rattle.exact.specs.Cut.{Good, eqℚ, tally, choose}
@@ -21,24 +21,12 @@ use Rattle.lists.proofs.Fold.{all-getD}
 use Rattle.math.specs.Scalars.{zeroF}
 use Rattle.math.proofs.Bools.{and-l, and-r, and-i, or-l, or-r, or-split}
 use Rattle.search.specs.NurbCurve.{knot, weighted}
-use Rattle.search.specs.Call.{Call, AllDoubles, curve, dimFits, degreeFits, countFits, lengthsFit, usable, numbersUsable, weightsAbove, rising, seldom, sound, knotsSound, nodesFit, stated, areaFits, checks, firstFailed, refusal}
+use Rattle.search.specs.Call.{Call, AllDoubles, curve, dimFits, degreeFits, countFits, lengthsFit, usable, numbersUsable, weightsAbove, rising, seldom, sound, knotsSound, nodesFit, stated, areaFits, checks, refusal}
 use Rattle.search.specs.Enclosure.{Doubles, Every}
+use Rattle.search.proofs.Checks.{passed}
 use Rattle.search.proofs.Sound.Base.{values, Known}
 use Rattle.search.proofs.Sound.Known.{lt-known, eq-known, known-eq, lt-value, le-value}
 use Rattle.search.proofs.Sound.Boehm.{counted}
-
--- ---- the checks, one by one
-passed : (c : Call) (n : ℕ) (l : List (Call → Bool)) → firstFailed c (suc n) l ≡ 0 → Every (λ check. T (check c)) l
-unfolding firstFailed
-passed c n [] e = tt
-passed c n (check ∷ l) e = go (check c) refl (passed c (suc n) l) e
-  where
-    Rest : Type 0
-    Rest = firstFailed c (suc (suc n)) l ≡ 0 → Every (λ check. T (check c)) l
-
-    go : (b : Bool) → check c ≡ b → Rest → cond b (firstFailed c (suc (suc n)) l) (suc n) ≡ 0 → T (check c) × Every (λ check. T (check c)) l
-    go true h rest k = (subst T (sym h) tt, rest k)
-    go false h rest k = absurd (omega (arith, k))
 
 -- ---- the knots
 rises : (l : List Float) (i : ℕ) → T (rising l) → suc i < length l → T (le (knot l i) (knot l (suc i)))

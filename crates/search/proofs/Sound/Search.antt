@@ -15,15 +15,12 @@ use Rattle.search.specs.Subdivide.{Visit, dropped, reported, restricted,
 use Rattle.search.specs.Enclosure.{Every}
 use Rattle.search.specs.declared.contains.Found.{Found}
 use Rattle.search.specs.declared.contains.Found.the-variants.{Nothing, Enclosed, Spent, Refused}
+use Rattle.search.proofs.Every.{every-append}
 
 -- ---- one of a list
 abbrev pub Some : {A : Type 0} → (A → Type 0) → List A → Type 0
 Some P [] = ⊥
 Some P (x ∷ l) = P x ⊎ Some P l
-
-every-append : {A : Type 0} (P : A → Type 0) (l m : List A) → Every P l → Every P m → Every P (l ++ m)
-every-append P [] m h k = k
-every-append P (x ∷ l) m h k = (h .0, every-append P l m (h .1) k)
 
 some-left : {A : Type 0} (P : A → Type 0) (l m : List A) → Some P l → Some P (l ++ m)
 some-left P [] m h = absurd h
@@ -55,6 +52,14 @@ Fine In Ok (reported t) = In t
 Fine In Ok (restricted n c) = Ok c
 Fine In Ok (halved l r) = Ok l × Ok r
 Fine In Ok badWeight = Unit {0}
+
+-- two things that are asked of one visit
+pub fine-both : (In Im : Scalar → Type 0) (P Q : Piece → Type 0) (w : Visit) → Fine In P w → Fine Im Q w → Fine (λ s. In s × Im s) (λ c. P c × Q c) w
+fine-both In Im P Q dropped h k = tt
+fine-both In Im P Q (reported t) h k = (h, k)
+fine-both In Im P Q (restricted n c) h k = (h, k)
+fine-both In Im P Q (halved l r) h k = ((h .0, k .0), (h .1, k .1))
+fine-both In Im P Q badWeight h k = tt
 
 abbrev pub Kept : (Scalar → Type 0) → (Piece → Type 0) → Visit → Type 0
 Kept At Has dropped = ⊥
@@ -105,7 +110,7 @@ module _ (visit : Piece → Visit) (nodes : ℕ) (In : Scalar → Type 0) (Ok : 
   afters cs v f (halved l r) e i h = record { pieces = every-append Ok cs (l ∷ r ∷ []) e (h .0, (h .1, tt)); inside = i }
   afters cs v f badWeight e i h = refl
 
-  steps : (l : List Piece) (v : ℕ) (f : Option Scalar) → Ready l f → Stands (step visit l v f)
+  pub steps : (l : List Piece) (v : ℕ) (f : Option Scalar) → Ready l f → Stands (step visit l v f)
   unfolding step
   steps [] v f r = completes f v (r .inside)
   steps (c ∷ cs) v f r = afters cs (suc v) f (visit c) (r .pieces .1) (r .inside) (fine c (r .pieces .0))

@@ -28,7 +28,7 @@ use Rattle.search.proofs.Sound.Parts.{Part}
 
 -- ---- rows of the triangle
 module _ (ar : Arithmetic) (α : Scalar) where
-  length-level : (row : List Vector) → length (level ar α row) ≡ length row - 1
+  pub length-level : (row : List Vector) → length (level ar α row) ≡ length row - 1
   unfolding level
   length-level [] = omega arith
   length-level (q ∷ qs) = length-zip (λ a b. interpolateV ar a b α) (q ∷ qs) qs (omega arith) ∙ nat

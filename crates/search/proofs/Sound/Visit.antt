@@ -6,5 +6,4 @@ pub mod Keeps
 pub mod Zeros
 pub mod Clip
 pub mod Within
-pub mod Hatted
 pub mod Door

@@ -1,9 +1,9 @@
--- `curve_could_contain` keeps its promises: a refused call gives its number and writes nothing; the search of any other is `answer`, and every exact hit lies between its bounds.
+-- `curve_could_contain` keeps its promises: a refused call gives its number and writes nothing; the search of any other is `answer`, every exact hit lies between its bounds, and no test fires.
 use mathlib.Core.Path.{ap}
 use native.Mathlib.Omega.{arith}
 use Rattle.search.specs.Call.{Call, lent}
 use Rattle.search.specs.Paper.{paper}
-use Rattle.geometry.proofs.Kernels.Answer.{refused, encloses}
+use Rattle.geometry.proofs.Kernels.Answer.{refused, refused-debug, encloses}
 use borrow.Author.Needs.{needs}
 use Rattle.geometry.proofs.contains.curve_could_contain.Statement.{statement}
 use Rattle.geometry.proofs.contains.curve_could_contain.Tie as tie
@@ -19,7 +19,8 @@ returns : tie.Need-returns
 returns c =
     let k = c .before .before .before .before .before .before in
     let r = refused (asked k) (k .args .work .now) _ (c .before .refusal .ensures .0) (c .if1 .taken) in
-    (r .0, (ap paper (r .0), (r .1, ((λ _ never. absurd never), (tt, tt)))))
+    let b = refused-debug (asked k) _ _ (c .before .refusal .ensures .0) (c .if1 .taken) (r .0) in
+    (r .0, (ap paper (r .0), (r .1, ((λ _ never. absurd never), ((tt, tt), (tt, b))))))
 
 answer-requires : tie.Need-answer-requires
 answer-requires c κs =

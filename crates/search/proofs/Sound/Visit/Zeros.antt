@@ -24,8 +24,7 @@ use Rattle.search.specs.Aabb.{unions}
 use Rattle.search.specs.FatLine.{offset, crossing, zerosBy, fatLineZeros}
 use Rattle.search.specs.declared.fat_line.Hat.{Hat}
 use Rattle.search.specs.declared.fat_line.Hat.the-variants.{Over, Missing}
-use Rattle.search.proofs.Sound.Visit.Keeps.{Kept, kept-if, kept-or}
-use Rattle.search.proofs.Sound.Visit.Hulls.{could-equal, unions-holds, unions-between, two-ends}
+use Rattle.search.proofs.Sound.Visit.Hulls.{could-equal, unions-between, two-ends}
 
 -- a hat that holds t
 abbrev pub Found : Hat → ℚ → Type 0
@@ -47,11 +46,6 @@ pub record Crosses (n : ℕ) (x d : ℕ → ℚ) (t : ℚ) : Type 0 where
   pub band : (s lo hi : ℚ) → ((i : ℕ) → i < n → In lo hi (d i -ℚ (d zero +ℚ s *ℚ (x i -ℚ x zero)))) → In lo hi (-ℚ (d zero +ℚ s *ℚ (t -ℚ x zero)))
   pub line : (s a b : ℚ) → ¬ (x (n - 1) -ℚ x zero ≡ 0ℚ) → s ≡ (d (n - 1) -ℚ d zero) *ℚ invℚ (x (n - 1) -ℚ x zero) → In a b (d zero) → In a b (d (n - 1))
       → In a b (d zero +ℚ s *ℚ (t -ℚ x zero))
-
--- an interval that holds some number
-pub record Sane (z : Scalar) : Type 0 where
-  pub number : ℚ
-  pub holds : Holds z number
 
 cancels : (x : ℚ) → x +ℚ -ℚ x ≡ 0ℚ
 cancels x = by-rep ℚring (x ∷ []) (search read) (search read) tt
@@ -154,22 +148,3 @@ module _ (ar : Arithmetic) (E : Encloses ar) where
         go (Value s) e = sloped s e t cr
         go Failed e = unfold zerosBy in
             passes (couldBeEqual (unions ds) ZERO) (Over ENTIRE) t (could-equal (unions ds) ZERO 0ℚ (unions-between ds n d 0ℚ ld 1≤n hd (λ a b f. cr .range a b f)) zero-holds) (entire-holds t)
-
-    -- the zeros hold some number, whether there is a zero or not
-    pub zeros-sane : Kept Sane (fatLineZeros ar ξs ds)
-    unfolding fatLineZeros
-    zeros-sane = go (ar .div rise run) refl
-      where
-        all : Sane ENTIRE
-        all = record { number = 0ℚ; holds = entire-holds 0ℚ }
-
-        away : (s : Scalar) (es : ar .div rise run ≡ Value s) (q : Divided) → ar .div (ar .add d₀ (unions (offsets s es))) s ≡ q → Kept Sane (crossing ar ξ₀ q)
-        away s es Failed e = unfold crossing in all
-        away s es (Value q) e = unfold crossing in record {
-          number = _;
-          holds = E .sub-holds ξ₀ q _ _ first-x (E .div-holds _ s q _ (σ s es) e (E .add-holds _ _ _ _ first-d (unions-holds (offsets s es) zero _ (subst (λ (z : ℕ). zero < z) (sym (offsets-long s es)) 1≤n) (offset-holds s es zero 1≤n))) (σ-holds s es));
-        }
-
-        go : (o : Divided) → ar .div rise run ≡ o → Kept Sane (zerosBy ar ξs ds ξ₀ d₀ o)
-        go (Value s) e = unfold zerosBy in kept-or Sane (couldBeEqual (ar .add (unionS d₀ (lastD ds absent)) (unions (offsets s e))) ZERO) (crossing ar ξ₀ (ar .div (ar .add d₀ (unions (offsets s e))) s)) (away s e (ar .div (ar .add d₀ (unions (offsets s e))) s) refl)
-        go Failed e = unfold zerosBy in kept-if Sane (couldBeEqual (unions ds) ZERO) ENTIRE (λ _. all)

@@ -100,7 +100,7 @@ returns c =
           refl
           (c .before .before .before .before .before .before .before .area .ensures)
           (q .0),
-      printable (curve (lent (g .dim) (g .degree) (g .count) (part l 1 (1 + K - 1)) (part l (1 + K) (1 + K + P - (1 + K))) (part l (1 + K + P) (1 + K + P + 2 * g .dim - (1 + K + P))) (getD l 0 nan) (g .nodes) (c .before .before .before .before .before .before .before .area .result))) (g .degree) (c .before .curve-could-contain .result) (q .1 .1 .1 .1 .0),
+      printable (curve (lent (g .dim) (g .degree) (g .count) (part l 1 (1 + K - 1)) (part l (1 + K) (1 + K + P - (1 + K))) (part l (1 + K + P) (1 + K + P + 2 * g .dim - (1 + K + P))) (getD l 0 nan) (g .nodes) (c .before .before .before .before .before .before .before .area .result))) (g .degree) (c .before .curve-could-contain .result) (q .1 .1 .1 .1 .0 .0),
     )
 
 pub search-spec : {M : Type 1} → statement M

@@ -1,0 +1,8 @@
+-- Every interval of a search is in order, in every arithmetic that encloses.
+pub mod Blend
+pub mod Insert
+pub mod Cut
+pub mod Split
+pub mod Clip
+pub mod Visit
+pub mod Lent
