@@ -234,6 +234,105 @@ pub fn question(r: &mut Rng) -> Question {
     q
 }
 
+// ---- extreme questions
+
+/// A number as large, as small, or as near to such a one as it may be; or any.
+fn extreme_number(r: &mut Rng) -> f64 {
+    let size = match r.below(10) {
+        0 => 0.0,
+        1 => LEAST * (1 + r.below(8)) as f64,
+        2 => r.power(-1074, -1015) * (1.0 + r.unit()),
+        3 => r.power(-1074, 100) * (1.0 + r.unit()),
+        4 => MOST,
+        5 => MOST.next_down(),
+        6 => MOST * r.unit(),
+        7 => r.power(0, 100),
+        _ => return number(r, 8),
+    };
+    held(if r.one_in(2) { -size } else { size })
+}
+
+/// The interval of one number, from it to its neighbour, to any other, or from one limit to the other.
+fn extreme_interval(r: &mut Rng, x: f64) -> [f64; 2] {
+    let y = match r.below(9) {
+        0..5 => return [x, x],
+        5 => held(x.next_up()),
+        6 => return [-MOST, MOST],
+        _ => extreme_number(r),
+    };
+    [x.min(y), x.max(y)]
+}
+
+fn extreme_weight(r: &mut Rng, one: bool) -> [f64; 2] {
+    if one {
+        return [1.0, 1.0];
+    }
+    let w = held(r.power(-1074, 101) * if r.one_in(2) { 1.0 } else { 1.0 + r.unit() });
+    match r.below(6) {
+        0 => [LEAST, w.max(LEAST)],
+        1 => [w, MOST],
+        2 => [w, held(w.next_up())],
+        _ => [w, w],
+    }
+}
+
+/// The next knot: a few steps of 2^-1074 on, one double on, or by any step.
+fn next_knot(r: &mut Rng, at: f64, kind: usize) -> f64 {
+    held(match if kind < 4 { kind } else { r.below(4) } {
+        0 => at + LEAST * (1 + r.below(3)) as f64,
+        1 => at.next_up(),
+        2 => at + r.power(-1074, 100),
+        _ => at + MOST * 0.05 * r.unit(),
+    })
+}
+
+/// Knots that are 2^-1074 or one double apart, or by steps of every size, clamped or not, some of them repeated.
+fn extreme_knots(r: &mut Rng, degree: usize, count: usize) -> Vec<f64> {
+    let kind = r.below(5);
+    let mut at = match r.below(6) {
+        0 => -LEAST * r.below(count + 1) as f64,
+        1 => -MOST,
+        2 => -0.0,
+        3 => extreme_number(r),
+        _ => 0.0,
+    };
+    let (clamped, smooth) = (!r.one_in(3), r.one_in(2));
+    let mut knots = vec![at];
+    for i in 1..count + degree + 1 {
+        let stays = if clamped && (i <= degree || i >= count) { i != count } else { !smooth && r.one_in(3) };
+        if !stays || i == degree + 1 {
+            at = next_knot(r, at, kind);
+        }
+        knots.push(at);
+    }
+    knots
+}
+
+/// A question whose numbers are extreme; mostly of degree 7. Whether it is accepted is left to chance.
+pub fn extreme(r: &mut Rng) -> Question {
+    let degree = r.of(&[7, 7, 7, 7, 7, 6, 5, 4, 3, 2, 1, 1, 0]);
+    let more = if r.one_in(3) { r.below(32 - degree) } else { r.below(4) };
+    let (dim, count) = (2 + r.below(2), degree + 1 + more);
+    let knots = extreme_knots(r, degree, count);
+    let (one, rare) = (r.one_in(3), r.one_in(2));
+    let mut points = Vec::new();
+    for _ in 0..count {
+        for _ in 0..dim {
+            let x = if rare && !r.one_in(8) { number(r, 1) } else { extreme_number(r) };
+            points.extend(extreme_interval(r, x));
+        }
+        points.extend(extreme_weight(r, one));
+    }
+    let (resolution, nodes) = (if r.one_in(2) { 0.0 } else { some_resolution(r) }, if r.one_in(40) { r.below(600) } else { r.below(28) });
+    let mut q = Question { dim, degree, count, knots, points, cell: Vec::new(), resolution, nodes, room: 0 };
+    q.cell = match r.below(3) {
+        0 => (0..dim).flat_map(|_| { let x = extreme_number(r); extreme_interval(r, x) }).collect(),
+        _ => some_cell(r, &q),
+    };
+    q.room = stated(&q) + r.below(6);
+    q
+}
+
 // ---- wrong questions
 
 /// Makes a question wrong in one of the ways 1 to 10 of document 01, or leaves it just right.

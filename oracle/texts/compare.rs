@@ -413,7 +413,7 @@ impl Row {
 fn row_of(theirs: &Result<Expected, String>) -> usize {
     theirs.as_ref().map_or(14, |e| WORDS.iter().position(|w| *w == e.word).unwrap_or(14))
 }
-/// Asks both. A debug assertion of the Rust is no answer: document 01 speaks of its release build.
+/// Asks both. No answer, as where an assertion of the Rust's debug build fires, is a difference.
 fn same(r: &mut Rng, text: &[u8], theirs: &Result<Expected, String>) -> bool {
     let room = 160 + if r.one_in(2) { 0 } else { r.below(100) };
     let (ours, mut left) = ask_port(r, text, room);
@@ -422,10 +422,7 @@ fn same(r: &mut Rng, text: &[u8], theirs: &Result<Expected, String>) -> bool {
         let (none, kept) = ask_port(r, text, short);
         left &= none.is_empty() && kept;
     }
-    let right = match theirs {
-        Ok(e) => e.lines.as_bytes() == ours,
-        Err(said) => said.starts_with("Scalar::new: lo"),
-    };
+    let right = theirs.as_ref().is_ok_and(|e| e.lines.as_bytes() == ours);
     if !right || !left {
         let theirs = theirs.as_ref().map_or_else(|said| format!("no answer: {said}"), |e| e.lines.clone());
         let said = if left { "left" } else { "not left" };
