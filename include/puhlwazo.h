@@ -38,7 +38,7 @@ enum {
  * work        lent memory: at least puhlwazo_work_words(dim, degree, count, nodes) numbers, with any contents. A refusal by 1 to 10 leaves it as it was; any other
  *             call leaves 0 in the first so many numbers and the rest as it was
  * counts      gets the kind of the answer, how many pieces were visited, and how many were left (0 unless spent)
- * bounds      gets lo and hi (0 and 0 unless enclosed)
+ * bounds      gets lo and hi: both finite, and lo at most hi (0 and 0 unless enclosed)
  *
  * Gives 0, or the number of the refusal:
  *   1 dim   2 degree   3 count   4 a length   5 a number that is not finite or beyond 2^100, or a resolution below 0   6 a lo above its hi

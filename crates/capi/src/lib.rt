@@ -66,7 +66,10 @@ pub extern "C" fn puhlwazo_curve_could_contain(
     ensures encloses { λ _. ⌜ HitsEnclosed (lent dim degree count (now (knots .entry)) (now (points .entry)) (now («point_box» .entry)) resolution nodes (now (work .entry))) (searched geop (lent dim degree count (now (knots .entry)) (now (points .entry)) (now («point_box» .entry)) resolution nodes (now (work .entry)))) ⌝ }
     ensures within { λ _. ⌜ BoundsInDomain (curve (lent dim degree count (now (knots .entry)) (now (points .entry)) (now («point_box» .entry)) resolution nodes (now (work .entry)))) degree (searched geop (lent dim degree count (now (knots .entry)) (now (points .entry)) (now («point_box» .entry)) resolution nodes (now (work .entry)))) × BoundsPlain (searched geop (lent dim degree count (now (knots .entry)) (now (points .entry)) (now («point_box» .entry)) resolution nodes (now (work .entry)))) ⌝ }
     ensures order { λ _. ⌜ BoundsOrdered (now (bounds .exit)) ⌝ }
-    ensures debug { λ r. ⌜ DebugGives (lent dim degree count (now (knots .entry)) (now (points .entry)) (now («point_box» .entry)) resolution nodes (now (work .entry))) r (now (counts .exit)) (now (bounds .exit)) ⌝ }
+    ensures debug { λ r.
+        let k = now (knots .entry) in let p = now (points .entry) in let b = now («point_box» .entry) in
+        let c = lent dim degree count k p b resolution nodes (now (work .entry)) in
+        ⌜ DebugGives c r (now (counts .exit)) (now (bounds .exit)) ⌝ }
 {
     let f = curve_could_contain(
         dim,

@@ -163,7 +163,9 @@ pub fn curve_could_contain(
     ensures encloses { λ r. ⌜ HitsEnclosed (lent dim degree count (now (knots .entry)) (now (points .entry)) (now («point_box» .entry)) resolution nodes (now (work .entry))) r ⌝ }
     ensures within { λ r. ⌜ BoundsInDomain (curve (lent dim degree count (now (knots .entry)) (now (points .entry)) (now («point_box» .entry)) resolution nodes (now (work .entry)))) degree r × BoundsPlain r ⌝ }
     ensures order { λ r. ⌜ BoundsInOrder r ⌝ }
-    ensures debug { λ r. ⌜ DebugSays (lent dim degree count (now (knots .entry)) (now (points .entry)) (now («point_box» .entry)) resolution nodes (now (work .entry))) r ⌝ }
+    ensures debug { λ r.
+        let k = now (knots .entry) in let p = now (points .entry) in let b = now («point_box» .entry) in
+        ⌜ DebugSays (lent dim degree count k p b resolution nodes (now (work .entry))) r ⌝ }
 {
     let number = refusal(
         dim,
