@@ -34,7 +34,7 @@ boundsOf (Enclosed lo hi v) = lo ∷ hi ∷ []
 boundsOf (Spent n v) = zeroF ∷ zeroF ∷ []
 boundsOf (Refused n v) = zeroF ∷ zeroF ∷ []
 
--- Document 02, E14, of the two bounds as they are given out: lo is at most hi, and both are finite. So it is of 0 and 0, too.
+-- Of the two bounds as they are given out: lo is at most hi, and both are finite. So it is of 0 and 0, too.
 abbrev pub BoundsOrdered : List Float → Type 0
 BoundsOrdered bounds = T (lt (inf true) (getD bounds 0 nan) && le (getD bounds 0 nan) (getD bounds 1 nan) && lt (getD bounds 1 nan) (inf false))
 

@@ -109,7 +109,7 @@ BoundsPlain (Enclosed lo hi v) = NoNegativeZero lo × NoNegativeZero hi
 BoundsPlain (Spent n v) = Unit {0}
 BoundsPlain (Refused n v) = Unit {0}
 
--- Document 02, E14: lo is at most hi, and both are finite. A NaN is above nothing and below nothing.
+-- lo is at most hi, and both are finite. (A comparison with a NaN is false.)
 abbrev pub BoundsInOrder : Found → Type 0
 BoundsInOrder (Nothing v) = Unit {0}
 BoundsInOrder (Enclosed lo hi v) = T (lt (inf true) lo && le lo hi && lt hi (inf false))

@@ -12,7 +12,7 @@ use Rattle.search.specs.Enclosure.{Accepted, Completes}
 use Rattle.search.specs.declared.contains.Found.{Found}
 use Rattle.search.specs.declared.contains.Found.the-variants.{Nothing, Enclosed, Spent, Refused}
 
--- A search that did not run out of nodes: it completed, or it was refused by 11.
+-- A result other than spent: of a call that is accepted, its search completed or was refused by 11.
 abbrev pub NotSpent : Found → Type 0
 NotSpent (Nothing v) = Unit {0}
 NotSpent (Enclosed lo hi v) = Unit {0}
@@ -24,7 +24,7 @@ abbrev pub NodesLeft : Step → Type 0
 NodesLeft (going s) = Unit {0}
 NodesLeft (over r) = NotSpent r
 
--- Where a search stands after k visits, it stands with more nodes too, if it has not run out of them.
+-- A search that has not run out of nodes after k visits stands at the same place with more nodes.
 pub record SameSteps (visit : Piece → Visit) : Type 0 where
   pub same : (n m k : ℕ) (s : State) → n ≤ m → NodesLeft (advance visit n k s) → advance visit m k s ≡ advance visit n k s
 
@@ -39,8 +39,8 @@ pub record Larger (c : Call) (m room : ℕ) : Type 0 where
   pub most : m ≤ 4096
   pub long : stated (withNodes c m room) ≤ room
 
--- "A completed search gives the same result, bounds and counts"; so does one that is refused by 11. The work area is left as the definition says: its stated words, which are
--- more, are 0.
+-- "A completed search gives the same result, bounds and counts"; so does one that is refused by 11. The work area is left as the definition says: as many words as are stated for
+-- m nodes are 0, and the rest is as it was.
 pub record MoreNodes (ar : Arithmetic) : Type 0 where
   pub completed : (c : Call) (m room : ℕ) → Larger c m room → Completes (searched ar c) → searched ar (withNodes c m room) ≡ searched ar c
   pub unspent : (c : Call) (m room : ℕ) → Larger c m room → Accepted c → NotSpent (searched ar c) → searched ar (withNodes c m room) ≡ searched ar c

@@ -63,12 +63,14 @@ fold f b (x ∷ xs) = do fold f (← f b x) xs
 unfoldable pub formed : Float → Float → Tested Scalar
 formed lo hi = cond (le lo hi) (fine (record { lo = lo; hi = hi })) fired
 
--- from_f64, from_i64, lower, upper, midpoint. The Rust has no test there; document 02 (E14) asks for one all the same: that the value is no NaN.
+-- from_f64, from_i64, lower, upper, midpoint. The Rust has no test there; but document 02 (E14) speaks of every interval with a NaN bound, so here it has one. (ZERO, ONE, TWO and
+-- ENTIRE are constants and need none.)
 unfoldable pub sharp : Float → Tested Scalar
 sharp v = formed v v
 
--- ---- the operations
+-- ---- the operations, by the Rust's names
 
+-- Both bounds moved outward, in the interval that is formed.
 abbrev pub widened : Float → Float → Tested Scalar
 widened a b = formed (nextDown a) (nextUp b)
 
@@ -90,6 +92,7 @@ mul x y =
 unfoldable pub inverse : Scalar → Tested Scalar
 inverse y = widened (ieee.div binary64 oneF (y .hi)) (ieee.div binary64 oneF (y .lo))
 
+-- An error where the divisor holds zero, and nothing formed.
 unfoldable pub div : Scalar → Scalar → Tested Divided
 div x y = cond (hasZero y) (fine Failed) (do fine (Value (← mul x (← inverse y))))
 
@@ -97,9 +100,11 @@ div x y = cond (hasZero y) (fine Failed) (do fine (Value (← mul x (← inverse
 unfoldable pub fourFifths : Tested Scalar
 fourFifths = widened (ratioOf 4 5) (ratioOf 4 5)
 
+-- The width is an interval, too.
 unfoldable pub width : Scalar → Tested Scalar
 width x = formed (widthS x) (widthS x)
 
+-- From the lesser lo to the greater hi.
 unfoldable pub union : Scalar → Scalar → Tested Scalar
 union x y = formed (minF (x .lo) (y .lo)) (maxF (x .hi) (y .hi))
 
@@ -110,6 +115,7 @@ intersect x y =
     let hi = minF (x .hi) (y .hi) in
     cond (le lo hi) (formed lo hi) (fine (cond (le (ieee.sub binary64 (x .hi) (x .lo)) (ieee.sub binary64 (y .hi) (y .lo))) x y))
 
+-- The first operand where both are the same; else the two forms, and what lies in both.
 unfoldable pub interpolate : Scalar → Scalar → Scalar → Tested Scalar
 interpolate a b t =
     cond (isSteady a b t) (fine a)

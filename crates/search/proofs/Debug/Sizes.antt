@@ -109,22 +109,33 @@ module _ (a b : Float) (ka : Known a) (kb : Known b) where
         most : Scalar
         most = mulS (sharp (widthS (domain a b))) fourFifthsS
 
+        narrow : (z : Bool)
+            → cond z (tested.sharp (hat .lo) >>= λ l. cond (inDomain a b (l .lo)) (fine true) (tested.sharp (hat .hi) >>= λ h. fine (inDomain a b (h .lo)))) (fine false) ≡ fine (z && (inDomain a b (hat .lo) || inDomain a b (hat .hi)))
+        narrow true = rw (sharp-fine (hat .lo) l, sharp-fine (hat .hi) h) (either (inDomain a b (hat .lo)) (inDomain a b (hat .hi)))
+          where
+            either : (x y : Bool) → cond x (fine true) (fine y) ≡ fine (x || y)
+            either true y = refl
+            either false y = refl
+        narrow false = refl
+
         go : (z : Bool)
-            → cond z (debug.domain a b >>= λ d. tested.width d >>= λ r. tested.fourFifths >>= λ f. tested.mul r f >>= λ most. tested.width hat >>= λ w. tested.sharp (hat .lo) >>= λ l. tested.sharp (hat .hi) >>= λ h. fine (lt (w .hi) (most .lo) && (inDomain a b (l .lo) || inDomain a b (h .lo)))) (fine false)
+            → cond z (debug.domain a b >>= λ d. tested.width d >>= λ r. tested.fourFifths >>= λ f. tested.mul r f >>= λ most. tested.width hat >>= λ w.
+            cond (lt (w .hi) (most .lo)) (tested.sharp (hat .lo) >>= λ l. cond (inDomain a b (l .lo)) (fine true) (tested.sharp (hat .hi) >>= λ h. fine (inDomain a b (h .lo)))) (fine false)) (fine false)
             ≡ fine (z && lt (widthS hat) (most .lo) && (inDomain a b (hat .lo) || inDomain a b (hat .hi)))
-        go true = rw (domain-fine, width-fine (domain a b), ratio-fine, most-fine, width-fine hat, sharp-fine (hat .lo) l, sharp-fine (hat .hi) h) refl
+        go true = rw (domain-fine, width-fine (domain a b), ratio-fine, most-fine, width-fine hat) (narrow (lt (widthS hat) (most .lo)))
         go false = refl
 
     pub halves-fine : (resolution : Float) → T (number resolution) → debug.halves a b size carried resolution ≡ fine (halves a b size carried resolution)
     unfolding debug.halves halves tested.union
     halves-fine resolution r = rw (
-      sharp-fine size s,
       sharp-fine carried c,
       sharp-fine resolution r,
       formed-fine (minF carried resolution) (maxF carried resolution) (le-trans (minF carried resolution) carried (maxF carried resolution) (min-left carried resolution c) (max-left carried resolution c)),
       sharp-fine (maxF carried resolution) (max-number carried resolution c),
-    ) (go (lt (maxF carried resolution) size && lt carried size))
+      sharp-fine size s,
+    ) (go (lt (maxF carried resolution) size) (lt carried size))
       where
-        go : (z : Bool) → cond z (debug.domain a b >>= λ d. tested.width d >>= λ w. fine (lt resolution (w .lo))) (fine false) ≡ fine (z && lt resolution (widthS (domain a b)))
-        go true = rw (domain-fine, width-fine (domain a b)) refl
-        go false = refl
+        go : (x y : Bool) → cond x (cond y (debug.domain a b >>= λ d. tested.width d >>= λ w. fine (lt resolution (w .lo))) (fine false)) (fine false) ≡ fine (x && y && lt resolution (widthS (domain a b)))
+        go true true = rw (domain-fine, width-fine (domain a b)) refl
+        go true false = refl
+        go false y = refl
