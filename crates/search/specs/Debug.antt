@@ -44,11 +44,11 @@ use Rattle.search.specs.declared.contains.Found.the-variants.{Nothing, R
 unfoldable pub interpolateV : Vector → Vector → Scalar → Tested Vector
 interpolateV a b t = tested.zip (λ x y. tested.interpolate x y t) a b
 
--- domain_as_scalar
+-- domain_as_scalar. The two knots are intervals already; here they are formed again.
 unfoldable pub domain : Float → Float → Tested Scalar
 domain a b = do tested.union (← tested.sharp a) (← tested.sharp b)
 
--- mid_parameter: `sharpen` forms the interval of the middle.
+-- mid_parameter: `sharpen` forms the interval of the middle. The two knots are formed again.
 unfoldable pub midParameter : Float → Float → Tested Float
 midParameter a b = do
   q ← tested.div (← tested.add (← tested.sharp a) (← tested.sharp b)) TWO
@@ -115,7 +115,7 @@ couldMeet dim p points box = do
 
 -- ---- knot_insertion.rs
 
--- insert_once, its fractions. The denominator comes first, whatever t is.
+-- insert_once, its fractions. The denominator comes first, whatever t is. The knots and t are formed again.
 unfoldable pub alpha : ℕ → List Float → Float → ℕ → Tested Scalar
 alpha p knots t i = do
   let a = knot knots i
@@ -177,7 +177,7 @@ unfoldable pub cutBy : ℕ → Float → Piece → Divided → Tested Cut
 cutBy p t c (Value α) = bezierCut p t α c
 cutBy p t c Failed = boehmCut p t c
 
--- insert_to_full_multiplicity: of a Bezier span that t is no knot of, the fraction is computed first.
+-- insert_to_full_multiplicity: of a Bezier span that t is no knot of, the fraction is computed first. Its knots and t are formed again.
 unfoldable pub fullCut : ℕ → Float → Piece → Tested Cut
 fullCut p t c =
     let a = knot (c .knots) p in
@@ -221,7 +221,7 @@ restrict p lo hi c = do
 
 -- ---- fat_line.rs
 
--- greville_abscissae, one of them.
+-- greville_abscissae, one of them. The knots are formed again, and the degree for each of them: the Rust forms it once.
 unfoldable pub abscissa : ℕ → List Float → Tested Scalar
 abscissa p knots = do
   s ← tested.fold (λ s u. do tested.add s (← tested.sharp u)) ZERO knots
@@ -279,7 +279,7 @@ restricts a b hat size carried = do
         h ← tested.sharp (hat .hi)
         fine (inDomain a b (h .lo)))) (fine false)) (fine false)
 
--- stalled
+-- stalled. The resolution is formed again.
 unfoldable pub halves : Float → Float → Float → Float → Float → Tested Bool
 halves a b size carried resolution = do
   limit ← tested.sharp ((← tested.union (← tested.sharp carried) (← tested.sharp resolution)) .hi)
@@ -341,7 +341,7 @@ unfoldable pub clipped : Question → Piece → Option (List Scalar) → Tested 
 clipped q c none = do fine (reported (← domain (start (q .degree) c) (end c)))
 clipped q c (some ξ) = do shrink q c (← clip (q .dim) (c .points) ξ (← domain (start (q .degree) c) (end c)) 0 (q .box))
 
--- The visit of a piece: what curve_could_contain hands to subdivide.
+-- The visit of a piece: what curve_could_contain hands to subdivide. The Rust has kept its box from when the piece was made; here it is made again.
 unfoldable pub visit : Question → Piece → Tested Visit
 visit q c = do
   b ← aabb (q .dim) (c .points)
