@@ -1,13 +1,10 @@
 -- What holds of all elements of a list holds of all elements of what is made of it. Assumes nothing.
 use mathlib.Core.Path.{sym, subst}
-use mathlib.Core.Bool.{Bool}
 use mathlib.Core.List.{List, [], _∷_, _++_, map, zipWith, reverse, reverse-cons}
 use Prim.Native.Nat.{ℕ, zero, suc, _<_}
 use native.Mathlib.Omega.{arith}
-use lib.Dec.{T}
 use lib.ListN.{length, getD, take, drop}
-use Rattle.lists.specs.Lists.{tab, foldl, all}
-use Rattle.math.proofs.Bools.{and-l, and-r}
+use Rattle.lists.specs.Lists.{tab, foldl}
 use Rattle.search.specs.Enclosure.{Every}
 
 -- ---- of parts and sums of lists
@@ -51,7 +48,7 @@ unfolding foldl
 fold-keeps P Q g keep b [] h k = h
 fold-keeps P Q g keep b (x ∷ l) h k = fold-keeps P Q g keep (g b x) l (keep b x h (k .0)) (k .1)
 
--- ---- from an element, from all elements, from a test, and from nothing
+-- ---- of one element, from each of them, and from nothing
 pub every-at : {A : Type 0} (P : A → Type 0) (l : List A) (i : ℕ) (d : A) → Every P l → i < length l → P (getD l i d)
 every-at P [] i d h k = absurd (omega arith)
 every-at P (x ∷ l) zero d h k = h .0
@@ -60,11 +57,6 @@ every-at P (x ∷ l) (suc i) d h k = every-at P l i d (h .1) (omega arith)
 pub every-of : {A : Type 0} (P : A → Type 0) (l : List A) (d : A) → ((i : ℕ) → i < length l → P (getD l i d)) → Every P l
 every-of P [] d h = tt
 every-of P (x ∷ l) d h = (h zero (omega arith), every-of P l d (λ i k. h (suc i) (omega arith)))
-
-pub every-all : {A : Type 0} (f : A → Bool) (l : List A) → T (all f l) → Every (λ x. T (f x)) l
-unfolding all
-every-all f [] h = tt
-every-all f (x ∷ l) h = (and-l (f x) (all f l) h, every-all f l (and-r (f x) (all f l) h))
 
 pub every-any : {A : Type 0} (l : List A) → Every (λ _. Unit {0}) l
 every-any [] = tt

@@ -70,7 +70,7 @@ fails x y h = ap (λ (b : Bool). cond b Failed (Value (mulS x (inverseS y)))) h
 
 module _ (dim : ℕ) where
   -- ---- the box
-  pub place-proper : (k : ℕ) (q : Vector) → k < dim → Solid dim q → Proper (place geop dim k q)
+  place-proper : (k : ℕ) (q : Vector) → k < dim → Solid dim q → Proper (place geop dim k q)
   unfolding place
   place-proper k q h S = quotient-proper geop geop-encloses (coordinate q k) (coordinate q dim) ENTIRE (coordinate-proper dim q k S (omega arith)) (coordinate-proper dim q dim S (omega arith)) entire-proper
 

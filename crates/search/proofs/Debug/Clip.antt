@@ -120,7 +120,7 @@ module _ (ξs ds : List Scalar) (P : Polygon ξs ds) where
         go false = refl
 
   -- THE FAT LINE
-  pub zeros-fine : debug.fatLineZeros ξs ds ≡ fine (fatLineZeros geop ξs ds)
+  zeros-fine : debug.fatLineZeros ξs ds ≡ fine (fatLineZeros geop ξs ds)
   unfolding debug.fatLineZeros fatLineZeros
   zeros-fine = rw (
     sub-fine dₙ d₀ yₙ y₀,

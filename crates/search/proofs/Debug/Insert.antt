@@ -85,7 +85,7 @@ module _ (p : ℕ) (ks : List Float) (t : Float) (i : ℕ) (ka : Known (knot ks 
           rw (no-zero (subS (sharp t) (sharp a)) d (f .0) (f .1), known-fine t kt, sub-fine (sharp t) (sharp a) (known-proper t kt) (known-proper a ka), div-fine (subS (sharp t) (sharp a)) d (known-sub t a kt ka) (known-sub b a kb ka)) refl
 
   -- THE BLEND
-  pub blend-fine : (dim : ℕ) (A B : Vector) → Solid dim A → Solid dim B → (debug.alpha p ks t i >>= λ α. debug.blend α A B) ≡ fine (blend geop (alpha geop p ks t i) A B)
+  blend-fine : (dim : ℕ) (A B : Vector) → Solid dim A → Solid dim B → (debug.alpha p ks t i >>= λ α. debug.blend α A B) ≡ fine (blend geop (alpha geop p ks t i) A B)
   unfolding debug.blend blend
   blend-fine dim A B SA SB = rw alpha-fine (by (alpha geop p ks t i) (alpha-gentle geop geop-encloses p ks t i ka kt kb at tb))
     where
@@ -112,7 +112,7 @@ module _ (dim p k : ℕ) (t : Float) (c : Piece) (f : InSpan p k t c) (S : Every
       (knot-low p k t c f j h) (knot-high p k t c f j h) dim (point ps (k - p + j)) (point ps (suc (k - p + j)))
       (every-at (Solid dim) ps (k - p + j) [] S (omega (arith, f .from, f .upto))) (every-at (Solid dim) ps (suc (k - p + j)) [] S (omega (arith, f .from, f .upto)))
 
-  pub once-fine : debug.insertOnce p k t c ≡ fine (insertOnce geop p k t c)
+  once-fine : debug.insertOnce p k t c ≡ fine (insertOnce geop p k t c)
   unfolding debug.insertOnce debug.pointsWith insertOnce pointsWith
   once-fine = rw (tab-fine p (λ j. debug.alpha p (c .knots) t (suc (k - p + j)) >>= λ α. debug.blend α (point ps (k - p + j)) (point ps (suc (k - p + j))))
       (λ j. blend geop (alpha geop p (c .knots) t (suc (k - p + j))) (point ps (k - p + j)) (point ps (suc (k - p + j)))) new-fine) refl

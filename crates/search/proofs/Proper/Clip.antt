@@ -34,7 +34,7 @@ use Rattle.search.proofs.Sound.Visit.Weights.{Heavy, weight-clear}
 use Rattle.search.proofs.Every.{every-at, every-take, every-drop, every-tab, every-map, every-zip, fold-keeps}
 use Rattle.search.proofs.Proper.Blend.{Solid, coordinate-proper, known-proper}
 
-pub unions-proper : (l : List Scalar) → Every Proper l → Proper (unions l)
+unions-proper : (l : List Scalar) → Every Proper l → Proper (unions l)
 unfolding unions
 unions-proper [] S = entire-proper
 unions-proper (x ∷ xs) S = fold-keeps Proper Proper unionS union-proper x xs (S .0) (S .1)

@@ -84,7 +84,7 @@ module _ (ar : Arithmetic) (E : Encloses ar) (dim : ℕ) where
     bezier-solid p x c full S = sides-solid (triangle ar α (suc p) (c .points)) (triangle-rows (suc p) (c .points) (omega (arith, full)) S)
 
   module _ (p : ℕ) (x : Float) (c : Piece) (K : Knots p (length (c .points)) (c .knots)) (i : Strict p c x) (S : Every (Solid dim) (c .points)) where
-    pub inserted-solid : (j : ℕ) → Every (Solid dim) (insertTimes ar p x j c .points)
+    inserted-solid : (j : ℕ) → Every (Solid dim) (insertTimes ar p x j c .points)
     inserted-solid j =
         let g = grouped p x c K i in
         times-solid ar E dim p (length (c .points)) (values (c .knots)) (λ _ _. 0ℚ) x (g .m) (g .s) (K .good) (i .known) (i .from) (i .upto) j zero c (ungrown p x c K i) S
