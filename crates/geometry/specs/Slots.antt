@@ -13,7 +13,7 @@ use Rattle.math.specs.declared.scalars.Scalar.{Scalar}
 use Rattle.math.specs.Scalars.{geop}
 use Rattle.search.specs.Vector.{Vector, interpolateV}
 use Rattle.search.specs.NurbCurve.{Piece, point, start, end, inDomain}
-use Rattle.search.specs.KnotInsertion.{Cut, alpha, blend, fullCut, leftOf, rightOf}
+use Rattle.search.specs.KnotInsertion.{Cut, alpha, blend, triangle, sides, fullCut, leftOf, rightOf}
 use Rattle.search.specs.Split.{Halves, uncut, both, split, fromBy, upToBy, restrict}
 use Rattle.search.specs.Layout.{scalarsOf, flat, pointsOf, slotWords}
 use Rattle.geometry.specs.declared.slots.Shape.{Shape}
@@ -79,6 +79,13 @@ blendAt s l base n t j =
 unfoldable pub betweenAt : Shape → List Float → ℕ → Scalar → ℕ → Vector
 betweenAt s l base α j = interpolateV geop (vectorAt (suc (s .dim)) l (placeOf s base j)) (vectorAt (suc (s .dim)) l (placeOf s base (suc j))) α
 
+-- The memory l with the two sides of a triangle in the slot at base, in the place of its first degree + 1 points and behind them, and all else as it was.
+-- Those points are the triangle's first row, and each row lies a fraction α of the way between the neighbours of the one before.
+abbrev pub withSides : Shape → List Float → ℕ → Scalar → List Float
+withSides s l base α =
+    let row = pointsOf (suc (s .dim)) (suc (s .degree)) (drop (pointsFrom s base) l) in
+    put l (pointsFrom s base) (numbers (sides (triangle geop α (suc (s .degree)) row)))
+
 -- ---- what fits
 
 -- Each point has D intervals.
@@ -128,16 +135,19 @@ pub record Fit (s : Shape) (c : Piece) : Type 0 where
   pub whole : Whole s c
   pub again : 1 ≤ s .degree → (t : Float) → T (fits binary64 t) → Whole s (fromBy geop (s .degree) t c (within (s .degree) c t) .piece)
 
--- ---- what a cut leaves in the memory
-
--- The cut k is written into the slot at base, and r is the number of the point at which it separates.
-pub record CutAt (s : Shape) (l m : List Float) (base : ℕ) (k : Cut) (r : ℕ) : Type 0 where
-  pub memory : m ≡ placed s l base (k .piece)
-  pub at : r ≡ k .at
+-- ---- what a cut leaves in the memory (document 02, E6)
+-- `memory` is one equation for every word of it, those included that nobody reads again. `others` draws from it that nothing has changed but the slots that were written;
+-- where the piece stands in a slot apart from these, it stands there as before.
 
 -- The memory m differs from l in the slot at a alone.
 abbrev pub OnlyAt : Shape → List Float → List Float → ℕ → Type 0
 OnlyAt s l m a = (i w : ℕ) → (i + w ≤ a) ⊎ (a + slotWords (s .dim) (s .degree) (s .count) ≤ i) → part m i w ≡ part l i w
+
+-- The cut k is written into the slot at base, and r is the number of the point at which it separates.
+pub record CutAt (s : Shape) (l m : List Float) (base : ℕ) (k : Cut) (r : ℕ) : Type 0 where
+  pub at : r ≡ k .at
+  pub memory : m ≡ placed s l base (k .piece)
+  pub others : OnlyAt s l m base
 
 -- The memory m differs from l in the slots at a and b alone.
 abbrev pub OnlyAtBoth : Shape → List Float → List Float → ℕ → ℕ → Type 0

@@ -13,15 +13,15 @@ use math::scalars::Scalar;
 ghost use mathlib.Core.Path.{_≡_};
 ghost use Prim.Native.Nat.{suc, _+_, _-_, _*_, _≤_, _<_};
 ghost use mathlib.Core.Bool.{_&&_};
-ghost use lib.ListN.{length, drop};
+ghost use lib.ListN.{length};
 ghost use lib.Dec.{eqb};
 ghost use lib.Ieee.{eq};
 ghost use Rattle.lists.specs.Lists.{part, put, tab, all, position};
 ghost use Rattle.math.specs.Scalars.{geop, isSame, sharp, subS, divS};
 ghost use Rattle.search.specs.NurbCurve.{knot};
-ghost use Rattle.search.specs.KnotInsertion.{holdsAt, insertionSpan, alpha, blend, knotsWith, insertOnce, insertTimes, triangle, sides, bezierKnots, bezierCut, multiplicity, isBezier, boehmCut, fullCut};
-ghost use Rattle.search.specs.Layout.{flat, pointsOf};
-ghost use Rattle.geometry.specs.Slots.{pointsFrom, pointWords, placeOf, countAt, knotsAt, vectorAt, blendAt, betweenAt, numbers, pieceAt, placed, Inside, Held, CutAt};
+ghost use Rattle.search.specs.KnotInsertion.{holdsAt, insertionSpan, alpha, blend, knotsWith, insertOnce, insertTimes, bezierKnots, bezierCut, multiplicity, isBezier, boehmCut, fullCut};
+ghost use Rattle.search.specs.Layout.{flat};
+ghost use Rattle.geometry.specs.Slots.{placeOf, countAt, vectorAt, blendAt, betweenAt, withSides, numbers, pieceAt, placed, Inside, Held, CutAt};
 
 // The parameter t is at or above knot k, and below the next.
 fn holds_at(knots: &[f64], t: f64, k: usize) -> bool
@@ -265,10 +265,13 @@ fn copy_point(work: &mut [f64], base: usize, s: Shape, i: usize, j: usize)
     copy(work, a, b, 2 * (s.dim + 1));
 }
 
-// The degree + 1 points of the slot at base become the two sides of their triangle: row by row in place, where the first point of a row stays and the last one is copied behind.
+// The degree + 1 points of the slot at base become the two sides of their triangle. It runs in this slot, the one that the cut writes, and no points are held elsewhere:
+// each row takes the place of the row before. Its first point is the left side's, and stays where it stands; its last one is copied behind, where the right side grows from
+// its end. Each point of the next row is written over the farther of the two that it lies between: over the nearer, the left side would be lost. So a row is made from its
+// far end: from the near one, points would be lost that it has yet to read.
 fn triangle_in(work: &mut [f64], base: usize, s: Shape, alpha: Scalar)
     requires { ⌜ Inside s (now work) base × (s .degree < s .count) ⌝ }
-    ensures { λ _. ⌜ now (work .exit) ≡ put (now (work .entry)) (pointsFrom s base) (numbers (sides (triangle geop alpha (suc (s .degree)) (pointsOf (suc (s .dim)) (suc (s .degree)) (drop (pointsFrom s base) (now (work .entry))))))) ⌝ }
+    ensures { λ _. ⌜ now (work .exit) ≡ withSides s (now (work .entry)) base alpha ⌝ }
 {
     let p = s.degree;
     let end = 2 * p + 1;
@@ -294,7 +297,7 @@ fn bezier_knots(work: &mut [f64], base: usize, degree: usize, a: f64, t: f64, b:
     fill(work, second + m, m, b);
 }
 
-// The piece in the slot at base, a Bezier span, is cut at t by the triangle, where alpha says how far t lies along it.
+// The piece in the slot at base, a Bezier span, is cut there at t by the triangle, where alpha says how far t lies along it.
 fn split_bezier_span(work: &mut [f64], base: usize, s: Shape, t: f64, alpha: Scalar)
     requires { ⌜ Held s (now work) base × (countAt (now work) base ≡ suc (s .degree)) × (s .degree < s .count) ⌝ }
     ensures { λ _. ⌜ now (work .exit) ≡ placed s (now (work .entry)) base (bezierCut geop (s .degree) t alpha (pieceAt s (now (work .entry)) base) .piece) ⌝ }

@@ -1,14 +1,16 @@
 -- A loop that writes a point between two points, interval by interval. Leans on the laws of lists.
-use mathlib.Core.Path.{_≡_, refl, sym, ap, _∙_}
+use mathlib.Core.Path.{_≡_, refl, sym, ap, _∙_, subst}
+use mathlib.Core.Bool.{Bool, true, false, not}
 use mathlib.Core.Logic.{_⊎_, inl, inr, ⊎-elim}
-use mathlib.Core.List.{List, [], _∷_, _++_}
-use Prim.Native.Nat.{ℕ, suc, _+_, _*_, _≤_, _<_}
+use mathlib.Core.List.{List, [], _∷_}
+use Prim.Native.Nat.{ℕ, _+_, _*_, _≤_, _<_}
 use native.Mathlib.Omega.{arith}
-use lib.ListN.{length, getD}
+use lib.Dec.{T, leb, leb→le, nleb→lt}
+use lib.ListN.{length}
 use lib.Ieee.{Float, nan}
 use Rattle.lists.specs.Lists.{put, tab}
 use Rattle.lists.proofs.Tab.{length-tab, zipWith-tab}
-use Rattle.lists.proofs.Put.{put-put, put-nil}
+use Rattle.lists.proofs.Put.{put-put}
 use Rattle.lists.proofs.Read.{getD-put-before, getD-put-after}
 use Rattle.math.specs.declared.scalars.Scalar.{Scalar}
 use Rattle.math.specs.Scalars.{geop, interpolateS}
@@ -22,6 +24,14 @@ pub scalar-put : (l : List Float) (c : ℕ) (vs : List Float) (a : ℕ) → c + 
 scalar-put l c vs a h s = ⊎-elim
     (λ (k : a + 1 < c). λ i. record { lo = getD-put-before l c vs a nan (omega arith) (omega arith) i; hi = getD-put-before l c vs (a + 1) nan (omega arith) (omega arith) i })
     (λ (k : c + length vs ≤ a). λ i. record { lo = getD-put-after l c vs a nan (omega arith) h i; hi = getD-put-after l c vs (a + 1) nan (omega arith) h i }) s
+
+-- w words at x lie in front of the place c, or begin at or behind it
+pub clear-of : (x w c : ℕ) → (x < c → x + w ≤ c) → (x + w ≤ c) ⊎ (c ≤ x)
+clear-of x w c h = by (leb c x) refl
+  where
+    by : (b : Bool) → leb c x ≡ b → (x + w ≤ c) ⊎ (c ≤ x)
+    by true e = inr (leb→le c x (subst T (sym e) tt))
+    by false e = inl (h (nleb→lt c x (subst (λ (v : Bool). T (not v)) (sym e) tt)))
 
 module _ (l : List Float) (a b c d : ℕ) (α : Scalar) where
   -- Interval number k of the point between.

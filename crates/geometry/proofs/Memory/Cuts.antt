@@ -1,10 +1,9 @@
 -- A cut in a slot, by the triangle or by insertions: what it leaves fits, and is what the steps of the code leave. Leans on the laws of insertions, of the triangle and of slots.
 use mathlib.Core.Path.{_≡_, refl, sym, ap, _∙_, subst}
-use mathlib.Core.Logic.{_⊎_, inl, inr}
 use mathlib.Core.Bool.{Bool, true, false, _&&_}
 use mathlib.Core.List.{List, [], _∷_, _++_, append-assoc}
 use Prim.Native.Nat.{ℕ, zero, suc, _+_, _-_, _*_, _≤_, _<_}
-use native.Mathlib.Numerals.{add-one, add-two}
+use native.Mathlib.Numerals.{add-one}
 use native.Mathlib.Omega.{arith}
 use lib.ListN.{length, drop, getD, replicate, length-append, length-replicate}
 use lib.Dec.{eqb}
@@ -12,24 +11,28 @@ use lib.Ieee.{Float, nan, eq}
 use borrow.Author.Tests.{eq-eqb, ne-eqb, eqb-true}
 use Rattle.lists.specs.Lists.{part, put, position}
 use Rattle.lists.proofs.Part.{getD-part}
-use Rattle.lists.proofs.Put.{length-put, put-put}
+use Rattle.lists.proofs.Put.{put-put}
 use Rattle.math.specs.declared.scalars.Scalar.{Scalar}
 use Rattle.math.specs.declared.scalars.Divided.{Divided}
 use Rattle.math.specs.declared.scalars.Divided.the-variants.{Value, Failed}
 use Rattle.math.specs.Scalars.{geop, sharp, subS, divS}
 use Rattle.math.proofs.Bools.{and-yes, and-no}
 use Rattle.search.specs.Vector.{Vector}
-use Rattle.search.specs.NurbCurve.{Piece, knot, point}
+use Rattle.search.specs.NurbCurve.{Piece, knot}
 use Rattle.search.specs.KnotInsertion.{Cut, triangle, sides, insertionSpan, insertOnce, insertTimes, bezierKnots, bezierCut, multiplicity, isBezier, boehmCut, cutBy, fullCut}
 use Rattle.search.specs.Layout.{pointsOf}
-use Rattle.geometry.specs.Slots.{pointsFrom, word, countAt, numbers, pieceAt, placed, Wide, Fits, Inside, Held, CutAt}
+use Rattle.geometry.specs.Slots.{pointsFrom, word, countAt, numbers, pieceAt, placed, withSides, Wide, Fits, Inside, Held, CutAt}
 use Rattle.geometry.specs.declared.slots.Shape.{Shape}
-use Rattle.geometry.proofs.Memory.Counts.{from-room}
-use Rattle.geometry.proofs.Memory.Piece.{fits-piece, count-points, piece-placed, held-placed, length-placed}
+use Rattle.geometry.proofs.Memory.Piece.{fits-piece, count-points, piece-placed, held-placed}
+use Rattle.geometry.proofs.Memory.Apart.{part-beside}
 use Rattle.geometry.proofs.Memory.Wide.{wide-append}
 use Rattle.geometry.proofs.Memory.Once.{assembled, once-count, fits-once}
 use Rattle.geometry.proofs.Memory.Levels.{heads, lasts, heads-long, lasts-long, heads-wide, lasts-wide, sides-are}
 use Rattle.geometry.proofs.Memory.Times.{span-bounds}
+
+-- a cut that fits is written into its slot alone
+cut-written : (s : Shape) (l w : List Float) (base r : ℕ) (k : Cut) → Inside s l base → Fits s (k .piece) → w ≡ placed s l base (k .piece) → r ≡ k .at → CutAt s l w base k r
+cut-written s l w base r k i f e q = record { at = q; memory = e; others = λ x v g. ap (λ (m : List Float). part m x v) e ∙ part-beside s l base x (k .piece) i f v g }
 
 -- ---- the knots of a Bezier span that is cut
 
@@ -88,7 +91,7 @@ unfolding pieceAt
 same-points s l base n = ap (λ (k : ℕ). pointsOf (suc (s .dim)) k (drop (pointsFrom s base) l)) (sym n)
 
 pub bezier-done : (s : Shape) (l l₁ l₂ l₃ : List Float) (base : ℕ) (t : Float) (α : Scalar) → Held s l base → countAt l base ≡ suc (s .degree) → s .degree < s .count
-    → l₁ ≡ put l (pointsFrom s base) (numbers (sides (triangle geop α (suc (s .degree)) (pointsOf (suc (s .dim)) (suc (s .degree)) (drop (pointsFrom s base) l)))))
+    → l₁ ≡ withSides s l base α
     → l₂ ≡ put l₁ (base + 1) (bezierKnots (s .degree) (getD l (base + 1 + s .degree) nan) t (getD l (base + 2 + s .degree) nan)) → l₃ ≡ put l₂ base (word (2 * s .degree + 2) ∷ [])
     → l₃ ≡ placed s l base (bezierCut geop (s .degree) t α (pieceAt s l base) .piece)
 unfolding bezierCut
@@ -105,6 +108,17 @@ bezier-done s l l₁ l₂ l₃ base t α h n small e₁ e₂ e₃ =
     let x₁ : l₁ ≡ put l (pointsFrom s base) (numbers (d .points)) = e₁ ∙ ap (λ (v : List Vector). put l (pointsFrom s base) (numbers (sides (triangle geop α (suc p) v)))) (same-points s l base n) in
     let x₂ : l₂ ≡ put (put l (pointsFrom s base) (numbers (d .points))) (base + 1) (d .knots) = e₂ ∙ (λ j. put (x₁ j) (base + 1) (bezierKnots p (ka j) t (kb j))) in
     e₃ ∙ (λ j. put (x₂ j) base (word (long j) ∷ [])) ∙ assembled s l base d (h .inside) fo
+
+pub bezier-at : (p : ℕ) (t : Float) (α : Scalar) (c : Piece) → p + 1 ≡ bezierCut geop p t α c .at
+unfolding bezierCut
+bezier-at p t α c = add-one p
+
+pub bezier-cut : (s : Shape) (l w : List Float) (base : ℕ) (t : Float) (α : Scalar) → Held s l base → countAt l base ≡ suc (s .degree) → s .degree < s .count
+    → w ≡ placed s l base (bezierCut geop (s .degree) t α (pieceAt s l base) .piece) → CutAt s l w base (bezierCut geop (s .degree) t α (pieceAt s l base)) (s .degree + 1)
+bezier-cut s l w base t α h n small e =
+    let c : Piece = pieceAt s l base in
+    let f : Fits s (bezierCut geop (s .degree) t α c .piece) = fits-bezier s c t α (fits-piece s l base h .wide) (count-points s l base h ∙ n) small in
+    cut-written s l w base (s .degree + 1) (bezierCut geop (s .degree) t α c) (h .inside) f e (bezier-at (s .degree) t α c)
 
 -- ---- the cut by insertions
 
@@ -139,20 +153,23 @@ module _ (s : Shape) (l w : List Float) (base : ℕ) (t : Float) (h : Held s l b
 
   -- the insertions were made as often as t was missing
   module _ (e : ℕ) (f : e ≡ suc (s .degree) - multiplicity t (pieceAt s l base .knots)) (g : w ≡ placed s l base (insertTimes geop (s .degree) t e (pieceAt s l base))) where
-    pub boehm-memory : w ≡ placed s l base (boehmCut geop (s .degree) t (pieceAt s l base) .piece)
+    boehm-memory : w ≡ placed s l base (boehmCut geop (s .degree) t (pieceAt s l base) .piece)
     unfolding boehmCut
     boehm-memory = g ∙ ap (λ (k : ℕ). placed s l base (insertTimes geop (s .degree) t k (pieceAt s l base))) f
 
     pub boehm-held : Held s w base
     boehm-held = subst (λ (v : List Float). Held s v base) (sym boehm-memory) (held-placed s l base (h .inside) (boehmCut geop (s .degree) t (pieceAt s l base) .piece) fits-boehm)
 
-    pub boehm-at : (k : ℕ) → k ≡ position (λ u. eq u t) (pieceAt s w base .knots) → k ≡ boehmCut geop (s .degree) t (pieceAt s l base) .at
+    boehm-at : (k : ℕ) → k ≡ position (λ u. eq u t) (pieceAt s w base .knots) → k ≡ boehmCut geop (s .degree) t (pieceAt s l base) .at
     boehm-at k q = q ∙ ap (λ (v : List Float). position (λ u. eq u t) (pieceAt s v base .knots)) boehm-memory
         ∙ ap (λ (c : Piece). position (λ u. eq u t) (c .knots)) (piece-placed s l base (h .inside) (boehmCut geop (s .degree) t (pieceAt s l base) .piece) fits-boehm)
         ∙ at-is
       where
         at-is : position (λ u. eq u t) (boehmCut geop (s .degree) t (pieceAt s l base) .piece .knots) ≡ boehmCut geop (s .degree) t (pieceAt s l base) .at
         at-is = unfold boehmCut in refl
+
+    pub boehm-cut : (k : ℕ) → k ≡ position (λ u. eq u t) (pieceAt s w base .knots) → CutAt s l w base (boehmCut geop (s .degree) t (pieceAt s l base)) k
+    boehm-cut k q = cut-written s l w base k (boehmCut geop (s .degree) t (pieceAt s l base)) (h .inside) fits-boehm boehm-memory (boehm-at k q)
 
 -- ---- which of the two
 
@@ -218,10 +235,10 @@ module _ (p : ℕ) (t : Float) (c : Piece) where
           never : false ≡ true → ⊥
           never q = let z : _≡_ {A = ℕ} 0 1 = cc in omega arith
 
+-- a slot whose piece the triangle cuts
+pub single-held : (s : Shape) (l : List Float) (base : ℕ) (t : Float) → Held s l base → single (s .degree) t (pieceAt s l base) ≡ true → countAt l base ≡ suc (s .degree)
+single-held s l base t h e = sym (count-points s l base h) ∙ single-count (s .degree) t (pieceAt s l base) e
+
 -- the cut of a slot's piece, as it comes from one of the two
 pub full-from : (s : Shape) (l w : List Float) (base k : ℕ) (t : Float) (c : Cut) → c ≡ fullCut geop (s .degree) t (pieceAt s l base) → CutAt s l w base c k → CutAt s l w base (fullCut geop (s .degree) t (pieceAt s l base)) k
 full-from s l w base k t c e f = subst (λ (d : Cut). CutAt s l w base d k) e f
-
-pub bezier-at : (p : ℕ) (t : Float) (α : Scalar) (c : Piece) → p + 1 ≡ bezierCut geop p t α c .at
-unfolding bezierCut
-bezier-at p t α c = add-one p

@@ -1,12 +1,12 @@
 -- The triangle in memory: a row in the place of the one before, and the last point of each row copied behind. Leans on the laws of points between, of lists and of slots.
 use mathlib.Core.Path.{_≡_, refl, sym, ap, _∙_}
-use mathlib.Core.Logic.{_⊎_, inl, inr}
-use mathlib.Core.List.{List, [], _∷_, _++_, append-nil, append-assoc}
-use Prim.Native.Nat.{ℕ, zero, suc, _+_, _-_, _*_, _≤_, _<_}
+use mathlib.Core.Logic.{inr}
+use mathlib.Core.List.{List, [], _∷_, _++_, append-assoc}
+use Prim.Native.Nat.{ℕ, suc, _+_, _-_, _*_, _≤_, _<_}
 use native.Mathlib.Nat.{add-zero}
 use native.Mathlib.Numerals.{add-one}
 use native.Mathlib.Omega.{arith}
-use lib.ListN.{length, take, drop, length-append}
+use lib.ListN.{length, drop, length-append}
 use lib.Seq.{getD-append-add}
 use lib.Ieee.{Float}
 use Rattle.lists.specs.Lists.{part, put, tab, lastD}
@@ -16,9 +16,8 @@ use Rattle.math.specs.declared.scalars.Scalar.{Scalar}
 use Rattle.math.specs.Scalars.{geop}
 use Rattle.search.specs.Vector.{Vector, interpolateV}
 use Rattle.search.specs.NurbCurve.{point}
-use Rattle.search.specs.KnotInsertion.{level, triangle, sides}
 use Rattle.search.specs.Layout.{flat, pointsOf}
-use Rattle.geometry.specs.Slots.{pointWords, pointsFrom, placeOf, vectorAt, betweenAt, numbers, Wide, Inside}
+use Rattle.geometry.specs.Slots.{pointWords, pointsFrom, placeOf, vectorAt, betweenAt, withSides, numbers, Wide, Inside}
 use Rattle.geometry.specs.declared.slots.Shape.{Shape}
 use Rattle.geometry.proofs.Memory.Copies.{put-front}
 use Rattle.geometry.proofs.Memory.Counts.{place-at, place-add, place-le, place-next, place-room, place-within}
@@ -264,8 +263,7 @@ module _ (s : Shape) (l : List Float) (base : ℕ) (α : Scalar) (ins : Inside s
       ∙ next-row r h
       ∙ (λ j. put (put l P (numbers (full (sym (add-one r) j)))) (placeOf s base (q j)) (numbers (lasts geop α (sym (add-one r) j) ps)))
 
-  pub triangle-done : (r : ℕ) → r ≡ s .degree
-      → withLast s l base α r ≡ put l (pointsFrom s base) (numbers (sides (triangle geop α (suc (s .degree)) (pointsOf (suc (s .dim)) (suc (s .degree)) (drop (pointsFrom s base) l)))))
+  pub triangle-done : (r : ℕ) → r ≡ s .degree → withLast s l base α r ≡ withSides s l base α
   triangle-done r e =
       let q : 2 * p + 1 - p ≡ suc p = omega arith in
       let one : rowAt geop α p ps ≡ point (rowAt geop α p ps) 0 ∷ [] = single (rowAt geop α p ps) (row-is p (omega arith) ∙ nat) in

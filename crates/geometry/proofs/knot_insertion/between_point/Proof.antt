@@ -1,5 +1,5 @@
 -- `between_point` equals its definition: the point between two neighbouring points, in the place of the upper one.
-use mathlib.Core.Logic.{inl, inr}
+use Rattle.geometry.proofs.Memory.Between.{clear-of}
 use Rattle.geometry.proofs.Memory.Triangle.{between-fits, between-done}
 use borrow.Author.Needs.{needs}
 use native.Mathlib.Omega.{arith}
@@ -23,7 +23,7 @@ interpolate-requires c κs =
     let k = c .before .before .before .before .before in
     let g = k .args in
     let f = between-fits (g .s) (g .work .now) (g .base) (g .j) (g .alpha) (k .pre .0) (k .pre .1) _ _ (c .before .before .before .place-of .ensures) (c .before .before .place-of2 .ensures) in
-    ((omega (arith, f .0, f .1), f .1, f .1), (inl (f .0), inr (omega arith)))
+    ((omega (arith, f .0, f .1), omega (arith, f .0, f .1), omega (arith, f .0, f .1)), (clear-of _ _ _ (λ h. omega (arith, h, f .0)), clear-of _ _ _ (λ h. omega (arith, h, f .0))))
 
 same-length : tie.Need-same-length
 same-length c = search needs

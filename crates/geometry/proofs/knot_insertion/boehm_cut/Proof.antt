@@ -1,5 +1,5 @@
 -- `boehm_cut` equals its definition: the insertions that are missing, and the first place of t.
-use Rattle.geometry.proofs.Memory.Cuts.{boehm-memory, boehm-held, boehm-at}
+use Rattle.geometry.proofs.Memory.Cuts.{boehm-held, boehm-cut}
 use borrow.Author.Needs.{needs}
 use Rattle.geometry.proofs.knot_insertion.boehm_cut.Statement.{statement}
 use Rattle.geometry.proofs.knot_insertion.boehm_cut.Tie as tie
@@ -23,10 +23,7 @@ returns : tie.Need-returns
 returns c =
     let k = c .before .before .before .before .before .before .before .before .before in
     let g = k .args in
-    record {
-      memory = boehm-memory (g .s) (g .work .now) _ (g .base) (g .t) (k .pre .0) (k .pre .1) (k .pre .2) _ (c .before .before .before .before .before .before .missing-in .ensures) (c .before .before .before .before .insert-times .ensures);
-      at = boehm-at (g .s) (g .work .now) _ (g .base) (g .t) (k .pre .0) (k .pre .1) (k .pre .2) _ (c .before .before .before .before .before .before .missing-in .ensures) (c .before .before .before .before .insert-times .ensures) _ (c .position-in .ensures);
-    }
+    boehm-cut (g .s) (g .work .now) _ (g .base) (g .t) (k .pre .0) (k .pre .1) (k .pre .2) _ (c .before .before .before .before .before .before .missing-in .ensures) (c .before .before .before .before .insert-times .ensures) _ (c .position-in .ensures)
 
 pub boehm-cut-spec : {M : Type 1} → statement M
 boehm-cut-spec =

@@ -1,9 +1,7 @@
 -- `insert_to_full_multiplicity` equals its definition: the triangle or the insertions, as the two tests say.
-use Rattle.geometry.specs.Slots.{pieceAt}
 use mathlib.Core.Path.{sym, _∙_}
 use borrow.Author.Tests.{not-true, not-false}
-use Rattle.geometry.proofs.Memory.Piece.{count-points}
-use Rattle.geometry.proofs.Memory.Cuts.{full-bezier, full-failed, full-boehm, single-count, full-from, bezier-at}
+use Rattle.geometry.proofs.Memory.Cuts.{full-bezier, full-failed, full-boehm, single-held, full-from, bezier-cut}
 use borrow.Author.Needs.{needs}
 use native.Mathlib.Omega.{arith}
 use Rattle.geometry.proofs.knot_insertion.insert_to_full_multiplicity.Statement.{statement}
@@ -33,7 +31,8 @@ split-bezier-span-requires : tie.Need-split-bezier-span-requires
 split-bezier-span-requires c κs =
     let k = c .before .before .before .before .before .before .before .before .before .before in
     let g = k .args in
-    (k .pre .0, sym (count-points (g .s) (g .work .now) (g .base) (k .pre .0)) ∙ single-count (g .s .degree) (g .t) (pieceAt (g .s) (g .work .now) (g .base)) (sym (c .before .before .before .before .before .before .before .is-bezier-in .ensures) ∙ not-false _ (c .before .before .before .before .before .before .if1 .left)), omega (arith, k .pre .1, k .pre .2))
+    let one = sym (c .before .before .before .before .before .before .before .is-bezier-in .ensures) ∙ not-false _ (c .before .before .before .before .before .before .if1 .left) in
+    (k .pre .0, single-held (g .s) (g .work .now) (g .base) (g .t) (k .pre .0) one, omega (arith, k .pre .1, k .pre .2))
 
 add-result : tie.Need-add-result
 add-result c = search needs
@@ -49,10 +48,12 @@ same-length-2 c = search needs
 
 returns-2 : tie.Need-returns-2
 returns-2 c =
-    let g = c .before .before .before .before .before .before .before .before .before .before .before .before .before .before .args in
+    let k = c .before .before .before .before .before .before .before .before .before .before .before .before .before .before in
+    let g = k .args in
+    let one = sym (c .before .before .before .before .before .before .before .before .before .before .before .is-bezier-in .ensures) ∙ not-false _ (c .before .before .before .before .before .before .before .before .before .before .if1 .left) in
     full-from (g .s) (g .work .now) _ (g .base) _ (g .t) _
-    (full-bezier (g .s .degree) (g .t) _ _ (sym (c .before .before .before .before .before .before .before .before .before .before .before .is-bezier-in .ensures) ∙ not-false _ (c .before .before .before .before .before .before .before .before .before .before .if1 .left)) (sym (c .before .before .before .before .before .before .before .before .along-in .ensures) ∙ c .before .before .before .before .before .before .along .given .1))
-    (record { memory = c .before .before .before .split-bezier-span .ensures; at = bezier-at (g .s .degree) (g .t) _ _ })
+    (full-bezier (g .s .degree) (g .t) _ _ one (sym (c .before .before .before .before .before .before .before .before .along-in .ensures) ∙ c .before .before .before .before .before .before .along .given .1))
+    (bezier-cut (g .s) (g .work .now) _ (g .base) (g .t) _ (k .pre .0) (single-held (g .s) (g .work .now) (g .base) (g .t) (k .pre .0) one) (omega (arith, k .pre .1, k .pre .2)) (c .before .before .before .split-bezier-span .ensures))
 
 same-length-3 : tie.Need-same-length-3
 same-length-3 c = search needs
