@@ -222,7 +222,18 @@ fn compare<const D: usize, const C: usize>(t: &mut Tally, r: &mut Rng, c: &Case)
     }
 }
 
-// ---- cuts: a slot holds the number of points, the knots and the points, each at its place
+// ---- cuts: a slot holds the number of points, the knots and the points, each at its place. The piece stands in the first of four slots
+/// What a call of insert_to_full_multiplicity is counted as.
+const BY_INSERTIONS: &str = "cut by insertions";
+const BY_TRIANGLE: [&str; 7] = [
+    "cut by the triangle, degree 1",
+    "cut by the triangle, degree 2",
+    "cut by the triangle, degree 3",
+    "cut by the triangle, degree 4",
+    "cut by the triangle, degree 5",
+    "cut by the triangle, degree 6",
+    "cut by the triangle, degree 7",
+];
 fn slot_words(c: &Case) -> usize {
     2 * (c.dim + 1) * (c.count + c.degree + 1) + 2 * (c.count + 2 * c.degree + 2)
 }
@@ -240,6 +251,11 @@ fn read_slot(c: &Case, l: &[f64], slot: usize) -> (Vec<f64>, Vec<f64>) {
     let n = l[0] as usize;
     let at = c.count + 2 * c.degree + 3;
     (l[1..n + c.degree + 2].to_vec(), l[at..at + 2 * (c.dim + 1) * n].to_vec())
+}
+/// The words of every slot but those that were written are as they were.
+fn only(c: &Case, l: &[f64], written: &[usize]) -> bool {
+    let (w, before) = (slot_words(c), write_slot(c));
+    (0..4).filter(|slot| !written.contains(slot)).all(|slot| (slot * w..(slot + 1) * w).all(|i| l[i].to_bits() == before[i].to_bits()))
 }
 fn flat<const D: usize>(points: &[Vector<D>]) -> Vec<f64> {
     points.iter().flat_map(|q| numbers(&q.to_array())).collect()
@@ -259,7 +275,8 @@ fn cuts<const D: usize>(t: &mut Tally, r: &mut Rng, c: &Case, points: &[Vector<D
     unsafe {
         let span = knot_insertion::find_insertion_span(knots, n - 1, p, s);
         t.see("find_insertion_span", k_span(c.knots.as_ptr(), c.knots.len(), n, p, x) == span, show);
-        t.see("is_bezier_span", k_bezier(c.knots.as_ptr(), c.knots.len(), n, p) == knot_insertion::is_bezier_span(knots, n, p), show);
+        let bezier = knot_insertion::is_bezier_span(knots, n, p);
+        t.see("is_bezier_span", k_bezier(c.knots.as_ptr(), c.knots.len(), n, p) == bezier, show);
         if !(a < x && x < b) || p == 0 {
             return;
         }
@@ -268,21 +285,22 @@ fn cuts<const D: usize>(t: &mut Tally, r: &mut Rng, c: &Case, points: &[Vector<D
         let mut l = write_slot(c);
         k_insert(l.as_mut_ptr(), l.len(), dim, p, n, span, x);
         let (ok, op) = read_slot(c, &l, 0);
-        t.see("insert_once", same(&ok, &lows(&k2)) && same(&op, &flat(&rows[0])), show);
+        t.see("insert_once", same(&ok, &lows(&k2)) && same(&op, &flat(&rows[0])) && only(c, &l, &[0]), show);
 
         let (mut k2, mut rows) = (knots.to_vec(), [points.to_vec()]);
         let at = knot_insertion::insert_to_full_multiplicity(&mut k2, &mut rows, p, s).unwrap();
         let mut l = write_slot(c);
         let ours = k_full(l.as_mut_ptr(), l.len(), dim, p, n, x);
         let (ok, op) = read_slot(c, &l, 0);
-        t.see("insert_to_full_multiplicity", ours == at && same(&ok, &lows(&k2)) && same(&op, &flat(&rows[0])), show);
+        let name = if bezier { BY_TRIANGLE[p - 1] } else { BY_INSERTIONS };
+        t.see(name, ours == at && same(&ok, &lows(&k2)) && same(&op, &flat(&rows[0])) && only(c, &l, &[0]), show);
 
         let (mut k2, mut rows) = (knots.to_vec(), [points.to_vec()]);
         let (rk, rr) = knot_insertion::split(&mut k2, &mut rows, p, s).unwrap();
         let mut l = write_slot(c);
         let done = k_split(l.as_mut_ptr(), l.len(), dim, p, n, slot_words(c), 2 * slot_words(c), x);
         let ((lk, lp), (qk, qp)) = (read_slot(c, &l, 1), read_slot(c, &l, 2));
-        t.see("split", done && same(&lk, &lows(&k2)) && same(&lp, &flat(&rows[0])) && same(&qk, &lows(&rk)) && same(&qp, &flat(&rr[0])), show);
+        t.see("split", done && same(&lk, &lows(&k2)) && same(&lp, &flat(&rows[0])) && same(&qk, &lows(&rk)) && same(&qp, &flat(&rr[0])) && only(c, &l, &[1, 2]), show);
 
         let (lo, hi) = if x < y { (x, y) } else { (y, x) };
         let (lo, hi) = if r.one_in(6) { (a, hi) } else if r.one_in(6) { (lo, b) } else { (lo, hi) };
@@ -291,7 +309,7 @@ fn cuts<const D: usize>(t: &mut Tally, r: &mut Rng, c: &Case, points: &[Vector<D
         let mut l = write_slot(c);
         k_restrict(l.as_mut_ptr(), l.len(), dim, p, n, slot_words(c), lo, hi);
         let (ok, op) = read_slot(c, &l, 1);
-        t.see("restrict", same(&ok, &lows(&k2)) && same(&op, &flat(&rows[0])), || format!("lo {lo} hi {hi} {}", show()));
+        t.see("restrict", same(&ok, &lows(&k2)) && same(&op, &flat(&rows[0])) && only(c, &l, &[1]), || format!("lo {lo} hi {hi} {}", show()));
     }
 }
 
@@ -303,6 +321,7 @@ fn main() {
         let c = case(&mut r);
         if c.dim == 2 { compare::<3, 2>(&mut t, &mut r, &c) } else { compare::<4, 3>(&mut t, &mut r, &c) }
     }
+    t.names.sort_by_key(|e| if e.0.starts_with("cut") { e.0 } else { "" });
     let mut differ = 0;
     println!("{:<30} {:>12} {:>12}", "function", "inputs", "differences");
     for (name, seen, bad) in &t.names {
