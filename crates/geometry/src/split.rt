@@ -21,7 +21,8 @@ pub(crate) fn in_domain(work: &[f64], base: usize, s: Shape, t: f64) -> bool
     work[first + s.degree] < t && t < work[first + n]
 }
 
-// The piece in the slot at src, where it stays, is cut at t in the slot at left; what is right of t goes to the slot at right. There is no cut unless t lies strictly inside the domain.
+// The piece in the slot at src, where it stays, is cut at t in the slot at left; what is right of t goes to the slot at right. There is no cut unless t lies strictly
+// inside the domain.
 pub(crate) fn split(
     work: &mut [f64],
     src: usize,
@@ -82,7 +83,8 @@ fn cut_up_to(work: &mut [f64], base: usize, s: Shape, t: f64) -> usize
     1
 }
 
-// The piece in the slot at src, where it stays, is cut down to lo and hi in the slot at to: the second cut is made in the slot of the first. The result is the number of cuts.
+// The piece in the slot at src, where it stays, is cut down to lo and hi in the slot at to: the second cut runs in the slot of the first. The result is the number of
+// cuts.
 pub(crate) fn restrict(work: &mut [f64], src: usize, to: usize, s: Shape, lo: f64, hi: f64) -> usize
     requires { ⌜ Held s (now work) src × Fit s (pieceAt s (now work) src) × Inside s (now work) to × Apart s src to × (1 ≤ s .degree) ⌝ }
     ensures { λ r. ⌜ RestrictAt s (now (work .entry)) (now (work .exit)) to lo hi (pieceAt s (now (work .entry)) src) r ⌝ }
