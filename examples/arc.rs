@@ -3,7 +3,7 @@
 mod puhlwazo {
     //! A safe face of the library: slices become pointers and lengths, and the three numbers of an answer one enum.
 
-    #[link(name = "capi", kind = "static")]
+    #[link(name = "puhlwazo", kind = "static")]
     unsafe extern "C" {
         fn puhlwazo_work_words(dim: usize, degree: usize, count: usize, nodes: usize) -> usize;
         fn puhlwazo_curve_could_contain(

@@ -1,6 +1,6 @@
-/* The search of libcapi.a, for C and C++: does a taught path pass through a box, and between which two parameters?
+/* The search of libpuhlwazo.a, for C and C++: does a taught path pass through a box, and between which two parameters?
  *
- * Build the library with `rt staticlib capi`; it is then target/staticlib/libcapi.a, for x86-64. It calls nothing but memcpy and memset, takes no
+ * Build the library with `rt staticlib puhlwazo`; it is then target/staticlib/libpuhlwazo.a, for x86-64. It calls nothing but memcpy and memset, takes no
  * memory of its own, and keeps nothing between two calls, so that several threads may call it at once, each with its own work area and answer.
  *
  * What the pointers must be, in every call:
@@ -8,7 +8,7 @@
  *   - work, counts and bounds overlap neither each other nor anything that is only read;
  *   - nothing else writes to any of it during the call.
  * Nothing more is asked: with any numbers and any lengths a call comes to an end with an answer. What is promised of it stands above the function of the
- * same name in crates/capi/src/lib.rt, and is proved. */
+ * same name in crates/puhlwazo/src/lib.rt, and is proved. */
 #ifndef PUHLWAZO_H
 #define PUHLWAZO_H
 

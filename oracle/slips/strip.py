@@ -4,7 +4,7 @@ import os
 import re
 import sys
 
-CRATES = ["math", "search", "geometry", "text"]
+CRATES = ["math", "model", "geometry", "text"]
 
 
 def clauses_out(text):

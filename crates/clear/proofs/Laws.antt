@@ -6,10 +6,10 @@ use lib.Dec.{T}
 use Rattle.exact.specs.Rational.{ℚ}
 use Rattle.math.specs.Scalars.{geop}
 use Rattle.math.proofs.Bools.{no}
-use Rattle.search.specs.Call.{Call, refusal, searchedBy, searched}
-use Rattle.search.specs.Enclosure.{Accepted, HitAt, HitsEnclosed}
-use Rattle.search.specs.declared.contains.Found.{Found}
-use Rattle.search.specs.declared.contains.Found.the-variants.{Nothing}
+use Rattle.model.specs.Call.{Call, refusal, searchedBy, searched}
+use Rattle.model.specs.Enclosure.{Accepted, HitAt, HitsEnclosed}
+use Rattle.model.specs.declared.contains.Found.{Found}
+use Rattle.model.specs.declared.contains.Found.the-variants.{Nothing}
 use Rattle.clear.specs.Clear.{isClear}
 
 -- a refused call does not come out as nothing

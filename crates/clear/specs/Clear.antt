@@ -1,7 +1,7 @@
 -- What a result says of a path and a box. Definitions only.
 use mathlib.Core.Bool.{Bool, true, false}
-use Rattle.search.specs.declared.contains.Found.{Found}
-use Rattle.search.specs.declared.contains.Found.the-variants.{Nothing, Enclosed, Spent, Refused}
+use Rattle.model.specs.declared.contains.Found.{Found}
+use Rattle.model.specs.declared.contains.Found.the-variants.{Nothing, Enclosed, Spent, Refused}
 
 -- Only a completed search that reported nothing shows that the curve meets the box nowhere.
 unfoldable pub isClear : Found → Bool

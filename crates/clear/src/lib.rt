@@ -1,12 +1,12 @@
 // A caller of the search, which goes by its contract alone: is the path clear of the box?
 use geometry::contains::curve_could_contain;
-use search::contains::Found;
+use model::contains::Found;
 ghost use mathlib.Core.Path.{_≡_};
 ghost use mathlib.Core.Bool.{true};
 ghost use Rattle.exact.specs.Rational.{ℚ};
 ghost use Rattle.math.specs.Scalars.{geop};
-ghost use Rattle.search.specs.Call.{lent, searched, areaAfter};
-ghost use Rattle.search.specs.Enclosure.{HitAt};
+ghost use Rattle.model.specs.Call.{lent, searched, areaAfter};
+ghost use Rattle.model.specs.Enclosure.{HitAt};
 ghost use Rattle.clear.specs.Clear.{isClear};
 
 // The search has shown that the curve meets the box nowhere. A search that was refused or spent has shown nothing.

@@ -5,7 +5,7 @@ use lib.ListN.{replicate}
 use Rattle.lists.specs.Lists.{put}
 use Rattle.math.specs.declared.scalars.Scalar.{Scalar}
 use Rattle.math.specs.Scalars.{zeroF}
-use Rattle.search.specs.Layout.{flat}
+use Rattle.model.specs.Layout.{flat}
 use Rattle.geometry.specs.declared.fat_line.Abscissae.{Abscissae}
 use Rattle.geometry.specs.declared.fat_line.Greville.the-variants.{Some, None}
 

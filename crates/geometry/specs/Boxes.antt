@@ -4,7 +4,7 @@ use mathlib.Core.Bool.{cond}
 use lib.Ieee.{binary64, mul}
 use Rattle.math.specs.declared.scalars.Scalar.{Scalar}
 use Rattle.math.specs.Scalars.{ENTIRE, hasZero, least4, most4, inverseS}
-use Rattle.search.specs.Vector.{Vector, coordinate}
+use Rattle.model.specs.Vector.{Vector, coordinate}
 
 -- The least and the greatest of the four products of two intervals' bounds, which a product widens.
 unfoldable pub corners : Scalar → Scalar → Scalar

@@ -1,4 +1,4 @@
--- What the code needs beside the definitions of crates/search: how numbers lie in the memory that is lent, and what the faster forms compute.
+-- What the code needs beside the definitions of crates/model: how numbers lie in the memory that is lent, and what the faster forms compute.
 pub mod Abscissae
 pub mod Sizes
 pub mod Boxes

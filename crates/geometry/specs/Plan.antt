@@ -7,14 +7,14 @@ use lib.ListN.{length}
 use lib.Ieee.{Float}
 use Rattle.math.specs.declared.scalars.Scalar.{Scalar}
 use Rattle.math.specs.Scalars.{Arithmetic}
-use Rattle.search.specs.NurbCurve.{Piece, start, end, domain}
-use Rattle.search.specs.Split.{splitMid, restrict}
-use Rattle.search.specs.Aabb.{aabb, couldOverlap}
-use Rattle.search.specs.FatLine.{greville, extent, restricts, halves}
-use Rattle.search.specs.Subdivide.{Question, Visit, dropped, reported}
-use Rattle.search.specs.Contains.{clip, carried, handOn, handBoth}
-use Rattle.search.specs.declared.fat_line.Hat.{Hat}
-use Rattle.search.specs.declared.fat_line.Hat.the-variants.{Over, Missing}
+use Rattle.model.specs.NurbCurve.{Piece, start, end, domain}
+use Rattle.model.specs.Split.{splitMid, restrict}
+use Rattle.model.specs.Aabb.{aabb, couldOverlap}
+use Rattle.model.specs.FatLine.{greville, extent, restricts, halves}
+use Rattle.model.specs.Subdivide.{Question, Visit, dropped, reported}
+use Rattle.model.specs.Contains.{clip, carried, handOn, handBoth}
+use Rattle.model.specs.declared.fat_line.Hat.{Hat}
+use Rattle.model.specs.declared.fat_line.Hat.the-variants.{Over, Missing}
 use Rattle.geometry.specs.declared.visits.Plan.{Plan}
 use Rattle.geometry.specs.declared.visits.Plan.the-variants.{Skip, Report, Restrict, Halve}
 

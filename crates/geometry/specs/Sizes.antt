@@ -6,8 +6,8 @@ use lib.Ieee.{Float, binary64, add, sub}
 use Rattle.lists.specs.Lists.{foldl}
 use Rattle.math.specs.Picks.{maxF}
 use Rattle.math.specs.Scalars.{zeroF}
-use Rattle.search.specs.Vector.{Vector}
-use Rattle.search.specs.FatLine.{cartesian, square}
+use Rattle.model.specs.Vector.{Vector}
+use Rattle.model.specs.FatLine.{cartesian, square}
 use Rattle.geometry.specs.declared.fat_line.Position.{Position}
 use Rattle.geometry.specs.declared.fat_line.Squares.{Squares}
 

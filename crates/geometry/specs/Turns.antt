@@ -9,9 +9,9 @@ use lib.Ieee.{Float}
 use Rattle.lists.specs.Ring.{wrapped}
 use Rattle.math.specs.declared.scalars.Scalar.{Scalar}
 use Rattle.math.specs.Scalars.{geop}
-use Rattle.search.specs.Subdivide.{Question, Visit, dropped, reported, restricted, halved, badWeight, State, Step, going, over, joined, advance}
-use Rattle.search.specs.Contains.{visit, begun}
-use Rattle.search.specs.Enclosure.{Every}
+use Rattle.model.specs.Subdivide.{Question, Visit, dropped, reported, restricted, halved, badWeight, State, Step, going, over, joined, advance}
+use Rattle.model.specs.Contains.{visit, begun}
+use Rattle.model.specs.Enclosure.{Every}
 use Rattle.geometry.specs.Slots.{pieceAt, Held, Fit}
 use Rattle.geometry.specs.Waiting.{waiting, Ring, Beside}
 use Rattle.geometry.specs.declared.slots.Shape.{Shape}

@@ -7,8 +7,8 @@ use lib.ListN.{length}
 use lib.Ieee.{Float}
 use Rattle.lists.specs.Lists.{part, tab}
 use Rattle.lists.specs.Ring.{wrapped}
-use Rattle.search.specs.NurbCurve.{Piece}
-use Rattle.search.specs.Layout.{slotWords}
+use Rattle.model.specs.NurbCurve.{Piece}
+use Rattle.model.specs.Layout.{slotWords}
 use Rattle.geometry.specs.Slots.{pieceAt, Sized, Held}
 use Rattle.geometry.specs.declared.slots.Shape.{Shape}
 

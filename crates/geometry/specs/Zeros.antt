@@ -8,9 +8,9 @@ use Rattle.math.specs.declared.scalars.Scalar.{Scalar}
 use Rattle.math.specs.declared.scalars.Divided.{Divided}
 use Rattle.math.specs.declared.scalars.Divided.the-variants.{Value, Failed}
 use Rattle.math.specs.Scalars.{geop, absent, ZERO, ENTIRE, couldBeEqual, unionS, addS, subS, mulS, divS}
-use Rattle.search.specs.FatLine.{offset, crossing, fatLineZeros}
-use Rattle.search.specs.declared.fat_line.Hat.{Hat}
-use Rattle.search.specs.declared.fat_line.Hat.the-variants.{Over, Missing}
+use Rattle.model.specs.FatLine.{offset, crossing, fatLineZeros}
+use Rattle.model.specs.declared.fat_line.Hat.{Hat}
+use Rattle.model.specs.declared.fat_line.Hat.the-variants.{Over, Missing}
 use Rattle.geometry.specs.declared.zeros.Line.{Line}
 
 -- There is a point, and as many abscissae as values.

@@ -7,7 +7,7 @@ use math::scalars::Divided;
 use math::scalars::Scalar;
 use math::scalars::next_down;
 use math::scalars::next_up;
-use search::fat_line::Hat;
+use model::fat_line::Hat;
 ghost use mathlib.Core.Path.{_≡_};
 ghost use mathlib.Core.Bool.{false};
 ghost use mathlib.Core.List.{map};
@@ -16,10 +16,10 @@ ghost use lib.ListN.{length};
 ghost use lib.Ieee.{isNan};
 ghost use Rattle.math.specs.Picks.{minF, maxF};
 ghost use Rattle.math.specs.Scalars.{geop, ZERO, ONE, unionS, inverseS};
-ghost use Rattle.search.specs.Vector.{coordinate};
-ghost use Rattle.search.specs.Layout.{scalarsOf, pointAt, pointsOf};
+ghost use Rattle.model.specs.Vector.{coordinate};
+ghost use Rattle.model.specs.Layout.{scalarsOf, pointAt, pointsOf};
 ghost use Rattle.geometry.specs.Boxes.{corners, rawPlace};
-ghost use Rattle.search.specs.Aabb.{unions, place, aabb, couldOverlap, along, meets, couldMeet};
+ghost use Rattle.model.specs.Aabb.{unions, place, aabb, couldOverlap, along, meets, couldMeet};
 
 // Coordinate k of point i over its weight.
 fn place(points: &[f64], dim: usize, i: usize, k: usize) -> Scalar

@@ -8,8 +8,8 @@ ghost use lib.Ieee.{binary64, fits, lt, le, eq};
 ghost use mathlib.Core.Bool.{true, _&&_, _||_};
 ghost use Rattle.lists.specs.Lists.{all};
 ghost use Rattle.math.specs.Scalars.{zeroF};
-ghost use Rattle.search.specs.Layout.{scalarsOf, slotWords};
-ghost use Rattle.search.specs.Call.{AllDoubles, usable, ordered, rising, seldom, sound, refusal};
+ghost use Rattle.model.specs.Layout.{scalarsOf, slotWords};
+ghost use Rattle.model.specs.Call.{AllDoubles, usable, ordered, rising, seldom, sound, refusal};
 ghost use Rattle.geometry.specs.Runs.{repeatsAt, seldomAt};
 
 // A number, and at most 2^100 in size.

@@ -14,20 +14,20 @@ use crate::subdivide::is_bad;
 use crate::subdivide::wrap;
 use crate::visits::visit;
 use math::scalars::Scalar;
-use search::contains::Found;
+use model::contains::Found;
 ghost use mathlib.Core.Path.{_≡_};
 ghost use Prim.Native.Nat.{_+_, _*_, _≤_, _<_};
 ghost use lib.ListN.{length, drop};
 ghost use Rattle.math.specs.Scalars.{geop};
-ghost use Rattle.search.specs.Layout.{scalarsOf, slotWords};
-ghost use Rattle.search.specs.Contains.{visit, begun};
-ghost use Rattle.search.specs.Subdivide.{plain, complete, advance, answered};
+ghost use Rattle.model.specs.Layout.{scalarsOf, slotWords};
+ghost use Rattle.model.specs.Contains.{visit, begun};
+ghost use Rattle.model.specs.Subdivide.{plain, complete, advance, answered};
 ghost use Rattle.geometry.specs.Slots.{pieceAt, Fit};
 ghost use Rattle.geometry.specs.Waiting.{baseOf, ringBase, Ring};
-ghost use Rattle.search.specs.Call.{AllDoubles, curve, lent, searched, areaAfter};
-ghost use Rattle.search.specs.Enclosure.{Accepted, HitsEnclosed, BoundsInDomain, BoundsPlain, BoundsInOrder};
-ghost use Rattle.search.specs.Debug.{DebugSays};
-ghost use Rattle.search.specs.Paper.{paper};
+ghost use Rattle.model.specs.Call.{AllDoubles, curve, lent, searched, areaAfter};
+ghost use Rattle.model.specs.Enclosure.{Accepted, HitsEnclosed, BoundsInDomain, BoundsPlain, BoundsInOrder};
+ghost use Rattle.model.specs.Debug.{DebugSays};
+ghost use Rattle.model.specs.Paper.{paper};
 ghost use Rattle.geometry.specs.Turns.{foundOf, Visited, Begins};
 
 // ---- the answer

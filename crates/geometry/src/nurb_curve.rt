@@ -8,9 +8,9 @@ ghost use Prim.Native.Nat.{suc, _+_, _*_, _≤_, _<_};
 ghost use lib.ListN.{length};
 ghost use lib.Ieee.{lt};
 ghost use Rattle.math.specs.Scalars.{geop, zeroF, ENTIRE, valueOr, isSame};
-ghost use Rattle.search.specs.Vector.{coordinate};
-ghost use Rattle.search.specs.Layout.{scalarAt, pointAt, pointsOf};
-ghost use Rattle.search.specs.NurbCurve.{domain, inDomain, midParameter, weighted};
+ghost use Rattle.model.specs.Vector.{coordinate};
+ghost use Rattle.model.specs.Layout.{scalarAt, pointAt, pointsOf};
+ghost use Rattle.model.specs.NurbCurve.{domain, inDomain, midParameter, weighted};
 
 // Interval number j of a lent list.
 pub(crate) fn scalar_at(l: &[f64], j: usize) -> Scalar

@@ -7,8 +7,8 @@ ghost use lib.ListN.{length, getD, replicate};
 ghost use lib.Dec.{T};
 ghost use lib.Ieee.{nan, inUnsigned, binary64};
 ghost use Rattle.lists.specs.Lists.{part, put};
-ghost use Rattle.search.specs.KnotInsertion.{leftOf, rightOf};
-ghost use Rattle.search.specs.Layout.{pointsOf};
+ghost use Rattle.model.specs.KnotInsertion.{leftOf, rightOf};
+ghost use Rattle.model.specs.Layout.{pointsOf};
 ghost use Rattle.geometry.specs.Slots.{word, pointWords, countAt, placeOf, numbers, pieceAt, placed, Sized, Inside, Held, Apart};
 
 // What the pieces of a call have in common: the dimension, the degree, and the number of points of the whole curve.

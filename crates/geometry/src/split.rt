@@ -8,7 +8,7 @@ use crate::slots::keep_left;
 ghost use mathlib.Core.Path.{_≡_};
 ghost use Prim.Native.Nat.{_≤_};
 ghost use Rattle.math.specs.Scalars.{geop};
-ghost use Rattle.search.specs.NurbCurve.{start, end, midParameter};
+ghost use Rattle.model.specs.NurbCurve.{start, end, midParameter};
 ghost use Rattle.geometry.specs.Slots.{pieceAt, Inside, Held, Apart, Whole, Fit, within, SplitAt, FromAt, UpToAt, RestrictAt};
 
 // The parameter t lies strictly inside the domain of the piece in the slot at base.

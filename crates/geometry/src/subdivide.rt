@@ -4,7 +4,7 @@ ghost use mathlib.Core.Path.{_≡_};
 ghost use mathlib.Core.Option.{some};
 ghost use Prim.Native.Nat.{_+_, _≤_, _<_};
 ghost use Rattle.lists.specs.Ring.{wrapped};
-ghost use Rattle.search.specs.Subdivide.{joined};
+ghost use Rattle.model.specs.Subdivide.{joined};
 ghost use Rattle.geometry.specs.Turns.{foundOf, handed, heard, isBad, Next};
 
 // What a visit made of its piece. What it hands on stands in the slots behind the pieces that wait.

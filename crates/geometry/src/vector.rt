@@ -7,8 +7,8 @@ ghost use Prim.Native.Nat.{_+_, _*_, _≤_, _<_};
 ghost use lib.ListN.{length};
 ghost use Rattle.lists.specs.Lists.{put};
 ghost use Rattle.math.specs.Scalars.{geop};
-ghost use Rattle.search.specs.Vector.{interpolateV};
-ghost use Rattle.search.specs.Layout.{flat};
+ghost use Rattle.model.specs.Vector.{interpolateV};
+ghost use Rattle.model.specs.Layout.{flat};
 ghost use Rattle.geometry.specs.Slots.{scalarFrom, vectorAt};
 
 // The interval whose lo stands at index i.

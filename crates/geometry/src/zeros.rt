@@ -4,7 +4,7 @@ use crate::fat_line::level_zeros;
 use crate::fat_line::sloped_zeros;
 use math::scalars::Divided;
 use math::scalars::Scalar;
-use search::fat_line::Hat;
+use model::fat_line::Hat;
 ghost use mathlib.Core.Path.{_≡_};
 ghost use Rattle.math.specs.Scalars.{ENTIRE};
 ghost use Rattle.geometry.specs.Zeros.{paired, polygonZeros, offBy, begun, taken, zerosOf};

@@ -14,12 +14,12 @@ use Rattle.lists.proofs.Read.{part-put-in, getD-put}
 use Rattle.math.specs.Scalars.{geop}
 use Rattle.math.proofs.Bools.{yes, and-l, pick-yes, pick-no}
 use Rattle.math.proofs.Doubles.Order.{le-number-r}
-use Rattle.search.specs.NurbCurve.{Piece, start, end}
-use Rattle.search.specs.Call.{lent, searched, dimFits, degreeFits, countFits}
-use Rattle.search.specs.Paper.{paper}
-use Rattle.search.specs.Enclosure.{BoundsInDomain}
-use Rattle.search.specs.declared.contains.Found.{Found}
-use Rattle.search.specs.declared.contains.Found.the-variants.{Nothing, Enclosed, Spent, Refused}
+use Rattle.model.specs.NurbCurve.{Piece, start, end}
+use Rattle.model.specs.Call.{lent, searched, dimFits, degreeFits, countFits}
+use Rattle.model.specs.Paper.{paper}
+use Rattle.model.specs.Enclosure.{BoundsInDomain}
+use Rattle.model.specs.declared.contains.Found.{Found}
+use Rattle.model.specs.declared.contains.Found.the-variants.{Nothing, Enclosed, Spent, Refused}
 use Rattle.text.specs.Bytes.{Read, bad, got}
 use Rattle.text.specs.Question.{Sizes, sizes, Numbers, numbers, Reading, refusedBy, asks, callOf, sizesRefused, completeBy, openedBy, readBy, reading}
 use Rattle.text.specs.Answer.{answeredBy, answered, printed, response}

@@ -12,7 +12,7 @@ use lib.Dec.{eqb, leb}
 use lib.Ieee.{Float}
 use borrow.Author.Tests.{eq-eqb, ne-eqb}
 use Rattle.lists.specs.Lists.{all, part, put}
-use Rattle.search.specs.Call.{dimFits, degreeFits, countFits}
+use Rattle.model.specs.Call.{dimFits, degreeFits, countFits}
 use Rattle.lists.proofs.Put.{put-nil, put-put, put-one, length-put}
 use Rattle.text.specs.Bytes.{bytes, Read, bad, got, then, word}
 use Rattle.text.specs.Numerals.{isHex, hexOf, doubleOf, small, double}

@@ -12,10 +12,10 @@ use lib.Ieee.{Float, binary64, toBits}
 use borrow.Author.Tests.{le-leb, lt-leb}
 use Rattle.lists.specs.Lists.{put}
 use Rattle.lists.proofs.Put.{put-nil, put-put, put-cons}
-use Rattle.search.specs.Paper.{paper}
-use Rattle.search.specs.declared.contains.Found.{Found}
-use Rattle.search.specs.declared.contains.Found.the-variants.{Nothing, Enclosed, Spent, Refused}
-use Rattle.search.proofs.contains.Found.{the-type}
+use Rattle.model.specs.Paper.{paper}
+use Rattle.model.specs.declared.contains.Found.{Found}
+use Rattle.model.specs.declared.contains.Found.the-variants.{Nothing, Enclosed, Spent, Refused}
+use Rattle.model.proofs.contains.Found.{the-type}
 use denote.Enum.Declared.{tagOf}
 use Rattle.math.specs.declared.scalars.Scalar.{Scalar}
 use Rattle.text.specs.Bytes.{bytes}

@@ -4,10 +4,10 @@ use mathlib.Core.List.{List, _++_}
 use mathlib.Core.Option.{Option, none, some}
 use Rattle.math.specs.declared.scalars.Scalar.{Scalar}
 use Rattle.math.specs.Scalars.{geop}
-use Rattle.search.specs.Call.{searched}
-use Rattle.search.specs.Paper.{Result, none-found, enclosed, spent, refused, Paper, paper}
-use Rattle.search.specs.declared.contains.Found.{Found}
-use Rattle.search.specs.declared.contains.Found.the-variants.{Refused}
+use Rattle.model.specs.Call.{searched}
+use Rattle.model.specs.Paper.{Result, none-found, enclosed, spent, refused, Paper, paper}
+use Rattle.model.specs.declared.contains.Found.{Found}
+use Rattle.model.specs.declared.contains.Found.the-variants.{Refused}
 use Rattle.text.specs.Bytes.{bytes}
 use Rattle.text.specs.Numerals.{decimal, hexadecimal}
 use Rattle.text.specs.Question.{Reading, refusedBy, asks, callOf, reading}

@@ -7,8 +7,8 @@ use lib.ListN.{length}
 use lib.Dec.{T}
 use lib.Ieee.{isNan}
 use Rattle.lists.specs.Lists.{put}
-use Rattle.search.specs.declared.contains.Found.{Found}
-use Rattle.search.specs.declared.contains.Found.the-variants.{Nothing, Enclosed, Spent, Refused}
+use Rattle.model.specs.declared.contains.Found.{Found}
+use Rattle.model.specs.declared.contains.Found.the-variants.{Nothing, Enclosed, Spent, Refused}
 
 -- The bytes ws were written to the memory l from `at` on, which became m; they end in front of r.
 pub record Written (l : List ℕ) (at : ℕ) (ws m : List ℕ) (r : ℕ) : Type 0 where

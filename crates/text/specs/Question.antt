@@ -5,7 +5,7 @@ use mathlib.Core.List.{List, [], _∷_, _++_}
 use lib.ListN.{length, getD}
 use lib.Dec.{leb, eqb}
 use lib.Ieee.{Float, nan}
-use Rattle.search.specs.Call.{Call, dimFits, degreeFits, countFits}
+use Rattle.model.specs.Call.{Call, dimFits, degreeFits, countFits}
 use Rattle.text.specs.Bytes.{bytes, Read, bad, got, then, word}
 use Rattle.text.specs.Numerals.{small, double}
 

@@ -1,5 +1,5 @@
 // The five lines of an answer.
-use search::contains::Found;
+use model::contains::Found;
 ghost use mathlib.Core.Path.{_≡_};
 ghost use mathlib.Core.Bool.{not};
 ghost use mathlib.Core.List.{_++_};
@@ -8,7 +8,7 @@ ghost use lib.ListN.{length};
 ghost use lib.Dec.{T};
 ghost use lib.Ieee.{isNan};
 ghost use Rattle.lists.specs.Lists.{put};
-ghost use Rattle.search.specs.Paper.{paper};
+ghost use Rattle.model.specs.Paper.{paper};
 ghost use Rattle.text.specs.Numerals.{digitOf, lastDigits, decimalLength, decimal, hexadecimal};
 ghost use Rattle.text.specs.Answer.{resultWord, boundLines, printed};
 ghost use Rattle.text.specs.Printable.{Written, Printable};

@@ -2,7 +2,7 @@
 use mathlib.Core.Path.{refl}
 use mathlib.Core.Bool.{false}
 use Rattle.math.proofs.Bools.{yes}
-use Rattle.search.specs.Call.{Call, lent}
+use Rattle.model.specs.Call.{Call, lent}
 use Rattle.clear.specs.Clear.{isClear}
 use Rattle.clear.proofs.Laws.{clear, unclear}
 use borrow.Author.Needs.{needs}

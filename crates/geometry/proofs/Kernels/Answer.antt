@@ -13,25 +13,25 @@ use Rattle.lists.proofs.Loop.{cleared-put, cleared-same}
 use Rattle.lists.proofs.Ring.{wrapped-head}
 use Rattle.math.specs.Scalars.{geop, zeroF}
 use Rattle.math.proofs.Bools.{pick-yes, pick-no}
-use Rattle.search.specs.NurbCurve.{Piece}
-use Rattle.search.specs.Layout.{pointsOf, pointAt, slotWords}
-use Rattle.search.specs.Aabb.{couldMeet}
-use Rattle.search.specs.Subdivide.{advance, answered}
-use Rattle.search.specs.Contains.{visit, begun, couldContain}
-use Rattle.search.specs.Call.{Call, curve, boxOf, question, refusal, stated, searchedBy, searched, areaBy, areaAfter}
-use Rattle.search.specs.Enclosure.{Doubles, Accepted, HitsEnclosed, BoundsInDomain, BoundsPlain, BoundsInOrder}
-use Rattle.search.specs.Debug.{DebugSays}
+use Rattle.model.specs.NurbCurve.{Piece}
+use Rattle.model.specs.Layout.{pointsOf, pointAt, slotWords}
+use Rattle.model.specs.Aabb.{couldMeet}
+use Rattle.model.specs.Subdivide.{advance, answered}
+use Rattle.model.specs.Contains.{visit, begun, couldContain}
+use Rattle.model.specs.Call.{Call, curve, boxOf, question, refusal, stated, searchedBy, searched, areaBy, areaAfter}
+use Rattle.model.specs.Enclosure.{Doubles, Accepted, HitsEnclosed, BoundsInDomain, BoundsPlain, BoundsInOrder}
+use Rattle.model.specs.Debug.{DebugSays}
 use Rattle.geometry.specs.Slots.{pointWords, pieceAt, placed, Fits, Inside, Held}
 use Rattle.geometry.specs.Waiting.{ringBase, Ring, Beside}
 use Rattle.geometry.specs.Turns.{AllFit, Begins}
-use Rattle.search.specs.declared.contains.Found.{Found}
-use Rattle.search.specs.declared.contains.Found.the-variants.{Nothing, Refused}
-use Rattle.search.proofs.Sound.Accepted.{Sizes, sizes}
+use Rattle.model.specs.declared.contains.Found.{Found}
+use Rattle.model.specs.declared.contains.Found.the-variants.{Nothing, Refused}
+use Rattle.model.proofs.Sound.Accepted.{Sizes, sizes}
 use Rattle.geometry.proofs.Memory.Numbers.{length-points, wide-points}
 use Rattle.geometry.proofs.Memory.Piece.{wordsOf, length-placed, piece-placed, held-placed}
 use Rattle.geometry.proofs.Memory.Ring.{beside-placed, beside-behind}
-use Rattle.search.proofs.Enclosure.{geop-enclosure}
-use Rattle.search.proofs.Debug.Call.{never-fires, debug-says}
+use Rattle.model.proofs.Enclosure.{geop-enclosure}
+use Rattle.model.proofs.Debug.Call.{never-fires, debug-says}
 use Rattle.geometry.proofs.Kernels.Fit.{shapeOf, all-fit}
 
 -- ---- a call that is refused

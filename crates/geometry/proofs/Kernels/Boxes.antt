@@ -20,14 +20,14 @@ use Rattle.math.specs.Scalars.{geop, absent, sharp, ZERO, ONE, ENTIRE, hasZero,
 use Rattle.math.specs.declared.scalars.Scalar.{Scalar}
 use Rattle.math.specs.declared.scalars.Divided.{Divided}
 use Rattle.math.specs.declared.scalars.Divided.the-variants.{Value, Failed}
-use Rattle.search.specs.declared.fat_line.Hat.{Hat}
-use Rattle.search.specs.declared.fat_line.Hat.the-variants.{Over, Missing}
+use Rattle.model.specs.declared.fat_line.Hat.{Hat}
+use Rattle.model.specs.declared.fat_line.Hat.the-variants.{Over, Missing}
 use Rattle.math.proofs.Bools.{pick}
 use Rattle.math.proofs.Doubles.Order.{number, number-neg}
 use Rattle.math.proofs.Doubles.Least.{min-either, max-either, max-is, min-number, least-fits}
-use Rattle.search.specs.Vector.{Vector, coordinate}
-use Rattle.search.specs.Layout.{scalarAt, scalarsOf, pointAt, pointsOf}
-use Rattle.search.specs.Aabb.{unions, place, aabb, couldOverlap, alongBy, along, meets, couldMeet}
+use Rattle.model.specs.Vector.{Vector, coordinate}
+use Rattle.model.specs.Layout.{scalarAt, scalarsOf, pointAt, pointsOf}
+use Rattle.model.specs.Aabb.{unions, place, aabb, couldOverlap, alongBy, along, meets, couldMeet}
 use Rattle.geometry.specs.Boxes.{corners, rawPlace}
 use Rattle.geometry.proofs.Kernels.Widening.{Bounds, bounds-union, ends}
 use Rattle.geometry.proofs.Kernels.Walks.{all-keep, all-stop, all-end}

@@ -10,8 +10,8 @@ use lib.Dec.{leb, eqb}
 use lib.ListN.{length, drop, getD}
 use lib.Ieee.{Float, nan, lt, le}
 use Rattle.lists.specs.Lists.{all}
-use Rattle.search.specs.Layout.{slotWords}
-use Rattle.search.specs.Call.{Call, dimFits, degreeFits, countFits, lengthsFit, numbersUsable, boundsOrdered, weightsAbove, rising, seldom, sound, knotsSound, nodesFit, areaFits, firstFailed, refusal}
+use Rattle.model.specs.Layout.{slotWords}
+use Rattle.model.specs.Call.{Call, dimFits, degreeFits, countFits, lengthsFit, numbersUsable, boundsOrdered, weightsAbove, rising, seldom, sound, knotsSound, nodesFit, areaFits, firstFailed, refusal}
 
 -- one knot of those that are left, and the next
 rising-step : (l : List Float) (j : ℕ) → suc j < length l → rising (drop j l) ≡ le (getD l j nan) (getD l (suc j) nan) && rising (drop (suc j) l)

@@ -13,12 +13,12 @@ use Rattle.lists.proofs.Tab.{length-tab, getD-tab, map-tab, tab-ext}
 use Rattle.math.specs.declared.scalars.Scalar.{Scalar}
 use Rattle.math.specs.Scalars.{geop, absent, couldBeEqual, intersectS, subS, mulS}
 use Rattle.math.proofs.Bools.{pick-yes, pick-no}
-use Rattle.search.specs.Vector.{Vector, coordinate}
-use Rattle.search.specs.Layout.{scalarAt, scalarsOf, pointAt, pointsOf, flat}
-use Rattle.search.specs.FatLine.{fatLineZeros}
-use Rattle.search.specs.Contains.{axis, narrowed, clip}
-use Rattle.search.specs.declared.fat_line.Hat.{Hat}
-use Rattle.search.specs.declared.fat_line.Hat.the-variants.{Over, Missing}
+use Rattle.model.specs.Vector.{Vector, coordinate}
+use Rattle.model.specs.Layout.{scalarAt, scalarsOf, pointAt, pointsOf, flat}
+use Rattle.model.specs.FatLine.{fatLineZeros}
+use Rattle.model.specs.Contains.{axis, narrowed, clip}
+use Rattle.model.specs.declared.fat_line.Hat.{Hat}
+use Rattle.model.specs.declared.fat_line.Hat.the-variants.{Over, Missing}
 use Rattle.geometry.proofs.Kernels.Flat.{length-put-flat, scalars-put}
 
 -- ---- the values of an axis

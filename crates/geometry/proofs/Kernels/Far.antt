@@ -26,8 +26,8 @@ use Rattle.math.specs.Root.{rootOf, sqrtF}
 use Rattle.math.specs.RootLaws.{isFinite, SqrtEncloses}
 use Rattle.math.specs.Scalars.{zeroF}
 use Rattle.math.specs.Values.{value}
-use Rattle.search.specs.Vector.{Vector}
-use Rattle.search.specs.FatLine.{cartesian, square, pathLength, extent}
+use Rattle.model.specs.Vector.{Vector}
+use Rattle.model.specs.FatLine.{cartesian, square, pathLength, extent}
 use Rattle.geometry.specs.Sizes.{squared, squaresFrom, squares, steps}
 use Rattle.geometry.specs.declared.fat_line.Squares.{Squares}
 use Rattle.geometry.proofs.Kernels.Sizes.{withRoot, path-roots}

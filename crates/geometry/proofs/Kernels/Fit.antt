@@ -12,21 +12,21 @@ use Rattle.math.specs.Scalars.{Arithmetic, geop, unionS}
 use Rattle.math.specs.Values.{value}
 use Rattle.math.proofs.Bools.{pick}
 use Rattle.math.proofs.Intervals.Instance.{geop-encloses}
-use Rattle.search.specs.NurbCurve.{Piece, start, end}
-use Rattle.search.specs.Aabb.{aabb, couldOverlap}
-use Rattle.search.specs.FatLine.{greville}
-use Rattle.search.specs.Subdivide.{Question, Visit, dropped, Step, going, over, advance}
-use Rattle.search.specs.Contains.{clipped, visit, begun}
-use Rattle.search.specs.Call.{Call, curve, question}
-use Rattle.search.specs.Enclosure.{Doubles, Accepted, Every}
+use Rattle.model.specs.NurbCurve.{Piece, start, end}
+use Rattle.model.specs.Aabb.{aabb, couldOverlap}
+use Rattle.model.specs.FatLine.{greville}
+use Rattle.model.specs.Subdivide.{Question, Visit, dropped, Step, going, over, advance}
+use Rattle.model.specs.Contains.{clipped, visit, begun}
+use Rattle.model.specs.Call.{Call, curve, question}
+use Rattle.model.specs.Enclosure.{Doubles, Accepted, Every}
 use Rattle.geometry.specs.Slots.{within, Whole, Fit}
 use Rattle.geometry.specs.Turns.{AllFit}
 use Rattle.geometry.specs.declared.slots.Shape.{Shape}
-use Rattle.search.proofs.Sound.Search.{Fine, Ready, Stands, stands}
-use Rattle.search.proofs.Sound.Accepted.{checked}
-use Rattle.search.proofs.Sound.Restrict.{Sub, sub-self, from-sub, strict}
-use Rattle.search.proofs.Sound.Visits.{Inner, inner-union, Ok, visit-fine}
-use Rattle.search.proofs.Enclosure.{whole-ok}
+use Rattle.model.proofs.Sound.Search.{Fine, Ready, Stands, stands}
+use Rattle.model.proofs.Sound.Accepted.{checked}
+use Rattle.model.proofs.Sound.Restrict.{Sub, sub-self, from-sub, strict}
+use Rattle.model.proofs.Sound.Visits.{Inner, inner-union, Ok, visit-fine}
+use Rattle.model.proofs.Enclosure.{whole-ok}
 use Rattle.geometry.proofs.Memory.Numbers.{length-points}
 
 -- ---- degree 0: no piece is handed on

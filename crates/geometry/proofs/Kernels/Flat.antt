@@ -13,7 +13,7 @@ use Rattle.lists.proofs.Put.{put-nil, put-snoc, length-put}
 use Rattle.lists.proofs.Read.{getD-put}
 use Rattle.math.specs.declared.scalars.Scalar.{Scalar}
 use Rattle.math.specs.Scalars.{absent}
-use Rattle.search.specs.Layout.{scalarAt, scalarsOf, flat}
+use Rattle.model.specs.Layout.{scalarAt, scalarsOf, flat}
 
 pub length-flat : (xs : List Scalar) → length (flat xs) ≡ 2 * length xs
 unfolding flat

@@ -11,12 +11,12 @@ use lib.Ieee.{Float}
 use Rattle.math.specs.declared.scalars.Scalar.{Scalar}
 use Rattle.math.specs.Scalars.{geop}
 use Rattle.math.proofs.Bools.{yes, no, pick-yes, pick-no}
-use Rattle.search.specs.NurbCurve.{Piece, start, end, domain, weighted, midParameter}
-use Rattle.search.specs.Split.{Halves, uncut, both, splitMid, Restricted, restrict}
-use Rattle.search.specs.Aabb.{aabb, couldOverlap}
-use Rattle.search.specs.FatLine.{greville}
-use Rattle.search.specs.Subdivide.{Question, Visit, restricted, halved, badWeight, reported}
-use Rattle.search.specs.Contains.{handOn, handBoth, visit}
+use Rattle.model.specs.NurbCurve.{Piece, start, end, domain, weighted, midParameter}
+use Rattle.model.specs.Split.{Halves, uncut, both, splitMid, Restricted, restrict}
+use Rattle.model.specs.Aabb.{aabb, couldOverlap}
+use Rattle.model.specs.FatLine.{greville}
+use Rattle.model.specs.Subdivide.{Question, Visit, restricted, halved, badWeight, reported}
+use Rattle.model.specs.Contains.{handOn, handBoth, visit}
 use Rattle.geometry.specs.Slots.{pieceAt, Held, HoldingBoth, wasCut, SplitAt, RestrictAt}
 use Rattle.geometry.specs.Waiting.{Beside}
 use Rattle.geometry.specs.Turns.{outcomeOf, Visited}

@@ -9,18 +9,18 @@ use lib.Ieee.{Float, nan}
 use Rattle.math.specs.declared.scalars.Scalar.{Scalar}
 use Rattle.math.specs.Scalars.{Arithmetic, geop}
 use Rattle.math.proofs.Bools.{pick-yes, pick-no}
-use Rattle.search.specs.Vector.{Vector}
-use Rattle.search.specs.NurbCurve.{Piece, start, end, domain}
-use Rattle.search.specs.Aabb.{aabb, couldOverlap}
-use Rattle.search.specs.FatLine.{greville, extent, restricts, halves}
+use Rattle.model.specs.Vector.{Vector}
+use Rattle.model.specs.NurbCurve.{Piece, start, end, domain}
+use Rattle.model.specs.Aabb.{aabb, couldOverlap}
+use Rattle.model.specs.FatLine.{greville, extent, restricts, halves}
 use Rattle.geometry.specs.Abscissae.{held}
-use Rattle.search.specs.Layout.{scalarsOf, pointsOf}
-use Rattle.search.specs.Subdivide.{Question, Visit, dropped, reported}
-use Rattle.search.specs.Split.{splitMid, restrict}
-use Rattle.search.specs.Contains.{clip, carried, handOn, handBoth, shrink, clipped, visit}
+use Rattle.model.specs.Layout.{scalarsOf, pointsOf}
+use Rattle.model.specs.Subdivide.{Question, Visit, dropped, reported}
+use Rattle.model.specs.Split.{splitMid, restrict}
+use Rattle.model.specs.Contains.{clip, carried, handOn, handBoth, shrink, clipped, visit}
 use Rattle.geometry.specs.Plan.{planHat, planShrink, planClip, planned, carriedOut}
-use Rattle.search.specs.declared.fat_line.Hat.{Hat}
-use Rattle.search.specs.declared.fat_line.Hat.the-variants.{Over, Missing}
+use Rattle.model.specs.declared.fat_line.Hat.{Hat}
+use Rattle.model.specs.declared.fat_line.Hat.the-variants.{Over, Missing}
 use Rattle.geometry.specs.declared.fat_line.Abscissae.{Abscissae}
 use Rattle.geometry.specs.declared.fat_line.Greville.the-variants.{Some}
 use Rattle.geometry.specs.declared.visits.Plan.{Plan}

@@ -11,9 +11,9 @@ use Rattle.lists.specs.Lists.{all}
 use Rattle.lists.proofs.Tab.{length-tab, getD-tab}
 use Rattle.math.specs.Scalars.{zeroF, absent}
 use Rattle.math.specs.declared.scalars.Scalar.{Scalar}
-use Rattle.search.specs.Vector.{Vector, coordinate}
-use Rattle.search.specs.NurbCurve.{weighted}
-use Rattle.search.specs.Layout.{scalarAt, pointAt, pointsOf}
+use Rattle.model.specs.Vector.{Vector, coordinate}
+use Rattle.model.specs.NurbCurve.{weighted}
+use Rattle.model.specs.Layout.{scalarAt, pointAt, pointsOf}
 use Rattle.geometry.proofs.Kernels.Walks.{all-keep, all-stop, all-end}
 
 -- interval k of point i

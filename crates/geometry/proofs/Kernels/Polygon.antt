@@ -12,10 +12,10 @@ use Rattle.math.specs.declared.scalars.Divided.{Divided}
 use Rattle.math.specs.declared.scalars.Divided.the-variants.{Value, Failed}
 use Rattle.math.specs.Scalars.{geop, absent, ZERO, ENTIRE, couldBeEqual, unionS, addS, subS, divS}
 use Rattle.math.proofs.Bools.{and-l, and-r}
-use Rattle.search.specs.Aabb.{unions}
-use Rattle.search.specs.FatLine.{offset, crossing, zerosBy, fatLineZeros}
-use Rattle.search.specs.declared.fat_line.Hat.{Hat}
-use Rattle.search.specs.declared.fat_line.Hat.the-variants.{Over, Missing}
+use Rattle.model.specs.Aabb.{unions}
+use Rattle.model.specs.FatLine.{offset, crossing, zerosBy, fatLineZeros}
+use Rattle.model.specs.declared.fat_line.Hat.{Hat}
+use Rattle.model.specs.declared.fat_line.Hat.the-variants.{Over, Missing}
 use Rattle.geometry.specs.Zeros.{paired, polygonZeros, offBy, begun, taken, zerosOf}
 use Rattle.geometry.specs.declared.zeros.Line.{Line}
 use Rattle.geometry.proofs.Kernels.Zeros.{unions-first, unions-turn}

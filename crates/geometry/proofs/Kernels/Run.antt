@@ -12,20 +12,20 @@ use borrow.Author.Tests.{lt-ltb, le-ltb}
 use Rattle.lists.specs.Ring.{wrapped}
 use Rattle.math.specs.declared.scalars.Scalar.{Scalar}
 use Rattle.math.specs.Scalars.{geop}
-use Rattle.search.specs.NurbCurve.{Piece}
-use Rattle.search.specs.Layout.{slotWords}
-use Rattle.search.specs.Subdivide.{Question, Visit, State, Step, going, over, complete, ended, step, advance, answered}
-use Rattle.search.specs.Contains.{visit, begun}
-use Rattle.search.specs.Enclosure.{Every}
+use Rattle.model.specs.NurbCurve.{Piece}
+use Rattle.model.specs.Layout.{slotWords}
+use Rattle.model.specs.Subdivide.{Question, Visit, State, Step, going, over, complete, ended, step, advance, answered}
+use Rattle.model.specs.Contains.{visit, begun}
+use Rattle.model.specs.Enclosure.{Every}
 use Rattle.geometry.specs.Slots.{pieceAt, Held, countAt, Fit}
 use Rattle.geometry.specs.Waiting.{baseOf, ringBase, waiting, Ring}
 use Rattle.geometry.specs.Turns.{foundOf, stateOf, isBad, Next, Visited, AllFit, Begins}
-use Rattle.search.specs.declared.contains.Found.{Found}
-use Rattle.search.specs.declared.contains.Found.the-variants.{Spent, Refused}
+use Rattle.model.specs.declared.contains.Found.{Found}
+use Rattle.model.specs.declared.contains.Found.the-variants.{Spent, Refused}
 use Rattle.geometry.specs.declared.slots.Shape.{Shape}
 use Rattle.geometry.specs.declared.subdivide.Outcome.{Outcome}
 use Rattle.geometry.specs.declared.subdivide.Search.{Search}
-use Rattle.search.proofs.Pause.{ends, once, fails, waits}
+use Rattle.model.proofs.Pause.{ends, once, fails, waits}
 use Rattle.geometry.proofs.Memory.Piece.{count-points}
 use Rattle.geometry.proofs.Memory.Ring.{length-waiting, waiting-none, waiting-pop, head-held}
 use Rattle.geometry.proofs.Kernels.Plan.{visit-nodes}

@@ -16,7 +16,7 @@ use Rattle.lists.proofs.Fold.{all-getD}
 use Rattle.math.proofs.Bools.{yes as holds, no as fails, decide, never, and-i, and-l, and-r, and-yes, and-no, or-r, or-split, pick-yes, pick-no}
 use Rattle.math.proofs.Doubles.Order.{number, le-number-r, le-trans, le-self, lt-not-le, lt-le, le-lt}
 use Rattle.math.proofs.Doubles.Values.{eq→value, value→eq}
-use Rattle.search.specs.Call.{rising, seldom}
+use Rattle.model.specs.Call.{rising, seldom}
 use Rattle.geometry.specs.Runs.{repeatsAt, seldomAt}
 
 -- ---- tests

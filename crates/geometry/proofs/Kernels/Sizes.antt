@@ -22,10 +22,10 @@ use Rattle.math.proofs.Doubles.Order.{le-lt}
 use Rattle.math.proofs.Doubles.Least.{max-left}
 use Rattle.math.proofs.Doubles.Tests.{ne-nan, no-nan}
 use Rattle.geometry.specs.declared.fat_line.Position.{Position}
-use Rattle.search.specs.Layout.{scalarAt, scalarsOf, pointAt, pointsOf}
+use Rattle.model.specs.Layout.{scalarAt, scalarsOf, pointAt, pointsOf}
 use Rattle.geometry.specs.Sizes.{positionOf, squared, squaresFrom, squares, steps}
 use Rattle.geometry.specs.declared.fat_line.Squares.{Squares}
-use Rattle.search.specs.FatLine.{cartesian, square, distance, distances, pathLength, extent, toF64, widest, carriedBy, carriedWidth}
+use Rattle.model.specs.FatLine.{cartesian, square, distance, distances, pathLength, extent, toF64, widest, carriedBy, carriedWidth}
 
 -- ---- at most three coordinates
 

@@ -13,13 +13,13 @@ use lib.Ieee.{Float}
 use Rattle.lists.specs.Ring.{wrapped}
 use Rattle.math.specs.declared.scalars.Scalar.{Scalar}
 use Rattle.math.proofs.Bools.{yes, no, pick-yes, pick-no}
-use Rattle.search.specs.NurbCurve.{Piece}
-use Rattle.search.specs.Layout.{slotWords}
-use Rattle.search.specs.Subdivide.{Visit, State, Step, going, over, after, step}
+use Rattle.model.specs.NurbCurve.{Piece}
+use Rattle.model.specs.Layout.{slotWords}
+use Rattle.model.specs.Subdivide.{Visit, State, Step, going, over, after, step}
 use Rattle.geometry.specs.Slots.{pieceAt, Inside, Held, Apart, Fit}
 use Rattle.geometry.specs.Waiting.{baseOf, ringBase, waiting, Ring, Beside}
 use Rattle.geometry.specs.Turns.{foundOf, outcomeOf, HandedOn, Visited, handed, heard, isBad, stateOf, Next}
-use Rattle.search.specs.declared.contains.Found.the-variants.{Refused}
+use Rattle.model.specs.declared.contains.Found.the-variants.{Refused}
 use Rattle.geometry.specs.declared.slots.Shape.{Shape}
 use Rattle.geometry.specs.declared.subdivide.Outcome.{Outcome}
 use Rattle.geometry.specs.declared.subdivide.Outcome.the-variants.{Dropped, Reported, Restricted, Halved, BadWeight}

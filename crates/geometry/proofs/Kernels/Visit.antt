@@ -8,8 +8,8 @@ use lib.ListN.{length}
 use lib.Ieee.{Float}
 use Rattle.math.specs.declared.scalars.Scalar.{Scalar}
 use Rattle.math.specs.Scalars.{geop}
-use Rattle.search.specs.NurbCurve.{Piece}
-use Rattle.search.specs.Layout.{pointsOf}
+use Rattle.model.specs.NurbCurve.{Piece}
+use Rattle.model.specs.Layout.{pointsOf}
 use Rattle.geometry.specs.Slots.{countAt, numbers, pieceAt, Sized, Held, Whole}
 use Rattle.geometry.specs.declared.slots.Shape.{Shape}
 use Rattle.geometry.proofs.Memory.Numbers.{length-numbers, points-numbers}

@@ -22,13 +22,13 @@ use Rattle.math.specs.Neighbours.{nextUp, nextDown}
 use Rattle.math.specs.Picks.{minF, maxF}
 use Rattle.math.proofs.Bools.{pick-yes, pick-no}
 use Rattle.math.proofs.Doubles.Least.{min-either, max-either}
-use Rattle.search.specs.Layout.{scalarAt, scalarsOf, flat}
-use Rattle.search.specs.Aabb.{unions}
-use Rattle.search.specs.FatLine.{window, abscissa, greville, offset, crossing, zerosBy, fatLineZeros}
+use Rattle.model.specs.Layout.{scalarAt, scalarsOf, flat}
+use Rattle.model.specs.Aabb.{unions}
+use Rattle.model.specs.FatLine.{window, abscissa, greville, offset, crossing, zerosBy, fatLineZeros}
 use Rattle.geometry.specs.Abscissae.{held}
 use Rattle.geometry.specs.Zeros.{runs, offRun}
-use Rattle.search.specs.declared.fat_line.Hat.{Hat}
-use Rattle.search.specs.declared.fat_line.Hat.the-variants.{Over, Missing}
+use Rattle.model.specs.declared.fat_line.Hat.{Hat}
+use Rattle.model.specs.declared.fat_line.Hat.the-variants.{Over, Missing}
 use Rattle.geometry.specs.declared.fat_line.Abscissae.{Abscissae}
 use Rattle.geometry.specs.declared.fat_line.Greville.the-variants.{Some, None}
 use Rattle.math.proofs.Intervals.Widen.{widened-union}

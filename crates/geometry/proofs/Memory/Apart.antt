@@ -12,9 +12,9 @@ use Rattle.lists.proofs.Tab.{tab-ext}
 use Rattle.lists.proofs.Part.{length-part, getD-part, part-part}
 use Rattle.lists.proofs.Put.{length-put, put-swap}
 use Rattle.lists.proofs.Read.{part-put, part-put-other, getD-put-other}
-use Rattle.search.specs.NurbCurve.{Piece}
-use Rattle.search.specs.Vector.{Vector}
-use Rattle.search.specs.Layout.{pointsOf, slotWords}
+use Rattle.model.specs.NurbCurve.{Piece}
+use Rattle.model.specs.Vector.{Vector}
+use Rattle.model.specs.Layout.{pointsOf, slotWords}
 use Rattle.geometry.specs.Slots.{pointWords, pointsFrom, word, countAt, vectorAt, pieceAt, placed, Sized, Fits, Inside, Held, Apart}
 use Rattle.geometry.specs.declared.slots.Shape.{Shape}
 use Rattle.geometry.proofs.Memory.Numbers.{points-tab, vector-part}

@@ -14,8 +14,8 @@ use Rattle.lists.proofs.Put.{put-put}
 use Rattle.lists.proofs.Read.{getD-put-before, getD-put-after}
 use Rattle.math.specs.declared.scalars.Scalar.{Scalar}
 use Rattle.math.specs.Scalars.{geop, interpolateS}
-use Rattle.search.specs.Vector.{Vector, interpolateV}
-use Rattle.search.specs.Layout.{flat}
+use Rattle.model.specs.Vector.{Vector, interpolateV}
+use Rattle.model.specs.Layout.{flat}
 use Rattle.geometry.specs.Slots.{scalarFrom, vectorAt}
 use Rattle.geometry.proofs.Memory.Numbers.{length-flat, flat-snoc, vector-tab}
 

@@ -14,9 +14,9 @@ use Rattle.lists.proofs.Put.{put-nil}
 use Rattle.lists.proofs.Read.{part-put-other, getD-put-before}
 use Rattle.math.specs.declared.scalars.Scalar.{Scalar}
 use Rattle.math.specs.Scalars.{geop}
-use Rattle.search.specs.Vector.{Vector, interpolateV}
-use Rattle.search.specs.KnotInsertion.{alpha, blend}
-use Rattle.search.specs.Layout.{flat}
+use Rattle.model.specs.Vector.{Vector, interpolateV}
+use Rattle.model.specs.KnotInsertion.{alpha, blend}
+use Rattle.model.specs.Layout.{flat}
 use Rattle.geometry.specs.Slots.{pointWords, placeOf, vectorAt, knotsAt, blendAt, betweenAt, numbers}
 use Rattle.geometry.specs.declared.slots.Shape.{Shape}
 use Rattle.geometry.proofs.Memory.Copies.{put-front}

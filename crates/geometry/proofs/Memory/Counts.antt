@@ -10,7 +10,7 @@ use lib.ListN.{length, getD}
 use lib.IntN.{pos}
 use lib.Ieee.{Float, nan, inFloat, inUnsigned, toUnsigned, ofInt, binary64}
 use lib.Ieee.Back.{unsigned-back}
-use Rattle.search.specs.Layout.{slotWords}
+use Rattle.model.specs.Layout.{slotWords}
 use Rattle.geometry.specs.Slots.{word, countAt, placeOf, pointsFrom, pointWords, Sized, Inside, Held}
 use Rattle.geometry.specs.declared.slots.Shape.{Shape}
 

@@ -17,10 +17,10 @@ use Rattle.math.specs.declared.scalars.Divided.{Divided}
 use Rattle.math.specs.declared.scalars.Divided.the-variants.{Value, Failed}
 use Rattle.math.specs.Scalars.{geop, sharp, subS, divS}
 use Rattle.math.proofs.Bools.{and-yes, and-no}
-use Rattle.search.specs.Vector.{Vector}
-use Rattle.search.specs.NurbCurve.{Piece, knot}
-use Rattle.search.specs.KnotInsertion.{Cut, triangle, sides, insertionSpan, insertOnce, insertTimes, bezierKnots, bezierCut, multiplicity, isBezier, boehmCut, cutBy, fullCut}
-use Rattle.search.specs.Layout.{pointsOf}
+use Rattle.model.specs.Vector.{Vector}
+use Rattle.model.specs.NurbCurve.{Piece, knot}
+use Rattle.model.specs.KnotInsertion.{Cut, triangle, sides, insertionSpan, insertOnce, insertTimes, bezierKnots, bezierCut, multiplicity, isBezier, boehmCut, cutBy, fullCut}
+use Rattle.model.specs.Layout.{pointsOf}
 use Rattle.geometry.specs.Slots.{pointsFrom, word, countAt, numbers, pieceAt, placed, withSides, Wide, Fits, Inside, Held, CutAt}
 use Rattle.geometry.specs.declared.slots.Shape.{Shape}
 use Rattle.geometry.proofs.Memory.Piece.{fits-piece, count-points, piece-placed, held-placed}

@@ -13,9 +13,9 @@ use Rattle.lists.proofs.Part.{length-part}
 use Rattle.lists.proofs.Put.{put-part, put-cons}
 use Rattle.math.specs.declared.scalars.Scalar.{Scalar}
 use Rattle.math.specs.Scalars.{geop, isSame, ZERO, ONE}
-use Rattle.search.specs.Vector.{Vector, interpolateV}
-use Rattle.search.specs.KnotInsertion.{alpha, blend, knotsWith}
-use Rattle.search.specs.Layout.{flat}
+use Rattle.model.specs.Vector.{Vector, interpolateV}
+use Rattle.model.specs.KnotInsertion.{alpha, blend, knotsWith}
+use Rattle.model.specs.Layout.{flat}
 use Rattle.geometry.specs.Slots.{placeOf, vectorAt, knotsAt, blendAt, Inside}
 use Rattle.geometry.specs.declared.slots.Shape.{Shape}
 use Rattle.geometry.proofs.Memory.Copies.{put-wider, take-part, drop-part}

@@ -8,9 +8,9 @@ use Rattle.lists.specs.Lists.{tab, lastD}
 use Rattle.lists.proofs.Tab.{length-tab, tab-cons}
 use Rattle.math.specs.declared.scalars.Scalar.{Scalar}
 use Rattle.math.specs.Scalars.{Arithmetic}
-use Rattle.search.specs.Vector.{Vector, interpolateV}
-use Rattle.search.specs.NurbCurve.{point}
-use Rattle.search.specs.KnotInsertion.{level, triangle, sides}
+use Rattle.model.specs.Vector.{Vector, interpolateV}
+use Rattle.model.specs.NurbCurve.{point}
+use Rattle.model.specs.KnotInsertion.{level, triangle, sides}
 use Rattle.geometry.specs.Slots.{Wide}
 use Rattle.geometry.proofs.Memory.Wide.{length-between, wide-tab, wide-append, wide-cons}
 

@@ -12,10 +12,10 @@ use Rattle.lists.specs.Lists.{part, put}
 use Rattle.lists.proofs.Part.{length-part}
 use Rattle.lists.proofs.Put.{length-put, put-part, put-swap}
 use Rattle.lists.proofs.Read.{part-put-other}
-use Rattle.search.specs.Vector.{Vector}
-use Rattle.search.specs.NurbCurve.{Piece}
-use Rattle.search.specs.KnotInsertion.{leftOf, rightOf}
-use Rattle.search.specs.Layout.{pointsOf, slotWords}
+use Rattle.model.specs.Vector.{Vector}
+use Rattle.model.specs.NurbCurve.{Piece}
+use Rattle.model.specs.KnotInsertion.{leftOf, rightOf}
+use Rattle.model.specs.Layout.{pointsOf, slotWords}
 use Rattle.geometry.specs.Slots.{pointWords, pointsFrom, placeOf, word, countAt, knotsAt, numbers, pieceAt, placed, Wide, Fits, Inside, Held, Apart}
 use Rattle.geometry.specs.declared.slots.Shape.{Shape}
 use Rattle.geometry.proofs.Memory.Copies.{take-part, drop-part}

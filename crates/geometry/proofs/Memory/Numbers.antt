@@ -13,9 +13,9 @@ use Rattle.lists.specs.Lists.{part, put, tab}
 use Rattle.lists.proofs.Tab.{length-tab, tab-ext, tab-cons, getD-tab, take-tab, drop-tab}
 use Rattle.lists.proofs.Part.{part-snoc, part-add}
 use Rattle.math.specs.declared.scalars.Scalar.{Scalar}
-use Rattle.search.specs.Vector.{Vector}
-use Rattle.search.specs.NurbCurve.{point}
-use Rattle.search.specs.Layout.{scalarAt, scalarsOf, flat, pointAt, pointsOf}
+use Rattle.model.specs.Vector.{Vector}
+use Rattle.model.specs.NurbCurve.{point}
+use Rattle.model.specs.Layout.{scalarAt, scalarsOf, flat, pointAt, pointsOf}
 use Rattle.geometry.specs.Slots.{scalarFrom, vectorAt, numbers, Wide}
 use Rattle.geometry.proofs.Memory.Copies.{drop-written}
 

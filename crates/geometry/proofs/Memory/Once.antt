@@ -13,13 +13,13 @@ use Rattle.lists.proofs.Part.{length-part}
 use Rattle.lists.proofs.Put.{length-put, put-swap}
 use Rattle.lists.proofs.Read.{part-put-other}
 use Rattle.math.specs.Scalars.{geop}
-use Rattle.search.specs.Vector.{Vector}
-use Rattle.search.specs.NurbCurve.{Piece, point}
-use Rattle.search.specs.KnotInsertion.{alpha, blend, knotsWith, pointsWith, insertOnce}
-use Rattle.search.specs.Layout.{pointsOf, slotWords}
+use Rattle.model.specs.Vector.{Vector}
+use Rattle.model.specs.NurbCurve.{Piece, point}
+use Rattle.model.specs.KnotInsertion.{alpha, blend, knotsWith, pointsWith, insertOnce}
+use Rattle.model.specs.Layout.{pointsOf, slotWords}
 use Rattle.geometry.specs.Slots.{pointWords, pointsFrom, placeOf, word, countAt, vectorAt, knotsAt, blendAt, numbers, pieceAt, placed, Wide, Fits, Inside, Held}
 use Rattle.geometry.specs.declared.slots.Shape.{Shape}
-use Rattle.search.proofs.Sound.Insert.{length-knots, length-points}
+use Rattle.model.proofs.Sound.Insert.{length-knots, length-points}
 use Rattle.geometry.proofs.Memory.Copies.{put-front, put-wider}
 use Rattle.geometry.proofs.Memory.Counts.{place-zero, place-le, place-add, place-next, place-room, place-at}
 use Rattle.geometry.proofs.Memory.Numbers as numeral

@@ -13,9 +13,9 @@ use Rattle.lists.specs.Lists.{part, put}
 use Rattle.lists.proofs.Part.{length-part, part-cons, getD-part, part-part}
 use Rattle.lists.proofs.Put.{length-put, put-again, put-part, put-put, put-swap, put-inside}
 use Rattle.lists.proofs.Read.{part-put, part-put-in, part-put-other, getD-put, getD-put-before, getD-put-other}
-use Rattle.search.specs.Vector.{Vector}
-use Rattle.search.specs.NurbCurve.{Piece}
-use Rattle.search.specs.Layout.{pointsOf, slotWords}
+use Rattle.model.specs.Vector.{Vector}
+use Rattle.model.specs.NurbCurve.{Piece}
+use Rattle.model.specs.Layout.{pointsOf, slotWords}
 use Rattle.geometry.specs.Slots.{pointWords, pointsFrom, word, countAt, knotsAt, numbers, pieceAt, placed, Wide, Sized, Fits, Inside, Held}
 use Rattle.geometry.specs.declared.slots.Shape.{Shape}
 use Rattle.geometry.proofs.Memory.Copies.{put-cover, drop-written}

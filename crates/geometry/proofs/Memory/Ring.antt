@@ -14,8 +14,8 @@ use Rattle.lists.specs.Lists.{part, tab}
 use Rattle.lists.specs.Ring.{wrapped}
 use Rattle.lists.proofs.Tab.{length-tab, tab-ext, tab-cons}
 use Rattle.lists.proofs.Ring.{apart, slot-in, wrapped-in, wrapped-head, wrapped-ne, wrapped-next, wrapped-free}
-use Rattle.search.specs.NurbCurve.{Piece}
-use Rattle.search.specs.Layout.{slotWords}
+use Rattle.model.specs.NurbCurve.{Piece}
+use Rattle.model.specs.Layout.{slotWords}
 use Rattle.geometry.specs.Slots.{pieceAt, placed, Sized, Fits, Inside, Held, Apart}
 use Rattle.geometry.specs.Waiting.{baseOf, ringBase, waiting, Ring, Outside, Beside}
 use Rattle.geometry.specs.declared.slots.Shape.{Shape}

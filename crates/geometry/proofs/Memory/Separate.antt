@@ -15,8 +15,8 @@ use Rattle.math.specs.declared.scalars.Scalar.{Scalar}
 use Rattle.math.specs.declared.scalars.Divided.{Divided}
 use Rattle.math.specs.declared.scalars.Divided.the-variants.{Value, Failed}
 use Rattle.math.specs.Scalars.{geop}
-use Rattle.search.specs.NurbCurve.{Piece, inDomain}
-use Rattle.search.specs.KnotInsertion.{Cut, knotsWith, insertionSpan, insertOnce, insertTimes, multiplicity, bezierCut, boehmCut, cutBy, fullCut, leftOf, rightOf}
+use Rattle.model.specs.NurbCurve.{Piece, inDomain}
+use Rattle.model.specs.KnotInsertion.{Cut, knotsWith, insertionSpan, insertOnce, insertTimes, multiplicity, bezierCut, boehmCut, cutBy, fullCut, leftOf, rightOf}
 use Rattle.geometry.specs.Slots.{Fits, Whole}
 use Rattle.geometry.specs.declared.slots.Shape.{Shape}
 use Rattle.geometry.proofs.Memory.Wide.{wide-take, wide-drop}

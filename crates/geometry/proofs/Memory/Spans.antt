@@ -17,8 +17,8 @@ use Rattle.math.specs.declared.scalars.Divided.{Divided}
 use Rattle.math.specs.declared.scalars.Divided.the-variants.{Value, Failed}
 use Rattle.math.specs.Scalars.{geop, subS, divS, sharp, ZERO, ONE, valueOr}
 use Rattle.math.proofs.Bools.{pick-yes, pick-no}
-use Rattle.search.specs.NurbCurve.{knot}
-use Rattle.search.specs.KnotInsertion.{holdsAt, highest, insertionSpan, alpha, isBezier}
+use Rattle.model.specs.NurbCurve.{knot}
+use Rattle.model.specs.KnotInsertion.{holdsAt, highest, insertionSpan, alpha, isBezier}
 
 module _ (ks : List Float) (t : Float) (p : ℕ) where
   -- the span just below number i holds t

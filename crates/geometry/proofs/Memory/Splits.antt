@@ -13,9 +13,9 @@ use Rattle.math.specs.declared.scalars.Divided.{Divided}
 use Rattle.math.specs.declared.scalars.Divided.the-variants.{Value, Failed}
 use Rattle.math.specs.Scalars.{geop, sharp, addS, divS, TWO, ENTIRE, middle, valueOr}
 use Rattle.math.proofs.Bools.{and-yes, and-no}
-use Rattle.search.specs.NurbCurve.{Piece, knot, start, end, inDomain, midParameter}
-use Rattle.search.specs.KnotInsertion.{Cut, fullCut, leftOf, rightOf}
-use Rattle.search.specs.Split.{Halves, uncut, both, splitBy, split, fromBy, upToBy, restrict}
+use Rattle.model.specs.NurbCurve.{Piece, knot, start, end, inDomain, midParameter}
+use Rattle.model.specs.KnotInsertion.{Cut, fullCut, leftOf, rightOf}
+use Rattle.model.specs.Split.{Halves, uncut, both, splitBy, split, fromBy, upToBy, restrict}
 use Rattle.geometry.specs.Slots.{countAt, pieceAt, placed, Fits, Inside, Held, Apart, OnlyAt, OnlyAtBoth, Holding, HoldingBoth, wasCut, splitInto, SplitAt, keepInto, FromAt, UpToAt, restrictInto, RestrictAt, Whole, within, CutAt}
 use Rattle.geometry.specs.declared.slots.Shape.{Shape}
 use Rattle.geometry.proofs.Memory.Piece.{fits-piece, count-points, count-placed, piece-placed, held-placed, inside-placed, length-placed, placed-again}

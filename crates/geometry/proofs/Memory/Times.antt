@@ -7,8 +7,8 @@ use native.Mathlib.Omega.{arith}
 use lib.ListN.{length}
 use lib.Ieee.{Float}
 use Rattle.math.specs.Scalars.{geop}
-use Rattle.search.specs.NurbCurve.{Piece}
-use Rattle.search.specs.KnotInsertion.{holdsAt, highest, insertionSpan, insertOnce, insertTimes}
+use Rattle.model.specs.NurbCurve.{Piece}
+use Rattle.model.specs.KnotInsertion.{holdsAt, highest, insertionSpan, insertOnce, insertTimes}
 use Rattle.geometry.specs.Slots.{countAt, pieceAt, placed, Fits, Inside, Held}
 use Rattle.geometry.specs.declared.slots.Shape.{Shape}
 use Rattle.geometry.proofs.Memory.Piece.{length-placed, count-placed, piece-placed, held-placed, fits-piece, count-points, placed-piece, placed-again}

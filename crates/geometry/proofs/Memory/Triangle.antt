@@ -14,9 +14,9 @@ use Rattle.lists.proofs.Tab.{tab-ext}
 use Rattle.lists.proofs.Put.{length-put, put-nil, put-part, put-put, put-right, put-whole, put-swap, put-inside}
 use Rattle.math.specs.declared.scalars.Scalar.{Scalar}
 use Rattle.math.specs.Scalars.{geop}
-use Rattle.search.specs.Vector.{Vector, interpolateV}
-use Rattle.search.specs.NurbCurve.{point}
-use Rattle.search.specs.Layout.{flat, pointsOf}
+use Rattle.model.specs.Vector.{Vector, interpolateV}
+use Rattle.model.specs.NurbCurve.{point}
+use Rattle.model.specs.Layout.{flat, pointsOf}
 use Rattle.geometry.specs.Slots.{pointWords, pointsFrom, placeOf, vectorAt, betweenAt, withSides, numbers, Wide, Inside}
 use Rattle.geometry.specs.declared.slots.Shape.{Shape}
 use Rattle.geometry.proofs.Memory.Copies.{put-front}

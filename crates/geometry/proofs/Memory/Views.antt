@@ -7,8 +7,8 @@ use native.Mathlib.Omega.{arith}
 use lib.ListN.{length, drop}
 use lib.Ieee.{Float}
 use Rattle.lists.specs.Lists.{part}
-use Rattle.search.specs.NurbCurve.{Piece}
-use Rattle.search.specs.Layout.{pointsOf}
+use Rattle.model.specs.NurbCurve.{Piece}
+use Rattle.model.specs.Layout.{pointsOf}
 use Rattle.geometry.specs.Slots.{pointWords, pointsFrom, placeOf, countAt, knotsAt, numbers, pieceAt, Inside, Held}
 use Rattle.geometry.specs.declared.slots.Shape.{Shape}
 use Rattle.geometry.proofs.Memory.Counts.{place-zero, place-at, place-within, from-room}

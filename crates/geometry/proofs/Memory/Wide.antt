@@ -11,9 +11,9 @@ use Rattle.lists.specs.Lists.{tab}
 use Rattle.lists.proofs.Tab.{length-tab, getD-tab}
 use Rattle.math.specs.declared.scalars.Scalar.{Scalar}
 use Rattle.math.specs.Scalars.{Arithmetic, isSame, ZERO, ONE}
-use Rattle.search.specs.Vector.{Vector, interpolateV}
-use Rattle.search.specs.NurbCurve.{point}
-use Rattle.search.specs.KnotInsertion.{blend}
+use Rattle.model.specs.Vector.{Vector, interpolateV}
+use Rattle.model.specs.NurbCurve.{point}
+use Rattle.model.specs.KnotInsertion.{blend}
 use Rattle.geometry.specs.Slots.{Wide}
 
 pub length-zip : {A B C : Type 0} (f : A → B → C) (xs : List A) (ys : List B) → length xs ≡ length ys → length (zipWith f xs ys) ≡ length xs

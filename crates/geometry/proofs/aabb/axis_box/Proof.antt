@@ -5,8 +5,8 @@ use native.Mathlib.Omega.{arith}
 use lib.ListN.{length}
 use Rattle.lists.specs.Lists.{tab}
 use Rattle.math.specs.Scalars.{geop, widened, inverseS}
-use Rattle.search.specs.Layout.{pointAt}
-use Rattle.search.specs.Aabb.{unions, place}
+use Rattle.model.specs.Layout.{pointAt}
+use Rattle.model.specs.Aabb.{unions, place}
 use Rattle.geometry.proofs.Kernels.Points.{point-in}
 use Rattle.geometry.proofs.Kernels.Widening.{Bounds}
 use Rattle.geometry.proofs.Kernels.Boxes.{raw-first, raw-turn, axis-of}

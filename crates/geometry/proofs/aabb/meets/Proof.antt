@@ -9,8 +9,8 @@ use borrow.Author.Needs.{needs}
 use borrow.Author.Tests.{not-true, not-false}
 use Rattle.math.specs.Scalars.{geop, ZERO, ONE, unionS}
 use Rattle.math.specs.declared.scalars.Scalar.{Scalar}
-use Rattle.search.specs.Layout.{scalarsOf, pointAt}
-use Rattle.search.specs.Aabb.{meets}
+use Rattle.model.specs.Layout.{scalarsOf, pointAt}
+use Rattle.model.specs.Aabb.{meets}
 use Rattle.geometry.proofs.Kernels.Boxes.{segment-skip, segment-narrow, segment-stop, segment-end}
 use Rattle.geometry.proofs.aabb.meets.Statement.{statement}
 use Rattle.geometry.proofs.aabb.meets.Tie as tie

@@ -2,7 +2,7 @@
 use mathlib.Core.Path.{ap, _∙_}
 use Rattle.math.specs.Scalars.{ENTIRE, divS, valueOr}
 use Rattle.math.specs.declared.scalars.Divided.{Divided}
-use Rattle.search.specs.Aabb.{place}
+use Rattle.model.specs.Aabb.{place}
 use borrow.Author.Needs.{needs}
 use Rattle.geometry.proofs.aabb.place.Statement.{statement}
 use Rattle.geometry.proofs.aabb.place.Tie as tie

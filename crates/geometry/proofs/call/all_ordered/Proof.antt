@@ -5,13 +5,13 @@ use native.Mathlib.Omega.{arith}
 use lib.ListN.{length, drop, getD}
 use lib.Ieee.{nan}
 use Rattle.lists.specs.Lists.{all}
-use Rattle.search.specs.Call.{ordered}
-use Rattle.search.specs.Layout.{scalarsOf}
+use Rattle.model.specs.Call.{ordered}
+use Rattle.model.specs.Layout.{scalarsOf}
 use Rattle.geometry.proofs.Kernels.Walks.{all-keep, all-stop, all-end}
 use borrow.Author.Tests.{not-true, not-false}
 use Rattle.lists.proofs.Tab.{length-tab, getD-tab}
 use Rattle.math.specs.Scalars.{absent}
-use Rattle.search.specs.Layout.{scalarAt}
+use Rattle.model.specs.Layout.{scalarAt}
 use Rattle.geometry.proofs.call.all_ordered.Statement.{statement}
 use Rattle.geometry.proofs.call.all_ordered.Tie as tie
 use Rattle.geometry.proofs.call.all_ordered.Reads as reads

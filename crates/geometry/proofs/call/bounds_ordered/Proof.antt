@@ -2,8 +2,8 @@
 use borrow.Author.Needs.{needs}
 use Rattle.geometry.proofs.Kernels.Call.{and-stop, and-go}
 use borrow.Author.Tests.{not-true, not-false}
-use Rattle.search.specs.Layout.{scalarsOf}
-use Rattle.search.specs.Call.{ordered}
+use Rattle.model.specs.Layout.{scalarsOf}
+use Rattle.model.specs.Call.{ordered}
 use Rattle.lists.specs.Lists.{all}
 use lib.Ieee.{Float}
 use native.Mathlib.Omega.{arith}

@@ -5,7 +5,7 @@ use Prim.Native.Nat.{ℕ, suc, _+_, _*_, _≤_, _<_}
 use native.Mathlib.Omega.{arith}
 use borrow.Author.Tests.{not-true, not-false, le-leb, lt-leb}
 use lib.ListN.{length}
-use Rattle.search.specs.Call.{dimFits, degreeFits, countFits, lengthsFit, numbersUsable, boundsOrdered, weightsAbove, knotsSound, nodesFit, areaFits, stated}
+use Rattle.model.specs.Call.{dimFits, degreeFits, countFits, lengthsFit, numbersUsable, boundsOrdered, weightsAbove, knotsSound, nodesFit, areaFits, stated}
 use Rattle.geometry.proofs.Kernels.Call.{refused-1, refused-2, refused-3, refused-4, refused-5, refused-6, refused-7, refused-8, refused-9, refused-10, admitted, dim-small, count-small, lengths-are, area-few}
 use Rattle.geometry.proofs.call.refusal.Statement.{statement}
 use Rattle.geometry.proofs.call.refusal.Tie as tie

@@ -5,7 +5,7 @@ use native.Mathlib.Omega.{arith}
 use lib.ListN.{length, drop, getD}
 use lib.Ieee.{nan}
 use Rattle.lists.specs.Lists.{all}
-use Rattle.search.specs.Call.{rising}
+use Rattle.model.specs.Call.{rising}
 use borrow.Author.Tests.{not-true, not-false}
 use Rattle.geometry.proofs.Kernels.Call.{rising-keep, rising-stop, rising-end}
 use Rattle.geometry.proofs.call.rising.Statement.{statement}

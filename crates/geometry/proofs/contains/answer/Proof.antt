@@ -3,9 +3,9 @@ use mathlib.Core.Path.{refl, _∙_}
 use native.Mathlib.Omega.{arith}
 use lib.Ieee.{ofBits}
 use borrow.Author.Tests.{not-true, not-false}
-use Rattle.search.specs.Call.{Call, lent}
-use Rattle.search.specs.Enclosure.{Doubles}
-use Rattle.search.proofs.Sound.Accepted.{Sizes, sizes}
+use Rattle.model.specs.Call.{Call, lent}
+use Rattle.model.specs.Enclosure.{Doubles}
+use Rattle.model.proofs.Sound.Accepted.{Sizes, sizes}
 use Rattle.geometry.proofs.Kernels.Call.{area-few}
 use Rattle.geometry.proofs.Kernels.Answer.{words-in, first-slot, door-asks, box-long, area-left, missed, begins, placed-behind, answers}
 use borrow.Author.Needs.{needs}

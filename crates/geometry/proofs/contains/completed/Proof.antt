@@ -1,7 +1,7 @@
 -- `completed` equals its definition: nothing was reported, or something.
 use mathlib.Core.Path.{sym, ap, _∙_}
-use Rattle.search.specs.Subdivide.{complete}
-use Rattle.search.specs.declared.contains.Found.the-variants.{Enclosed}
+use Rattle.model.specs.Subdivide.{complete}
+use Rattle.model.specs.declared.contains.Found.the-variants.{Enclosed}
 use Rattle.geometry.proofs.Kernels.Turns.{found-some, found-none}
 use borrow.Author.Needs.{needs}
 use Rattle.geometry.proofs.contains.completed.Statement.{statement}

@@ -1,8 +1,8 @@
 -- `curve_could_contain` keeps its promises: a refused call gives its number and writes nothing; the search of any other is `answer`, every exact hit lies between its bounds, and no test fires.
 use mathlib.Core.Path.{ap}
 use native.Mathlib.Omega.{arith}
-use Rattle.search.specs.Call.{Call, lent}
-use Rattle.search.specs.Paper.{paper}
+use Rattle.model.specs.Call.{Call, lent}
+use Rattle.model.specs.Paper.{paper}
 use Rattle.geometry.proofs.Kernels.Answer.{refused, refused-debug, encloses}
 use borrow.Author.Needs.{needs}
 use Rattle.geometry.proofs.contains.curve_could_contain.Statement.{statement}

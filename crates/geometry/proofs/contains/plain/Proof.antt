@@ -1,7 +1,7 @@
 -- `plain` equals its definition: one test.
 use lib.Ieee.{ofBits}
 use Rattle.math.proofs.Bools.{pick-yes, pick-no}
-use Rattle.search.specs.Subdivide.{plain}
+use Rattle.model.specs.Subdivide.{plain}
 use Rattle.geometry.proofs.contains.plain.Statement.{statement}
 use Rattle.geometry.proofs.contains.plain.Tie as tie
 

@@ -5,10 +5,10 @@ use lib.Ieee.{Float}
 use mathlib.Core.List.{List}
 use mathlib.Core.Path.{sym, _∙_}
 use Rattle.math.specs.Scalars.{geop}
-use Rattle.search.specs.NurbCurve.{Piece}
-use Rattle.search.specs.Layout.{scalarsOf}
-use Rattle.search.specs.Subdivide.{Visit}
-use Rattle.search.specs.Contains.{visit}
+use Rattle.model.specs.NurbCurve.{Piece}
+use Rattle.model.specs.Layout.{scalarsOf}
+use Rattle.model.specs.Subdivide.{Visit}
+use Rattle.model.specs.Contains.{visit}
 use Rattle.geometry.specs.declared.slots.Shape.{Shape}
 use Rattle.geometry.proofs.Kernels.Run.{turned, Going, going-start, going-none, going-spent, going-room, going-fit, going-rest, going-bad, going-on}
 use borrow.Author.Needs.{needs}

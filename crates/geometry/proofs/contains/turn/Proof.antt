@@ -2,8 +2,8 @@
 use Prim.Native.Nat.{_+_}
 use native.Mathlib.Omega.{arith}
 use Rattle.math.specs.Scalars.{geop}
-use Rattle.search.specs.Layout.{scalarsOf}
-use Rattle.search.specs.Contains.{visit}
+use Rattle.model.specs.Layout.{scalarsOf}
+use Rattle.model.specs.Contains.{visit}
 use Rattle.geometry.proofs.Kernels.Turns.{place-in, head-in, turn-asks, turn-gives}
 use borrow.Author.Needs.{needs}
 use Rattle.geometry.proofs.contains.turn.Statement.{statement}

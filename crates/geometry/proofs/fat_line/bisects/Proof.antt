@@ -6,8 +6,8 @@ use borrow.Author.Tests.{not-true, not-false}
 use Rattle.math.specs.Picks.{maxF}
 use Rattle.math.specs.Scalars.{sharp, widthS}
 use Rattle.math.specs.declared.scalars.Scalar.{Scalar}
-use Rattle.search.specs.Layout.{pointsOf}
-use Rattle.search.specs.FatLine.{extent, halves}
+use Rattle.model.specs.Layout.{pointsOf}
+use Rattle.model.specs.FatLine.{extent, halves}
 use Rattle.geometry.proofs.Kernels.Sizes.{third-failed, halves-nan, halves-both}
 use borrow.Author.Needs.{needs}
 use Rattle.geometry.proofs.fat_line.bisects.Statement.{statement}

@@ -1,7 +1,7 @@
 -- `carried` equals its definition: the greater of its two widths.
 use mathlib.Core.Path.{_∙_}
 use Rattle.math.specs.Picks.{maxF}
-use Rattle.search.specs.Contains.{carried}
+use Rattle.model.specs.Contains.{carried}
 use borrow.Author.Needs.{needs}
 use Rattle.geometry.proofs.fat_line.carried.Statement.{statement}
 use Rattle.geometry.proofs.fat_line.carried.Tie as tie

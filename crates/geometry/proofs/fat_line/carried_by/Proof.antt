@@ -7,9 +7,9 @@ use lib.Dec.{ltb}
 use lib.Ieee.{Float, binary64, div}
 use Rattle.math.specs.Picks.{maxF}
 use Rattle.math.specs.Scalars.{middle, widthS}
-use Rattle.search.specs.Vector.{coordinate}
-use Rattle.search.specs.Layout.{pointAt}
-use Rattle.search.specs.FatLine.{toF64, carriedBy}
+use Rattle.model.specs.Vector.{coordinate}
+use Rattle.model.specs.Layout.{pointAt}
+use Rattle.model.specs.FatLine.{toF64, carriedBy}
 use Rattle.geometry.proofs.Kernels.Sizes.{fold-three}
 use borrow.Author.Needs.{needs}
 use Rattle.geometry.proofs.fat_line.carried_by.Statement.{statement}

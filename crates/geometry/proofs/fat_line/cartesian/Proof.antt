@@ -6,9 +6,9 @@ use native.Mathlib.Omega.{arith}
 use lib.Dec.{ltb}
 use lib.Ieee.{Float, binary64, div}
 use Rattle.math.specs.Scalars.{zeroF, middle}
-use Rattle.search.specs.Vector.{coordinate}
-use Rattle.search.specs.Layout.{pointAt}
-use Rattle.search.specs.FatLine.{cartesian}
+use Rattle.model.specs.Vector.{coordinate}
+use Rattle.model.specs.Layout.{pointAt}
+use Rattle.model.specs.FatLine.{cartesian}
 use Rattle.geometry.proofs.Kernels.Sizes.{three}
 use borrow.Author.Needs.{needs}
 use Rattle.geometry.proofs.fat_line.cartesian.Statement.{statement}

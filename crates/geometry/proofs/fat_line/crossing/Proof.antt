@@ -3,8 +3,8 @@ use mathlib.Core.Path.{sym, ap, _∙_}
 use Rattle.math.specs.Scalars.{geop}
 use Rattle.math.specs.declared.scalars.Scalar.{Scalar}
 use Rattle.math.specs.declared.scalars.Divided.{Divided}
-use Rattle.search.specs.FatLine.{crossing}
-use Rattle.search.specs.declared.fat_line.Hat.the-variants.{Over}
+use Rattle.model.specs.FatLine.{crossing}
+use Rattle.model.specs.declared.fat_line.Hat.the-variants.{Over}
 use borrow.Author.Needs.{needs}
 use Rattle.geometry.proofs.fat_line.crossing.Statement.{statement}
 use Rattle.geometry.proofs.fat_line.crossing.Tie as tie

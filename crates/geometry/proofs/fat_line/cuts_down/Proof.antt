@@ -4,9 +4,9 @@ use Prim.Native.Nat.{suc}
 use lib.Ieee.{lt}
 use borrow.Author.Tests.{not-true, not-false}
 use Rattle.math.specs.Scalars.{sharp, widthS, mulS, fourFifthsS}
-use Rattle.search.specs.Layout.{pointsOf}
-use Rattle.search.specs.NurbCurve.{domain}
-use Rattle.search.specs.FatLine.{extent, restricts}
+use Rattle.model.specs.Layout.{pointsOf}
+use Rattle.model.specs.NurbCurve.{domain}
+use Rattle.model.specs.FatLine.{extent, restricts}
 use Rattle.geometry.proofs.Kernels.Sizes.{third-failed, middle-failed, first-last}
 use borrow.Author.Needs.{needs}
 use Rattle.geometry.proofs.fat_line.cuts_down.Statement.{statement}

@@ -6,8 +6,8 @@ use native.Mathlib.Omega.{arith}
 use lib.Ieee.{Float, ofBits}
 use Rattle.lists.specs.Lists.{put, tab}
 use Rattle.math.specs.Scalars.{geop}
-use Rattle.search.specs.Layout.{flat}
-use Rattle.search.specs.FatLine.{window, abscissa}
+use Rattle.model.specs.Layout.{flat}
+use Rattle.model.specs.FatLine.{window, abscissa}
 use Rattle.geometry.proofs.Kernels.Flat.{flat-none, flat-next}
 use Rattle.geometry.proofs.Kernels.Zeros.{in-float, mean-is, held-none, held-some}
 use Rattle.geometry.proofs.fat_line.greville_abscissae.Statement.{statement}

@@ -5,7 +5,7 @@ use native.Mathlib.Omega.{arith}
 use lib.ListN.{length, length-set}
 use Rattle.lists.specs.Lists.{put, tab}
 use Rattle.math.specs.Scalars.{subS}
-use Rattle.search.specs.Layout.{flat}
+use Rattle.model.specs.Layout.{flat}
 use Rattle.geometry.proofs.Kernels.Flat.{flat-none, flat-next}
 use Rattle.geometry.proofs.Kernels.Zeros.{runAt, runs-done}
 use borrow.Author.Needs.{needs}

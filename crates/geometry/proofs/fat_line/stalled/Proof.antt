@@ -4,7 +4,7 @@ use lib.Ieee.{Float, lt}
 use borrow.Author.Tests.{not-true, not-false}
 use Rattle.math.specs.Scalars.{sharp, widthS}
 use Rattle.math.specs.declared.scalars.Scalar.{Scalar}
-use Rattle.search.specs.FatLine.{halves}
+use Rattle.model.specs.FatLine.{halves}
 use Rattle.geometry.proofs.Kernels.Sizes.{first-failed, second-failed, both-passed}
 use borrow.Author.Needs.{needs}
 use Rattle.geometry.proofs.fat_line.stalled.Statement.{statement}

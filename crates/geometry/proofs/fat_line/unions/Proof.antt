@@ -2,8 +2,8 @@
 use mathlib.Core.Path.{_≡_, ap, _∙_}
 use Prim.Native.Nat.{ℕ, _-_, _≤_, _<_}
 use native.Mathlib.Omega.{arith}
-use Rattle.search.specs.Layout.{scalarAt, scalarsOf}
-use Rattle.search.specs.Aabb.{unions}
+use Rattle.model.specs.Layout.{scalarAt, scalarsOf}
+use Rattle.model.specs.Aabb.{unions}
 use Rattle.geometry.proofs.Kernels.Zeros.{unions-first, unions-turn}
 use borrow.Author.Needs.{needs}
 use Rattle.geometry.proofs.fat_line.unions.Statement.{statement}

@@ -7,7 +7,7 @@ use Rattle.math.specs.Picks.{maxF}
 use Rattle.math.specs.Scalars.{middle, sharp, widthS}
 use Rattle.math.specs.declared.scalars.Scalar.{Scalar}
 use Rattle.math.proofs.Bools.{pick-yes, pick-no}
-use Rattle.search.specs.FatLine.{toF64}
+use Rattle.model.specs.FatLine.{toF64}
 use borrow.Author.Needs.{needs}
 use Rattle.geometry.proofs.fat_line.wider.Statement.{statement}
 use Rattle.geometry.proofs.fat_line.wider.Tie as tie

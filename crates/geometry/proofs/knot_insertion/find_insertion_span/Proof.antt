@@ -1,7 +1,7 @@
 -- `find_insertion_span` equals its definition. Invariant: no span from i on holds t.
 use mathlib.Core.Path.{_≡_, refl, sym, _∙_}
 use Prim.Native.Nat.{_-_, _≤_}
-use Rattle.search.specs.KnotInsertion.{highest, insertionSpan}
+use Rattle.model.specs.KnotInsertion.{highest, insertionSpan}
 use Rattle.geometry.proofs.Memory.Spans.{span-here, span-down, span-none}
 use native.Mathlib.Omega.{arith}
 use Rattle.geometry.proofs.knot_insertion.find_insertion_span.Statement.{statement}

@@ -3,7 +3,7 @@ use mathlib.Core.Path.{sym, ap, _∙_}
 use lib.ListN.{length}
 use lib.Ieee.{Float}
 use mathlib.Core.List.{List}
-use Rattle.search.specs.KnotInsertion.{insertionSpan}
+use Rattle.model.specs.KnotInsertion.{insertionSpan}
 use Rattle.geometry.proofs.Memory.Counts.{count-readable}
 use Rattle.geometry.proofs.Memory.Piece.{count-points, knots-long}
 use borrow.Author.Needs.{needs}

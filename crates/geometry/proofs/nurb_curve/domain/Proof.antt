@@ -1,7 +1,7 @@
 -- `domain` equals its definition: the union of its two ends.
 use mathlib.Core.Path.{_∙_}
 use Rattle.math.specs.Scalars.{unionS}
-use Rattle.search.specs.NurbCurve.{domain}
+use Rattle.model.specs.NurbCurve.{domain}
 use borrow.Author.Needs.{needs}
 use Rattle.geometry.proofs.nurb_curve.domain.Statement.{statement}
 use Rattle.geometry.proofs.nurb_curve.domain.Tie as tie

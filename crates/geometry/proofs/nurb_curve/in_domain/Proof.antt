@@ -1,6 +1,6 @@
 -- `in_domain` equals its definition: both tests, the second where the first passed.
 use Rattle.math.proofs.Bools.{and-yes, and-no}
-use Rattle.search.specs.NurbCurve.{inDomain}
+use Rattle.model.specs.NurbCurve.{inDomain}
 use Rattle.geometry.proofs.nurb_curve.in_domain.Statement.{statement}
 use Rattle.geometry.proofs.nurb_curve.in_domain.Tie as tie
 

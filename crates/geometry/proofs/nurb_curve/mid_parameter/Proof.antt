@@ -3,7 +3,7 @@ use mathlib.Core.Path.{ap, _∙_}
 use lib.Ieee.{ofBits}
 use Rattle.math.specs.Scalars.{TWO, ENTIRE, addS, divS, middle, valueOr}
 use Rattle.math.specs.declared.scalars.Scalar.{Scalar}
-use Rattle.search.specs.NurbCurve.{midParameter}
+use Rattle.model.specs.NurbCurve.{midParameter}
 use borrow.Author.Needs.{needs}
 use Rattle.geometry.proofs.nurb_curve.mid_parameter.Statement.{statement}
 use Rattle.geometry.proofs.nurb_curve.mid_parameter.Tie as tie

@@ -5,8 +5,8 @@ use native.Mathlib.Omega.{arith}
 use lib.ListN.{length}
 use lib.Ieee.{ofBits}
 use borrow.Author.Tests.{not-true, not-false}
-use Rattle.search.specs.Layout.{pointsOf}
-use Rattle.search.specs.NurbCurve.{weighted}
+use Rattle.model.specs.Layout.{pointsOf}
+use Rattle.model.specs.NurbCurve.{weighted}
 use Rattle.geometry.proofs.Kernels.Points.{point-in, weightedFrom, weighted-start, weighted-keep, weighted-stop, weighted-end}
 use Rattle.geometry.proofs.nurb_curve.weighted.Statement.{statement}
 use Rattle.geometry.proofs.nurb_curve.weighted.Tie as tie

@@ -3,7 +3,7 @@ use mathlib.Core.Path.{sym, subst}
 use mathlib.Core.Logic.{inl}
 use lib.Dec.{T}
 use Rattle.math.specs.Scalars.{geop}
-use Rattle.search.specs.Split.{fromBy}
+use Rattle.model.specs.Split.{fromBy}
 use Rattle.geometry.specs.Slots.{pieceAt, Whole, within}
 use Rattle.geometry.proofs.Memory.Splits.{copied, copied-whole, cut-down, cut-down-whole, restricted, from-few, upto-few}
 use borrow.Author.Needs.{needs}

@@ -1,7 +1,7 @@
 -- `joined` equals its definition: nothing was reported before, or something.
 use mathlib.Core.Path.{sym, ap, _∙_}
 use mathlib.Core.Option.{some}
-use Rattle.search.specs.Subdivide.{joined}
+use Rattle.model.specs.Subdivide.{joined}
 use Rattle.geometry.proofs.Kernels.Turns.{found-some, found-none}
 use Rattle.geometry.specs.Turns.{foundOf}
 use borrow.Author.Needs.{needs}

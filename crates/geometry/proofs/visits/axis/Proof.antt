@@ -7,7 +7,7 @@ use lib.ListN.{length, length-set}
 use Rattle.lists.specs.Lists.{put, tab}
 use Rattle.math.specs.Scalars.{mulS}
 use Rattle.math.specs.declared.scalars.Scalar.{Scalar}
-use Rattle.search.specs.Layout.{flat}
+use Rattle.model.specs.Layout.{flat}
 use Rattle.geometry.proofs.Kernels.Flat.{flat-none, flat-next}
 use Rattle.geometry.proofs.Kernels.Clip.{axisAt, axis-at, axis-done}
 use borrow.Author.Needs.{needs}

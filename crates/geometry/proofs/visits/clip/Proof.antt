@@ -5,9 +5,9 @@ use native.Mathlib.Omega.{arith}
 use lib.ListN.{length, length-replicate}
 use lib.Ieee.{binary64, ofBits}
 use Rattle.math.specs.Scalars.{geop, unionS}
-use Rattle.search.specs.Layout.{scalarsOf, pointsOf}
-use Rattle.search.specs.NurbCurve.{domain}
-use Rattle.search.specs.Contains.{clip}
+use Rattle.model.specs.Layout.{scalarsOf, pointsOf}
+use Rattle.model.specs.NurbCurve.{domain}
+use Rattle.model.specs.Contains.{clip}
 use Rattle.geometry.specs.Zeros.{runs}
 use Rattle.geometry.proofs.Kernels.Zeros.{runs-held, runs-kept}
 use Rattle.geometry.proofs.Kernels.Clip.{axis-kept, left, left-none, left-next, left-done}

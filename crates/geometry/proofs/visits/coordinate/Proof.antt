@@ -2,7 +2,7 @@
 use mathlib.Core.Path.{ap, _∙_}
 use Prim.Native.Nat.{ℕ, _+_, _*_}
 use native.Mathlib.Numerals.{add-one}
-use Rattle.search.specs.Layout.{scalarAt}
+use Rattle.model.specs.Layout.{scalarAt}
 use borrow.Author.Needs.{needs}
 use Rattle.geometry.proofs.visits.coordinate.Statement.{statement}
 use Rattle.geometry.proofs.visits.coordinate.Tie as tie

@@ -3,7 +3,7 @@ use mathlib.Core.Path.{_≡_}
 use native.Mathlib.Omega.{arith}
 use lib.ListN.{length}
 use Rattle.math.specs.Scalars.{geop}
-use Rattle.search.specs.Layout.{scalarsOf}
+use Rattle.model.specs.Layout.{scalarsOf}
 use Rattle.geometry.proofs.Kernels.Plan.{clip-report, clip-skip, clip-go}
 use Rattle.geometry.proofs.Kernels.Zeros.{held-long, none-degree, some-degree}
 use borrow.Author.Needs.{needs}

@@ -1,6 +1,6 @@
 -- `plan_hat` equals its definition: the two tests are those of the definition.
 use Prim.Native.Nat.{suc}
-use Rattle.search.specs.Layout.{scalarsOf, pointsOf}
+use Rattle.model.specs.Layout.{scalarsOf, pointsOf}
 use Rattle.geometry.proofs.Kernels.Plan.{hat-restrict, hat-halve, hat-report}
 use borrow.Author.Needs.{needs}
 use Rattle.geometry.proofs.visits.plan_hat.Statement.{statement}

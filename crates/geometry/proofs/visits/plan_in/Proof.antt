@@ -1,7 +1,7 @@
 -- `plan_in` is the plan of the slot's knots and points.
 use mathlib.Core.Path.{ap, _∙_}
 use Rattle.math.specs.Scalars.{geop}
-use Rattle.search.specs.Layout.{scalarsOf}
+use Rattle.model.specs.Layout.{scalarsOf}
 use Rattle.geometry.specs.Plan.{planned}
 use Rattle.geometry.proofs.Memory.Counts.{count-readable}
 use Rattle.geometry.proofs.Kernels.Visit.{visit-asks, points-room, knots-room, piece-back}

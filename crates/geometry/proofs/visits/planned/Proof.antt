@@ -1,7 +1,7 @@
 -- `planned` equals its definition: a box that misses skips the piece.
 use mathlib.Core.Path.{sym}
 use borrow.Author.Tests.{not-true, not-false}
-use Rattle.search.specs.Layout.{scalarsOf}
+use Rattle.model.specs.Layout.{scalarsOf}
 use Rattle.geometry.proofs.Kernels.Plan.{plan-skip, plan-go}
 use borrow.Author.Needs.{needs}
 use Rattle.geometry.proofs.visits.planned.Statement.{statement}

@@ -1,7 +1,7 @@
 -- `weighted_in` is the test of the slot's points.
 use mathlib.Core.Path.{ap, _∙_}
 use native.Mathlib.Omega.{arith}
-use Rattle.search.specs.NurbCurve.{weighted}
+use Rattle.model.specs.NurbCurve.{weighted}
 use Rattle.geometry.proofs.Memory.Counts.{count-readable}
 use Rattle.geometry.proofs.Kernels.Visit.{points-room, points-back}
 use borrow.Author.Needs.{needs}

@@ -50,13 +50,13 @@ use denote.Triple.Walked.{says, Stays, stay-none-slice, walkOf, goes-none-slice,
 use denote.Exit.{yes as kept}
 use Rattle.math.specs.declared.scalars.Scalar.{Scalar}
 use Rattle.math.specs.Scalars.{geop, absent, ENTIRE}
-use Rattle.search.specs.FatLine.{fatLineZeros}
+use Rattle.model.specs.FatLine.{fatLineZeros}
 use Rattle.math.proofs.scalars.Scalar as S
 use Rattle.math.proofs.scalars.Scalar.Laws as S′
-use Rattle.search.specs.declared.fat_line.Hat.{Hat}
-use Rattle.search.specs.declared.fat_line.Hat.the-variants.{Over}
-use Rattle.search.proofs.fat_line.Hat as O
-use Rattle.search.proofs.fat_line.Hat.Laws as O′
+use Rattle.model.specs.declared.fat_line.Hat.{Hat}
+use Rattle.model.specs.declared.fat_line.Hat.the-variants.{Over}
+use Rattle.model.proofs.fat_line.Hat as O
+use Rattle.model.proofs.fat_line.Hat.Laws as O′
 use Rattle.geometry.specs.Zeros.{paired, polygonZeros, begun, taken, zerosOf}
 use Rattle.geometry.specs.declared.zeros.Line.{Line}
 use Rattle.geometry.proofs.Kernels.ByHand.{machine, Has, Lent, takes, hears}

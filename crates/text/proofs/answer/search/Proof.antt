@@ -5,7 +5,7 @@ use native.Mathlib.Omega.{arith}
 use lib.ListN.{getD}
 use lib.Ieee.{nan}
 use Rattle.lists.specs.Lists.{part}
-use Rattle.search.specs.Call.{curve, lent}
+use Rattle.model.specs.Call.{curve, lent}
 use Rattle.text.proofs.Lines.{few}
 use Rattle.text.proofs.Answers.{search-same, printable}
 use borrow.Author.Needs.{needs}

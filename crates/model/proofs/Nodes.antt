@@ -1,0 +1,156 @@
+-- More nodes than a search needs change nothing: a search that has not run out of its nodes takes the same visits with more (`same-steps`), and a call that is accepted stays so. For
+-- every arithmetic (`more-nodes`). Leans on nothing but the definitions of the search.
+use Prim.Native.Nat.{ℕ, zero, suc, _+_, _-_, _≤_, _<_}
+use native.Mathlib.Decide.{decLt}
+use native.Mathlib.Omega.{arith}
+use mathlib.Core.Path.{_≡_, refl, sym, ap, _∙_, subst}
+use mathlib.Core.Bool.{Bool, true, false, cond}
+use mathlib.Core.List.{List, [], _∷_}
+use mathlib.Core.Option.{Option, none, some}
+use lib.ListN.{length}
+use lib.Dec.{le→leb}
+use borrow.Author.Tests.{lt-ltb, le-ltb}
+use Rattle.math.specs.declared.scalars.Scalar.{Scalar}
+use Rattle.math.specs.Scalars.{Arithmetic}
+use Rattle.model.specs.NurbCurve.{Piece}
+use Rattle.model.specs.Aabb.{aabb, couldOverlap, couldMeet}
+use Rattle.model.specs.FatLine.{greville}
+use Rattle.model.specs.Subdivide.{Question, Visit, dropped, State, Step, going, over, complete, ended, step, advance, resumed, answered}
+use Rattle.model.specs.Contains.{shrink, clipped, visit, begun, couldContain}
+use Rattle.model.specs.Call.{Call, boxOf, question, curve, nodesFit, areaFits, stated, checks, refusal, searchedBy, searched, areaBy, areaAfter, dimFits, degreeFits, countFits, lengthsFit, numbersUsable, boundsOrdered, weightsAbove, knotsSound}
+use Rattle.model.specs.Enclosure.{Accepted, Completes}
+use Rattle.model.specs.Nodes.{NotSpent, NodesLeft, SameSteps, withNodes, Larger, MoreNodes}
+use Rattle.model.specs.declared.contains.Found.{Found}
+use Rattle.model.specs.declared.contains.Found.the-variants.{Nothing, Enclosed, Spent, Refused}
+use Rattle.model.specs.declared.fat_line.Hat.{Hat}
+use Rattle.model.specs.declared.fat_line.Hat.the-variants.{Over, Missing}
+use Rattle.model.proofs.Pause.{ends, once, fails, waits, paused}
+use Rattle.model.proofs.Checks.{passed, none-failed}
+
+-- ---- before a visit: one is left, or none
+goes : (nodes : ℕ) (c : Piece) (cs : List Piece) (v : ℕ) (f : Option Scalar) → v < nodes → ended nodes (c ∷ cs) v f ≡ none
+unfolding ended
+goes nodes c cs v f h = rw (lt-ltb v nodes h)
+
+spends : (nodes : ℕ) (c : Piece) (cs : List Piece) (v : ℕ) (f : Option Scalar) → nodes ≤ v → ended nodes (c ∷ cs) v f ≡ some (Spent (suc (length cs)) v)
+unfolding ended
+spends nodes c cs v f h = rw (le-ltb v nodes h)
+
+module _ (see : Piece → Visit) (n m : ℕ) (h : n ≤ m) where
+  abbrev at : List Piece → ℕ → Option Scalar → State
+  at q v f = record { queue = q; visited = v; found = f }
+
+  -- with no piece left both are over
+  done : (k v : ℕ) (f : Option Scalar) → advance see m k (at [] v f) ≡ advance see n k (at [] v f)
+  done k v f = ends see m k (at [] v f) (complete f v) (unfold ended in refl) ∙ sym (ends see n k (at [] v f) (complete f v) (unfold ended in refl))
+
+  -- with a piece, and no node left of n, the search is spent
+  spent : (k : ℕ) (c : Piece) (cs : List Piece) (v : ℕ) (f : Option Scalar) → n ≤ v → NodesLeft (advance see n k (at (c ∷ cs) v f)) → ⊥
+  spent k c cs v f l = subst (λ (z : Step). NodesLeft z → ⊥) (sym (ends see n k (at (c ∷ cs) v f) (Spent (suc (length cs)) v) (spends n c cs v f l))) (λ e. e)
+
+  steps : (k : ℕ) (s : State) → NodesLeft (advance see n k s) → advance see m k s ≡ advance see n k s
+  steps zero s left = by (s .queue) (s .visited) (s .found) left
+    where
+      by : (q : List Piece) (v : ℕ) (f : Option Scalar) → NodesLeft (advance see n zero (at q v f)) → advance see m zero (at q v f) ≡ advance see n zero (at q v f)
+      by [] v f left = done zero v f
+      by (c ∷ cs) v f left = go (decLt v n)
+        where
+          go : Dec (v < n) → advance see m zero (at (c ∷ cs) v f) ≡ advance see n zero (at (c ∷ cs) v f)
+          go (yes l) = waits see m (at (c ∷ cs) v f) (goes m c cs v f (omega arith)) ∙ sym (waits see n (at (c ∷ cs) v f) (goes n c cs v f l))
+          go (no l) = absurd (spent zero c cs v f (omega arith) left)
+  steps (suc k) s left = by (steps k) (s .queue) (s .visited) (s .found) left
+    where
+      Rest : Type 0
+      Rest = (s′ : State) → NodesLeft (advance see n k s′) → advance see m k s′ ≡ advance see n k s′
+
+      by : Rest → (q : List Piece) (v : ℕ) (f : Option Scalar) → NodesLeft (advance see n (suc k) (at q v f)) → advance see m (suc k) (at q v f) ≡ advance see n (suc k) (at q v f)
+      by rest [] v f left = done (suc k) v f
+      by rest (c ∷ cs) v f left = go (decLt v n)
+        where
+          next : v < n → (t : Step) → step see (c ∷ cs) v f ≡ t → advance see m (suc k) (at (c ∷ cs) v f) ≡ advance see n (suc k) (at (c ∷ cs) v f)
+          next l (over r) u = fails see m k (at (c ∷ cs) v f) r (goes m c cs v f (omega arith)) u ∙ sym (fails see n k (at (c ∷ cs) v f) r (goes n c cs v f l) u)
+          next l (going s′) u =
+              let one = once see n k (at (c ∷ cs) v f) s′ (goes n c cs v f l) u in
+              once see m k (at (c ∷ cs) v f) s′ (goes m c cs v f (omega arith)) u ∙ rest s′ (subst NodesLeft one left) ∙ sym one
+
+          go : Dec (v < n) → advance see m (suc k) (at (c ∷ cs) v f) ≡ advance see n (suc k) (at (c ∷ cs) v f)
+          go (yes l) = next l (step see (c ∷ cs) v f) refl
+          go (no l) = absurd (spent (suc k) c cs v f (omega arith) left)
+
+  -- and of all visits that the nodes allow
+  enough : (s : State) → NotSpent (answered (advance see n n s)) → answered (advance see m m s) ≡ answered (advance see n n s)
+  enough s left = by (advance see n n s) refl left
+    where
+      all : m ≡ n + (m - n)
+      all = omega (arith, h)
+
+      by : (z : Step) → advance see n n s ≡ z → NotSpent (answered z) → answered (advance see m m s) ≡ answered z
+      by (going s′) e d = unfold answered in absurd d
+      by (over r) e d =
+          let here : advance see m n s ≡ over r = steps n s (subst NodesLeft (sym e) (unfold answered in d)) ∙ e in
+          ap answered (ap (λ (k : ℕ). advance see m k s) all ∙ paused see m n (m - n) s ∙ ap (resumed see m (m - n)) here ∙ (unfold resumed in refl))
+
+-- THE STEPS
+pub same-steps : (see : Piece → Visit) → SameSteps see
+same-steps see = record { same = λ n m k s h left. steps see n m h k s left }
+
+-- ---- a visit does not look at the nodes
+module _ (ar : Arithmetic) (c : Call) (m room : ℕ) where
+  abbrev q : Question
+  q = question c
+
+  abbrev q′ : Question
+  q′ = question (withNodes c m room)
+
+  shrink-nodes : (s : Piece) (h : Hat) → shrink ar q′ s h ≡ shrink ar q s h
+  unfolding shrink
+  shrink-nodes s Missing = refl
+  shrink-nodes s (Over t) = refl
+
+  clipped-nodes : (s : Piece) (g : Option (List Scalar)) → clipped ar q′ s g ≡ clipped ar q s g
+  unfolding clipped
+  clipped-nodes s none = refl
+  clipped-nodes s (some ξ) = shrink-nodes s _
+
+  visit-nodes : (s : Piece) → visit ar q′ s ≡ visit ar q s
+  unfolding visit
+  visit-nodes s = ap (λ (v : Visit). cond (couldOverlap (aabb ar (c .dim) (s .points)) (boxOf c)) v dropped) (clipped-nodes s (greville ar (c .degree) (length (s .points)) (s .knots)))
+
+  more : c .nodes ≤ m → NotSpent (couldContain ar q (curve c)) → couldContain ar q′ (curve c) ≡ couldContain ar q (curve c)
+  unfolding couldContain
+  more h left = by (couldMeet ar (c .dim) (c .degree) (curve c .points) (boxOf c)) left
+    where
+      see : visit ar q′ ≡ visit ar q
+      see = λ i s. visit-nodes s i
+
+      by : (b : Bool) → NotSpent (cond b (answered (advance (visit ar q) (c .nodes) (c .nodes) (begun (curve c)))) (Nothing 0))
+          → cond b (answered (advance (visit ar q′) m m (begun (curve c)))) (Nothing 0) ≡ cond b (answered (advance (visit ar q) (c .nodes) (c .nodes) (begun (curve c)))) (Nothing 0)
+      by true d = ap (λ (f : Piece → Visit). answered (advance f m m (begun (curve c)))) see ∙ enough (visit ar q) (c .nodes) m h (begun (curve c)) d
+      by false d = refl
+
+-- ---- the checks
+still : (c : Call) (m room : ℕ) → Larger c m room → Accepted c → Accepted (withNodes c m room)
+unfolding refusal dimFits degreeFits countFits lengthsFit numbersUsable boundsOrdered weightsAbove knotsSound nodesFit areaFits
+still c m room w e =
+    let p = passed c 0 checks e in
+    none-failed (withNodes c m room) 1 checks
+    (p .0, (p .1 .0, (p .1 .1 .0, (p .1 .1 .1 .0, (p .1 .1 .1 .1 .0, (p .1 .1 .1 .1 .1 .0, (p .1 .1 .1 .1 .1 .1 .0, (p .1 .1 .1 .1 .1 .1 .1 .0, (le→leb m 4096 (w .most), (le→leb (stated (withNodes c m room)) room (w .long), tt))))))))))
+
+-- ---- THE LAW
+not-spent : (r : Found) → Completes r → NotSpent r
+not-spent (Nothing v) h = tt
+not-spent (Enclosed lo hi v) h = tt
+not-spent (Spent n v) h = h
+not-spent (Refused n v) h = tt
+
+pub more-nodes : (ar : Arithmetic) → MoreNodes ar
+unfolding searched searchedBy areaAfter areaBy
+more-nodes ar = record {
+  completed = λ c m room w h. by c m room w (refusal c) refl h;
+  unspent = λ c m room w e left. ap (searchedBy ar (withNodes c m room)) (still c m room w e) ∙ more ar c m room (w .more) (subst NotSpent (ap (searchedBy ar c) e) left) ∙ sym (ap (searchedBy ar c) e);
+  area = λ c m room w e area. ap (areaBy (withNodes c m room) area) (still c m room w e);
+}
+  where
+    by : (c : Call) (m room : ℕ) → Larger c m room → (z : ℕ) → refusal c ≡ z → Completes (searchedBy ar c z) → searchedBy ar (withNodes c m room) (refusal (withNodes c m room)) ≡ searchedBy ar c z
+    by c m room w zero e h = ap (searchedBy ar (withNodes c m room)) (still c m room w e) ∙ more ar c m room (w .more) (not-spent (couldContain ar (question c) (curve c)) h)
+    by c m room w (suc z) e h = absurd h

@@ -1,0 +1,41 @@
+-- Document 01's word, number and values for each case of an answer that is an enum: of the search, of a clip, and of a division. Definitions only.
+use Prim.Native.Nat.{ℕ}
+use mathlib.Core.Option.{Option, none, some}
+use Rattle.math.specs.declared.scalars.Scalar.{Scalar}
+use Rattle.math.specs.declared.scalars.Divided.{Divided}
+use Rattle.math.specs.declared.scalars.Divided.the-variants.{Value, Failed}
+use Rattle.model.specs.declared.contains.Found.{Found}
+use Rattle.model.specs.declared.contains.Found.the-variants.{Nothing, Enclosed, Spent, Refused}
+use Rattle.model.specs.declared.fat_line.Hat.{Hat}
+use Rattle.model.specs.declared.fat_line.Hat.the-variants.{Over, Missing}
+
+-- The word behind `result=`: none, enclosed, spent or refused-N, with the number N of the refusal.
+pub data Result : Type 0 where
+  none-found enclosed spent : Result
+  refused : ℕ → Result
+
+-- What document 01 says of an answer: the five values that the program prints.
+pub record Paper : Type 0 where
+  pub result : Result
+  pub visited : ℕ
+  -- 0 unless spent
+  pub pending : ℕ
+  -- lo and hi, which are `-` unless enclosed
+  pub bounds : Option Scalar
+
+-- The answer of a search.
+abbrev pub paper : Found → Paper
+paper (Nothing v) = record { result = none-found; visited = v; pending = 0; bounds = none }
+paper (Enclosed lo hi v) = record { result = enclosed; visited = v; pending = 0; bounds = some (record { lo = lo; hi = hi }) }
+paper (Spent n v) = record { result = spent; visited = v; pending = n; bounds = none }
+paper (Refused n v) = record { result = refused n; visited = v; pending = 0; bounds = none }
+
+-- The answer of a clip: the hat, or no hat, which leaves the visit early.
+abbrev pub hatOf : Hat → Option Scalar
+hatOf (Over t) = some t
+hatOf Missing = none
+
+-- The answer of a division: the quotient, or an error, where the divisor holds zero.
+abbrev pub quotientOf : Divided → Option Scalar
+quotientOf (Value x) = some x
+quotientOf Failed = none
