@@ -17,7 +17,7 @@ use Rattle.model.specs.declared.contains.Found.the-variants.{Nothing, En
 use Rattle.model.specs.Subdivide.{Question, Visit, dropped, reported, restricted, halved, badWeight, State, Step, going, over, joined, complete, after, ended, step, advance, answered}
 use Rattle.model.specs.Aabb.{couldMeet}
 use Rattle.model.specs.Contains.{visit, begun, couldContain}
-use Rattle.model.specs.Call.{Call, question, curve, refusal, searchedBy, searched}
+use Rattle.model.specs.Call.{Call, question, asPiece, refusal, searchedBy, searched}
 use Rattle.model.specs.Paper.{paper}
 use Rattle.model.proofs.Pause.{ends, once, fails, waits}
 
@@ -136,5 +136,5 @@ unfolding searched searchedBy
 searched-counted ar c = by (refusal c)
   where
     by : (n : ℕ) → Counted (c .nodes) (searchedBy ar c n)
-    by zero = couldContain-counted ar (question c) (curve c)
+    by zero = couldContain-counted ar (question c) (asPiece (c .curve))
     by (suc n) = omega arith

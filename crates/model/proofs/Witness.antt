@@ -22,9 +22,9 @@ point-call = callOf (single 1 0x4008000000000000)
 
 -- the lower bound of interval k of point i
 abbrev low : ℕ → ℕ → ℚ
-low k i = value (scalarAt (point-call .points) (3 * i + k) .lo)
+low k i = value (scalarAt (point-call .curve .points) (3 * i + k) .lo)
 
-points-hold : (k i : ℕ) → k < 3 → i < 1 → Holds (scalarAt (point-call .points) (3 * i + k)) (low k i)
+points-hold : (k i : ℕ) → k < 3 → i < 1 → Holds (scalarAt (point-call .curve .points) (3 * i + k)) (low k i)
 unfolding ofBits
 points-hold zero zero _ _ = record { low = le-refl _; high = le-refl _ }
 points-hold (suc zero) zero _ _ = record { low = le-refl _; high = le-refl _ }
@@ -56,10 +56,10 @@ point-hit t s = record {
   passes = record { last = λ k. low k 0; rounds = record { k = 0; span = s; there = λ a. refl }; quotients = λ k _. divided k };
 }
 
-knots-rise : knotValues (point-call .knots) 0 <ℚ knotValues (point-call .knots) 1
+knots-rise : knotValues (point-call .curve .knots) 0 <ℚ knotValues (point-call .curve .knots) 1
 unfolding ofBits lt
 knots-rise = lt→value _ _ _ _ _ _ tt
 
 -- and so at the domain's end.
-pub end-hit : HitAt point-call (knotValues (point-call .knots) 1)
+pub end-hit : HitAt point-call (knotValues (point-call .curve .knots) 1)
 end-hit = point-hit _ (closing (record { first = omega arith; last = omega arith; wide = knots-rise; stop = refl; here = refl }))

@@ -21,7 +21,7 @@ use Rattle.math.proofs.Intervals.Tests.{zero-holds}
 use Rattle.math.proofs.Intervals.Instance.{geop-encloses}
 use Rattle.math.proofs.Intervals.Proper.{geop-in-order, zero-proper, one-proper, entire-proper, union-proper, intersect-proper, quotient-proper}
 use Rattle.model.specs.Vector.{Vector, coordinate}
-use Rattle.model.specs.NurbCurve.{point, weighted}
+use Rattle.model.specs.NurbCurve.{point, weightsPositive}
 use Rattle.model.specs.Aabb.{unions, place, aabb, couldOverlap, alongBy, along, meets, couldMeet}
 use Rattle.model.specs.Enclosure.{Every}
 use Rattle.model.specs.declared.fat_line.Hat.{Hat}
@@ -92,15 +92,15 @@ module _ (dim : ℕ) where
   before-solid (q ∷ qs) S = pick (Every (Solid dim)) (hasZero (coordinate q dim)) [] (q ∷ debug.before dim qs) (λ _. tt) (λ _. (S .0, before-solid qs (S .1)))
 
   -- the Rust's panic and refusal 11 are one
-  weights-same : (points : List Vector) → Every (Solid dim) points → all (λ q. not (hasZero (coordinate q dim))) points ≡ weighted dim points
-  unfolding all weighted
+  weights-same : (points : List Vector) → Every (Solid dim) points → all (λ q. not (hasZero (coordinate q dim))) points ≡ weightsPositive dim points
+  unfolding all weightsPositive
   weights-same [] S = refl
   weights-same (q ∷ qs) S =
       ap (λ (b : Bool). not b && all (λ q. not (hasZero (coordinate q dim))) qs) (weight-zero (coordinate q dim) (S .0 .weight))
       ∙ ap (λ (b : Bool). b && all (λ q. not (hasZero (coordinate q dim))) qs) (twice-not (lt zeroF (coordinate q dim .lo)))
       ∙ ap (λ (b : Bool). lt zeroF (coordinate q dim .lo) && b) (weights-same qs (S .1))
 
-  pub boxed-fine : (points : List Vector) → Every (Solid dim) points → debug.boxed dim points ≡ fine (weighted dim points)
+  pub boxed-fine : (points : List Vector) → Every (Solid dim) points → debug.boxed dim points ≡ fine (weightsPositive dim points)
   unfolding debug.boxed
   boxed-fine points S = rw (aabb-fine (debug.before dim points) (before-solid points S)) (ap fine (weights-same points S))
 

@@ -17,7 +17,7 @@ use Rattle.math.specs.Encloses.{Encloses}
 use Rattle.math.proofs.Bools.{and-l, and-r, pick}
 use Rattle.math.proofs.Intervals.Proper.{union-proper}
 use Rattle.model.specs.Vector.{Vector, coordinate}
-use Rattle.model.specs.NurbCurve.{Piece, start, end, domain, weighted}
+use Rattle.model.specs.NurbCurve.{Piece, start, end, domain, weightsPositive}
 use Rattle.model.specs.Split.{Halves, uncut, both, splitMid, Restricted, restrict}
 use Rattle.model.specs.Aabb.{aabb, couldOverlap}
 use Rattle.model.specs.FatLine.{greville}
@@ -53,8 +53,8 @@ module _ (p : ℕ) (c : Piece) (K : Knots p (length (c .points)) (c .knots)) whe
   whole-proper = domain-proper (start p c) (end c) (start-known p c K) (end-known p c K)
 
 -- points in order whose weights are above zero
-pub weighty : (dim : ℕ) (points : List Vector) → Every (Solid dim) points → T (weighted dim points) → Every (Weighty dim) points
-unfolding weighted all
+pub weighty : (dim : ℕ) (points : List Vector) → Every (Solid dim) points → T (weightsPositive dim points) → Every (Weighty dim) points
+unfolding weightsPositive all
 weighty dim [] S w = tt
 weighty dim (q ∷ qs) S w = (
   record { solid = S .0; heavy = and-l (lt zeroF (coordinate q dim .lo)) (all (λ q. lt zeroF (coordinate q dim .lo)) qs) w },
@@ -85,14 +85,14 @@ module _ (ar : Arithmetic) (E : Encloses ar) (q : Question) (Q : Asked q) where
   -- ---- what is handed on
   on-held : (r : Restricted) → Held (q .dim) (r .piece) → Fine Proper (Held (q .dim)) (handOn (q .dim) r)
   unfolding handOn
-  on-held r S = pick (Fine Proper (Held dim)) (weighted dim (r .piece .points)) (restricted (r .cuts) (r .piece)) badWeight (λ _. S) (λ _. tt)
+  on-held r S = pick (Fine Proper (Held dim)) (weightsPositive dim (r .piece .points)) (restricted (r .cuts) (r .piece)) badWeight (λ _. S) (λ _. tt)
 
   both-held : (hat : Scalar) (s : Halves) → Proper hat → Both (λ l r. Held (q .dim) l × Held (q .dim) r) s → Fine Proper (Held (q .dim)) (handBoth (q .dim) hat s)
   unfolding handBoth
   both-held hat uncut h S = h
-  both-held hat (both l r) h S = pick (Fine Proper (Held dim)) (weighted dim (l .points) && weighted dim (r .points)) (halved l r) badWeight (λ _. S) (λ _. tt)
+  both-held hat (both l r) h S = pick (Fine Proper (Held dim)) (weightsPositive dim (l .points) && weightsPositive dim (r .points)) (halved l r) badWeight (λ _. S) (λ _. tt)
 
-  module _ (c : Piece) (K : Knots (q .degree) (length (c .points)) (c .knots)) (S : Held (q .dim) c) (w : T (weighted (q .dim) (c .points))) where
+  module _ (c : Piece) (K : Knots (q .degree) (length (c .points)) (c .knots)) (S : Held (q .dim) c) (w : T (weightsPositive (q .dim) (c .points))) where
     abbrev a : Float
     a = start (q .degree) c
 
