@@ -11,9 +11,9 @@ use lib.Pow.{pow-pos}
 use lib.IntN.{ℤ, pos, negsuc, sucℤ, predℤ, negℤ, _+ℤ_, _*ℤ_, suc-pred, +ℤ-negℤ-cancel, +ℤ-assoc, +ℤ-idl, +ℤ-invr, negℤ-+ℤ, sucℤ-+ℤ, predℤ-+ℤ}
 use lib.Ieee.{up, down}
 use lib.Ieee.Fits.{down-pos}
-use Rattle.exact.specs.Integer.{negℤ-*ℤ, ℤ-step}
-use Rattle.exact.specs.Ring.{by-rep, by-eq, read}
-use Rattle.exact.specs.Fraction.{frac, mul-one, isPos, addF, negF, mulF, mulD}
+use Rattle.ring.proofs.Integer.{*ℤ-unit, negℤ-*ℤ, ℤ-step}
+use Rattle.ring.proofs.Ring.{by-rep, by-eq, read}
+use Rattle.exact.specs.Fraction.{frac, isPos, addF, negF, mulF, mulD}
 use Rattle.exact.specs.Rational.{ℚ, mk, same, _+ℚ_, _*ℚ_, -ℚ_, _-ℚ_, 0ℚ, 1ℚ, invℚ, _÷_, signed, fromℤ, pow2, Nn, _≤ℚ_, _<ℚ_, nn-of, not-le→lt, lt→not-le}
 use Rattle.exact.proofs.Field.{ℚring, add-mk, mul-mk, neg-mk, Nn-mk, Nn-mk⁻¹, *ℚ-assoc, *ℚ-comm, *ℚ-1, one-mk, zero-mk}
 use Rattle.exact.proofs.Order.{le-by, le-nn, inv-unique}
@@ -21,7 +21,7 @@ use Rattle.exact.proofs.Order.{le-by, le-nn, inv-unique}
 -- ---- whole numbers
 pub fromℤ-add : (m n : ℤ) → fromℤ (m +ℤ n) ≡ fromℤ m +ℚ fromℤ n
 unfolding fromℤ
-fromℤ-add m n = sym (add-mk (m, 0) (n, 0) ∙ ap mk (frac (ap₂ _+ℤ_ (mul-one m) (mul-one n)) refl))
+fromℤ-add m n = sym (add-mk (m, 0) (n, 0) ∙ ap mk (frac (ap₂ _+ℤ_ (*ℤ-unit m) (*ℤ-unit n)) refl))
 
 pub fromℤ-mul : (m n : ℤ) → fromℤ (m *ℤ n) ≡ fromℤ m *ℚ fromℤ n
 unfolding fromℤ

@@ -1,7 +1,7 @@
 -- Intervals of rationals: what encloses the operands encloses the sum, the negative, the product and the inverse.
 use mathlib.Core.List.{[], _∷_}
 use mathlib.Core.Logic.{⊎-elim}
-use Rattle.exact.specs.Ring.{by-rep, read}
+use Rattle.ring.proofs.Ring.{by-rep, read}
 use Rattle.exact.specs.Rational.{ℚ, _+ℚ_, _*ℚ_, -ℚ_, _-ℚ_, 0ℚ, invℚ, _≤ℚ_, _<ℚ_, nn-of}
 use Rattle.exact.specs.Hull.{In}
 use Rattle.exact.proofs.Field.{ℚring, nn-add, nn-mul}

@@ -7,7 +7,7 @@ use Prim.Native.Nat.{ℕ, zero, suc, _+_, _-_, _≤_, _<_}
 use native.Mathlib.Nat.{eq-or-lt-of-le, lt-of-not-le}
 use native.Mathlib.Decide.{decLe}
 use native.Mathlib.Omega.{arith}
-use Rattle.exact.specs.Ring.{by-rep, by-eq, read}
+use Rattle.ring.proofs.Ring.{by-rep, by-eq, read}
 use Rattle.exact.specs.Rational.{ℚ, _*ℚ_, -ℚ_, _-ℚ_, 1ℚ, invℚ, lerp, ratio, _≤ℚ_, _<ℚ_, lt→not-le}
 use Rattle.exact.specs.Spline.{closing, Traced, round, boor, curve, Sorted, left, right, Shut, Fit, Runs, On}
 use Rattle.exact.specs.Cut.{Thin}
