@@ -1,7 +1,7 @@
 -- The rationals are a field: the laws of sum and product, the ring that the solver works in (`ℚring`), the inverse; and the cone of the numbers that are at
 -- least zero. Each law is proved of fractions and carried over to their classes.
-use mathlib.Core.Path.{_≡_, refl, sym, _∙_, ap, ap₂, subst}
-use mathlib.Core.List.{List, [], _∷_}
+use mathlib.Core.Path.{_≡_, refl, sym, _∙_, ap, ap₂}
+use mathlib.Core.List.{[], _∷_}
 use mathlib.Core.Bool.{Bool, true, false}
 use mathlib.Core.HLevel.{Π-prop}
 use Prim.Native.Nat.{ℕ, zero, suc, _+_, _*_}
@@ -215,10 +215,3 @@ one-mk = refl
 pub zero-mk : mk (pos 0, 0) ≡ 0ℚ
 unfolding 0ℚ
 zero-mk = refl
-
--- two rationals whose differences both compute to a number that is at least zero
-pub by-test : (x y : ℚ) → T (nonneg (x +ℚ -ℚ y)) → T (nonneg (y +ℚ -ℚ x)) → x ≡ y
-by-test x y s t = by-eq ℚring 1ℚ (nn-zero (x +ℚ -ℚ y) (nn-in s) (subst (λ (z : ℚ). Nn z) turn (nn-in t))) (by-rep ℚring (x ∷ y ∷ []) (search read) (search read) tt)
-  where
-    turn : y +ℚ -ℚ x ≡ -ℚ (x +ℚ -ℚ y)
-    turn = by-rep ℚring (x ∷ y ∷ []) (search read) (search read) tt

@@ -1,7 +1,7 @@
 -- A fraction as a pair: a numerator n and a denominator d + 1, so that no denominator is zero. Many pairs are one number: `_~_` says when two are.
 -- Sum, product, negative, sign and inverse of pairs, and that each respects `_~_`: what the rationals are made from.
-use mathlib.Core.Path.{_≡_, refl, sym, _∙_, ap, ap₂, subst}
-use mathlib.Core.List.{List, [], _∷_}
+use mathlib.Core.Path.{_≡_, refl, sym, _∙_, ap, subst}
+use mathlib.Core.List.{[], _∷_}
 use mathlib.Core.Bool.{Bool, true, false}
 use Prim.Native.Nat.{ℕ, zero, suc, _+_, _*_, _<_}
 use native.Mathlib.Omega.{arith}

@@ -18,7 +18,6 @@ use Rattle.model.specs.Subdivide.{Question, Visit, dropped, reported, re
 use Rattle.model.specs.Aabb.{couldMeet}
 use Rattle.model.specs.Contains.{visit, begun, couldContain}
 use Rattle.model.specs.Call.{Call, question, curve, refusal, searchedBy, searched}
-use Rattle.model.specs.Paper.{paper}
 use Rattle.model.proofs.Pause.{ends, once, fails, waits}
 
 -- What the counts of an answer are held to.
@@ -27,18 +26,6 @@ Counted nodes (Nothing v) = v ≤ nodes
 Counted nodes (Enclosed lo hi v) = v ≤ nodes
 Counted nodes (Spent n v) = (v ≡ nodes) × (1 ≤ n) × (n ≤ nodes + 1)
 Counted nodes (Refused n v) = v ≤ nodes
-
-pub visited-within : (nodes : ℕ) (r : Found) → Counted nodes r → paper r .visited ≤ nodes
-visited-within nodes (Nothing v) h = h
-visited-within nodes (Enclosed lo hi v) h = h
-visited-within nodes (Spent n v) h = omega (arith, h .0)
-visited-within nodes (Refused n v) h = h
-
-pub pending-within : (nodes : ℕ) (r : Found) → Counted nodes r → paper r .pending ≤ nodes + 1
-pending-within nodes (Nothing v) h = omega arith
-pending-within nodes (Enclosed lo hi v) h = omega arith
-pending-within nodes (Spent n v) h = h .2
-pending-within nodes (Refused n v) h = omega arith
 
 -- Where a search stands that was to take visits up to number m: it is over, or it took just these, and has one to take.
 abbrev pub Stands : ℕ → ℕ → Step → Type 0
