@@ -8,7 +8,6 @@ use mathlib.Core.Bool.{Bool, true, false, cond}
 use mathlib.Core.List.{List, [], _∷_, _++_}
 use mathlib.Core.Option.{Option, none, some}
 use lib.ListN.{length, length-append}
-use borrow.Author.Tests.{lt-ltb, le-ltb}
 use Rattle.math.specs.declared.scalars.Scalar.{Scalar}
 use Rattle.math.specs.Scalars.{Arithmetic}
 use Rattle.model.specs.NurbCurve.{Piece}
@@ -18,7 +17,7 @@ use Rattle.model.specs.Subdivide.{Question, Visit, dropped, reported, re
 use Rattle.model.specs.Aabb.{couldMeet}
 use Rattle.model.specs.Contains.{visit, begun, couldContain}
 use Rattle.model.specs.Call.{Call, question, curve, refusal, searchedBy, searched}
-use Rattle.model.proofs.Pause.{ends, once, fails, waits}
+use Rattle.model.proofs.Pause.{goes, spends, ends, once, fails, waits}
 
 -- What the counts of an answer are held to.
 abbrev pub Counted : ℕ → Found → Type 0
@@ -36,15 +35,6 @@ complete-counted : (nodes v : ℕ) (f : Option Scalar) → v ≤ nodes → Count
 unfolding complete
 complete-counted nodes v none h = h
 complete-counted nodes v (some t) h = h
-
--- a state whose first piece has a visit left, and one whose first piece has none
-goes : (nodes : ℕ) (c : Piece) (cs : List Piece) (v : ℕ) (f : Option Scalar) → v < nodes → ended nodes (c ∷ cs) v f ≡ none
-unfolding ended
-goes nodes c cs v f h = rw (lt-ltb v nodes h)
-
-spends : (nodes : ℕ) (c : Piece) (cs : List Piece) (v : ℕ) (f : Option Scalar) → nodes ≤ v → ended nodes (c ∷ cs) v f ≡ some (Spent (suc (length cs)) v)
-unfolding ended
-spends nodes c cs v f h = rw (le-ltb v nodes h)
 
 module _ (see : Piece → Visit) (nodes : ℕ) where
   abbrev at : List Piece → ℕ → Option Scalar → State
