@@ -9,7 +9,6 @@ use lib.Dec.{T}
 use lib.ListN.{length}
 use lib.Ieee.{Float, nan, le}
 use lib.Ieee.Bits.{is-true}
-use Rattle.exact.proofs.Order.{lt→le}
 use Rattle.lists.specs.Lists.{all}
 use Rattle.lists.proofs.Fold.{all-getD}
 use Rattle.lists.proofs.Tab.{length-tab, getD-tab}
@@ -24,12 +23,13 @@ use Rattle.model.specs.Vector.{Vector, coordinate}
 use Rattle.model.specs.Layout.{scalarAt, scalarsOf, pointAt, pointsOf}
 use Rattle.model.specs.Call.{Call, curve, boxOf, question, usable, ordered, checks, numbersUsable, boundsOrdered, refusal}
 use Rattle.model.specs.Enclosure.{Doubles, Accepted, Every}
+use Rattle.model.specs.Weights.{Weighs}
 use Rattle.model.proofs.Checks.{passed}
 use Rattle.model.proofs.Every.{every-tab}
 use Rattle.model.proofs.Sound.Accepted.{Checked, checked, sizes}
 use Rattle.model.proofs.Sound.Visit.Door.{Bounded}
 use Rattle.model.proofs.Sound.Visit.Weights.{Heavy, heavy-at, heavy-pos}
-use Rattle.model.proofs.Proper.Blend.{Weighs, Solid}
+use Rattle.model.proofs.Proper.Blend.{Solid}
 use Rattle.model.proofs.Proper.Visit.{Held, Asked}
 
 module _ (c : Call) (d : Doubles c) (acc : Accepted c) where
@@ -78,7 +78,7 @@ module _ (c : Call) (d : Doubles c) (acc : Accepted c) where
   unfolding pointAt pointsOf
   weighs i k =
       let x = proper-holds (coordinate (pointAt (suc (c .dim)) (c .points) i) (c .dim)) (subst Proper (sym at) (point-proper (suc (c .dim) * i + c .dim) (point-inside i (c .dim) k (omega arith)))) in
-      record { number = x .0; from = lt→le (heavy-pos (coordinate (pointAt (suc (c .dim)) (c .points) i) (c .dim)) (x .0) heavy (x .1)); holds = x .1 }
+      record { number = x .0; above = heavy-pos (coordinate (pointAt (suc (c .dim)) (c .points) i) (c .dim)) (x .0) heavy (x .1); holds = x .1 }
     where
       at : coordinate (pointAt (suc (c .dim)) (c .points) i) (c .dim) ≡ scalarAt (c .points) (suc (c .dim) * i + c .dim)
       at = getD-tab (suc (c .dim)) (λ j. scalarAt (c .points) (suc (c .dim) * i + j)) (c .dim) absent (omega arith)
