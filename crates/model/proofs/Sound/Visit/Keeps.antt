@@ -1,6 +1,6 @@
 -- What each axis keeps of a hat the whole clip keeps; and the bounds of the zeros are doubles. Assumes nothing.
 use mathlib.Core.Path.{_≡_, subst}
-use mathlib.Core.List.{List, [], _∷_, zipWith}
+use mathlib.Core.List.{List, [], _∷_}
 use mathlib.Core.Bool.{Bool, true, false, cond}
 use Prim.Native.Nat.{ℕ, zero, suc, _+_, _<_}
 use native.Mathlib.Omega.{arith}
@@ -16,7 +16,7 @@ use Rattle.math.specs.Scalars.{Arithmetic, ZERO, ENTIRE, absent, couldBeEqual, 
 use Rattle.math.specs.Encloses.{Encloses}
 use Rattle.model.specs.Vector.{Vector}
 use Rattle.model.specs.Aabb.{unions}
-use Rattle.model.specs.FatLine.{offset, crossing, zerosBy, fatLineZeros}
+use Rattle.model.specs.FatLine.{crossing, zerosBy, fatLineZeros}
 use Rattle.model.specs.Contains.{axis, narrowed, clip}
 use Rattle.model.specs.declared.fat_line.Hat.{Hat}
 use Rattle.model.specs.declared.fat_line.Hat.the-variants.{Over, Missing}
@@ -66,12 +66,14 @@ module _ (ar : Arithmetic) (E : Encloses ar) where
   crossing-doubles ξ₀ Failed = record { lo-double = inf-fits binary64 true; hi-double = inf-fits binary64 false }
   crossing-doubles ξ₀ (Value q) = record { lo-double = E .sub-doubles ξ₀ q .0; hi-double = E .sub-doubles ξ₀ q .1 }
 
+  -- whatever the band is
+  band-doubles : (ξ₀ d₀ d s band : Scalar) → Kept Doubles (cond (couldBeEqual (ar .add (unionS d₀ d) band) ZERO) (crossing ar ξ₀ (ar .div (ar .add d₀ band) s)) Missing)
+  band-doubles ξ₀ d₀ d s band = kept-or Doubles (couldBeEqual (ar .add (unionS d₀ d) band) ZERO) _ (crossing-doubles ξ₀ (ar .div (ar .add d₀ band) s))
+
   by-doubles : (ξs ds : List Scalar) (ξ₀ d₀ : Scalar) (o : Divided) → Kept Doubles (zerosBy ar ξs ds ξ₀ d₀ o)
   unfolding zerosBy
   by-doubles ξs ds ξ₀ d₀ Failed = kept-if Doubles (couldBeEqual (unions ds) ZERO) ENTIRE (λ _. record { lo-double = inf-fits binary64 true; hi-double = inf-fits binary64 false })
-  by-doubles ξs ds ξ₀ d₀ (Value s) =
-      let band = unions (zipWith (λ x y. offset ar s ξ₀ d₀ x y) ξs ds) in
-      kept-or Doubles (couldBeEqual (ar .add (unionS d₀ (lastD ds absent)) band) ZERO) (crossing ar ξ₀ (ar .div (ar .add d₀ band) s)) (crossing-doubles ξ₀ (ar .div (ar .add d₀ band) s))
+  by-doubles ξs ds ξ₀ d₀ (Value s) = band-doubles ξ₀ d₀ (lastD ds absent) s _
 
   pub zeros-doubles : (ξs ds : List Scalar) → Kept Doubles (fatLineZeros ar ξs ds)
   unfolding fatLineZeros
