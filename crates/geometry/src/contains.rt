@@ -21,7 +21,7 @@ ghost use lib.ListN.{length, drop};
 ghost use Rattle.math.specs.Scalars.{geop};
 ghost use Rattle.model.specs.Layout.{scalarsOf, slotWords};
 ghost use Rattle.model.specs.Contains.{visit, begun};
-ghost use Rattle.model.specs.Subdivide.{plain, complete, advance, answered};
+ghost use Rattle.model.specs.Subdivide.{positiveZero, complete, advance, answered};
 ghost use Rattle.geometry.specs.Slots.{pieceAt, Fit};
 ghost use Rattle.geometry.specs.Waiting.{baseOf, ringBase, Ring};
 ghost use Rattle.model.specs.Call.{AllDoubles, curve, lent, searched, areaAfter};
@@ -34,7 +34,7 @@ ghost use Rattle.geometry.specs.Turns.{foundOf, Visited, Begins};
 
 // A bound as it is given out, with no negative zero.
 fn plain(x: f64) -> f64
-    ensures { λ r. ⌜ r ≡ plain x ⌝ }
+    ensures { λ r. ⌜ r ≡ positiveZero x ⌝ }
 {
     if x == 0.0 { 0.0 } else { x }
 }

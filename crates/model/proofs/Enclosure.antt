@@ -29,7 +29,7 @@ use Rattle.model.specs.Vector.{Vector, coordinate}
 use Rattle.model.specs.NurbCurve.{Piece, knot, point, start, end, domain}
 use Rattle.model.specs.Aabb.{couldMeet, aabb, couldOverlap}
 use Rattle.model.specs.FatLine.{greville}
-use Rattle.model.specs.Subdivide.{Question, dropped, plain, Step, going, over, advance, Visit, reported, restricted, halved, badWeight}
+use Rattle.model.specs.Subdivide.{Question, dropped, positiveZero, Step, going, over, advance, Visit, reported, restricted, halved, badWeight}
 use Rattle.model.specs.Contains.{clipped, visit, begun, couldContain}
 use Rattle.model.specs.Layout.{scalarAt, pointAt, pointsOf}
 use Rattle.model.specs.Call.{Call, curve, boxOf, question, refusal, searched, searchedBy}
@@ -55,8 +55,8 @@ zero-known : Known zeroF
 zero-known = record { double = unfold fits in tt; moderate = unfold le lt eq in tt }
 
 -- what rests on the value alone, and a NaN does not have
-plain-keeps : (P : Float → Type 0) → (P nan → ⊥) → ((s : Bool) (m : ℕ) (e : ℤ) → value (fin s m e) ≡ value zeroF → P (fin s m e) → P zeroF) → (x : Float) → P x → P (plain x)
-unfolding plain
+plain-keeps : (P : Float → Type 0) → (P nan → ⊥) → ((s : Bool) (m : ℕ) (e : ℤ) → value (fin s m e) ≡ value zeroF → P (fin s m e) → P zeroF) → (x : Float) → P x → P (positiveZero x)
+unfolding positiveZero
 plain-keeps P none-has move x h = pick P (eq x zeroF) zeroF x (same x h) (λ _. h)
   where
     same : (x : Float) → P x → T (eq x zeroF) → P zeroF
@@ -64,14 +64,14 @@ plain-keeps P none-has move x h = pick P (eq x zeroF) zeroF x (same x h) (λ _. 
     same (inf s) k e = unfold eq in absurd e
     same (fin s m w) k e = move s m w (eq→value s m w false 0 (pos 0) e) k
 
-plain-low : (x : Float) (t : ℚ) → Below x t → Below (plain x) t
+plain-low : (x : Float) (t : ℚ) → Below x t → Below (positiveZero x) t
 plain-low x t = plain-keeps (λ z. Below z t) (λ k. k) (λ _ _ _ v k. subst (λ (z : ℚ). z ≤ℚ t) v k) x
 
-plain-high : (x : Float) (t : ℚ) → Above x t → Above (plain x) t
+plain-high : (x : Float) (t : ℚ) → Above x t → Above (positiveZero x) t
 plain-high x t = plain-keeps (λ z. Above z t) (λ k. k) (λ _ _ _ v k. subst (λ (z : ℚ). t ≤ℚ z) v k) x
 
-plain-lies : (l u : Float) (x : Float) → Known l → Known u → Lies (value l) (value u) x → NotOutside l u (plain x)
-unfolding plain
+plain-lies : (l u : Float) (x : Float) → Known l → Known u → Lies (value l) (value u) x → NotOutside l u (positiveZero x)
+unfolding positiveZero
 plain-lies l u x kl ku h = pick (λ (z : Float). NotOutside l u z) (eq x zeroF) zeroF x
     (λ e. let v = eq-known x zeroF (h .known) zero-known e in inside zeroF zero-known (subst (λ (z : ℚ). value l ≤ℚ z) v (h .from)) (subst (λ (z : ℚ). z ≤ℚ value u) v (h .upto)))
     (λ _. inside x (h .known) (h .from) (h .upto))
@@ -79,21 +79,21 @@ plain-lies l u x kl ku h = pick (λ (z : Float). NotOutside l u z) (eq x zeroF) 
     inside : (z : Float) → Known z → value l ≤ℚ value z → value z ≤ℚ value u → NotOutside l u z
     inside z k f g = and-i (le l z) (le z u) (le-known l z kl k f) (le-known z u k ku g)
 
-plain-known : (x : Float) → Known x → Known (plain x) × (value (plain x) ≡ value x)
-unfolding plain
+plain-known : (x : Float) → Known x → Known (positiveZero x) × (value (positiveZero x) ≡ value x)
+unfolding positiveZero
 plain-known x k = pick (λ (z : Float). Known z × (value z ≡ value x)) (eq x zeroF) zeroF x (λ e. (zero-known, sym (eq-known x zeroF k zero-known e))) (λ _. (k, refl))
 
-plain-order : (l h : Float) → Known l → Known h → T (le l h) → T (lt (inf true) (plain l) && le (plain l) (plain h) && lt (plain h) (inf false))
+plain-order : (l h : Float) → Known l → Known h → T (le l h) → T (lt (inf true) (positiveZero l) && le (positiveZero l) (positiveZero h) && lt (positiveZero h) (inf false))
 plain-order l h kl kh o =
     let x = plain-known l kl in
     let y = plain-known h kh in
-    and-i (lt (inf true) (plain l) && le (plain l) (plain h)) (lt (plain h) (inf false))
-    (and-i (lt (inf true) (plain l)) (le (plain l) (plain h)) (known-proper (plain l) (x .0) .high)
-    (le-known (plain l) (plain h) (x .0) (y .0) (subst (λ (z : ℚ). z ≤ℚ value (plain h)) (sym (x .1)) (subst (λ (z : ℚ). value l ≤ℚ z) (sym (y .1)) (le-value l h kl kh o)))))
-    (known-proper (plain h) (y .0) .low)
+    and-i (lt (inf true) (positiveZero l) && le (positiveZero l) (positiveZero h)) (lt (positiveZero h) (inf false))
+    (and-i (lt (inf true) (positiveZero l)) (le (positiveZero l) (positiveZero h)) (known-proper (positiveZero l) (x .0) .high)
+    (le-known (positiveZero l) (positiveZero h) (x .0) (y .0) (subst (λ (z : ℚ). z ≤ℚ value (positiveZero h)) (sym (x .1)) (subst (λ (z : ℚ). value l ≤ℚ z) (sym (y .1)) (le-value l h kl kh o)))))
+    (known-proper (positiveZero h) (y .0) .low)
 
-plain-zero : (x : Float) → NoNegativeZero (plain x)
-unfolding plain
+plain-zero : (x : Float) → NoNegativeZero (positiveZero x)
+unfolding positiveZero
 plain-zero x = pick NoNegativeZero (eq x zeroF) zeroF x (λ _ _. refl) (λ n e. absurd (never (eq x zeroF) n e))
 
 -- ---- the curve that is lent
@@ -293,7 +293,7 @@ module _ (c : Call) (d : Doubles c) (acc : Accepted c) where
     order-right (Enclosed lo hi v) h =
         let i = h .1 .0 .0 in
         subst (λ (l : Float). T (lt (inf true) l && le l hi && lt hi (inf false))) (sym (h .1 .1 .0))
-        (subst (λ (u : Float). T (lt (inf true) (plain (h .0 .lo)) && le (plain (h .0 .lo)) u && lt u (inf false))) (sym (h .1 .1 .1)) (plain-order (h .0 .lo) (h .0 .hi) (i .low .known) (i .high .known) (h .1 .0 .1 .order)))
+        (subst (λ (u : Float). T (lt (inf true) (positiveZero (h .0 .lo)) && le (positiveZero (h .0 .lo)) u && lt u (inf false))) (sym (h .1 .1 .1)) (plain-order (h .0 .lo) (h .0 .hi) (i .low .known) (i .high .known) (h .1 .0 .1 .order)))
     order-right (Spent m v) h = tt
     order-right (Refused m v) h = tt
 

@@ -17,7 +17,7 @@ use Rattle.model.specs.KnotInsertion.{highest, insertionSpan, alpha, ble
 use Rattle.model.specs.Split.{splitBy, split, splitMid, fromBy, upToBy, restrict}
 use Rattle.model.specs.Aabb.{unions, place, aabb, couldOverlap, alongBy, along, meets, couldMeet}
 use Rattle.model.specs.FatLine.{abscissa, greville, crossing, zerosBy, fatLineZeros, cartesian, distance, distances, pathLength, extent, toF64, widest, carriedBy, carriedWidth, restricts, halves}
-use Rattle.model.specs.Subdivide.{plain, joined, complete, after, ended, step, stop, advance, answered}
+use Rattle.model.specs.Subdivide.{positiveZero, joined, complete, after, ended, step, stop, advance, answered}
 use Rattle.model.specs.Contains.{axis, narrowed, clip, carried, handOn, handBoth, shrink, clipped, visit, couldContain}
 use Rattle.model.specs.Layout.{pointAt, pointsOf, slotWords}
 use Rattle.model.specs.Call.{Call, dimFits, degreeFits, countFits, lengthsFit, numbersUsable, boundsOrdered, weightsAbove, rising, seldom, sound, knotsSound, nodesFit, stated, areaFits, firstFailed, refusal, searchedBy, searched}
@@ -95,7 +95,7 @@ unfolding zipWith add sub mul div lt le eq isNan neg ofInt toBits ofBits
     splitBy split splitMid fromBy upToBy restrict
     unions place aabb couldOverlap alongBy along meets couldMeet
     abscissa greville crossing zerosBy fatLineZeros cartesian distance distances pathLength extent toF64 widest carriedBy carriedWidth restricts halves
-    plain joined complete after ended step stop advance answered
+    positiveZero joined complete after ended step stop advance answered
     axis narrowed clip carried handOn handBoth shrink clipped visit couldContain
     pointAt pointsOf slotWords dimFits degreeFits countFits lengthsFit numbersUsable boundsOrdered weightsAbove rising seldom sound knotsSound nodesFit stated areaFits firstFailed refusal searchedBy searched
 right (prints t expected) = alike (printed (paper (searched geop (callOf t)))) expected

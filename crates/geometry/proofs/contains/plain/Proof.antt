@@ -1,16 +1,16 @@
 -- `plain` equals its definition: one test.
 use lib.Ieee.{ofBits}
 use Rattle.math.proofs.Bools.{pick-yes, pick-no}
-use Rattle.model.specs.Subdivide.{plain}
+use Rattle.model.specs.Subdivide.{positiveZero}
 use Rattle.geometry.proofs.contains.plain.Statement.{statement}
 use Rattle.geometry.proofs.contains.plain.Tie as tie
 
 returns : tie.Need-returns
-unfolding plain ofBits
+unfolding positiveZero ofBits
 returns c = pick-yes _ _ _ (c .if1 .taken)
 
 returns-2 : tie.Need-returns-2
-unfolding plain ofBits
+unfolding positiveZero ofBits
 returns-2 c = pick-no _ _ _ (c .if1 .left)
 
 pub plain-spec : {M : Type 1} → statement M
