@@ -39,7 +39,7 @@ module _ {A : Type 0} where
 
   -- ---- a write to one of two lists that are joined
 
-  pub put-left : (p r : List A) (a : ℕ) (vs : List A) → a + length vs ≤ length p → put (p ++ r) a vs ≡ put p a vs ++ r
+  put-left : (p r : List A) (a : ℕ) (vs : List A) → a + length vs ≤ length p → put (p ++ r) a vs ≡ put p a vs ++ r
   unfolding put
   put-left p r a vs h =
       rw (take-append-le a p r (omega arith), drop-append-le (a + length vs) p r h, append-assoc (take a p) (vs ++ drop (a + length vs) p) r, append-assoc vs (drop (a + length vs) p) r)

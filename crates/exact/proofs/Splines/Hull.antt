@@ -115,7 +115,7 @@ module _ (p n : ℕ) (u : ℕ → ℚ) (srt : Sorted u (n + p)) (t : ℚ) (m : �
       wide : u (j + suc r) <ℚ u (j + suc p)
       wide = spread seg (j + suc r) (j + suc p) b (omega arith) (omega arith)
 
-  pub at-pos : (c : ℕ → ℚ) → ((i : ℕ) → i < n → 0ℚ <ℚ c i) → 0ℚ <ℚ curve p u c m t
+  at-pos : (c : ℕ → ℚ) → ((i : ℕ) → i < n → 0ℚ <ℚ c i) → 0ℚ <ℚ curve p u c m t
   at-pos c h = at-pos-in c h p m (omega arith) (omega arith)
 
   -- linear precision

@@ -24,7 +24,7 @@ use Rattle.model.specs.Tested as tested
 use Rattle.model.specs.Tested.{Tested, fine, _>>=_}
 use Rattle.model.specs.Debug as debug
 use Rattle.model.proofs.Every.{every-map, every-at}
-use Rattle.model.proofs.Sound.Visit.Keeps.{Kept}
+use Rattle.model.proofs.Sound.Visit.Keeps.{OfHat}
 use Rattle.model.proofs.Sound.Visit.Door.{Bounded}
 use Rattle.model.proofs.Proper.Blend.{Solid, coordinate-proper, known-proper}
 use Rattle.model.proofs.Proper.Weights.{weights-same}
@@ -89,13 +89,13 @@ module _ (dim : ℕ) where
     from-hi : Proper (subS (sharp (e .hi)) a)
     from-hi = geop-in-order .sub-proper (sharp (e .hi)) a (known-proper (e .hi) (B .upto)) A
 
-    by-kept : (s t : Divided) → first ≡ s → second ≡ t → Kept Proper (alongBy s t)
+    by-kept : (s t : Divided) → first ≡ s → second ≡ t → OfHat Proper (alongBy s t)
     unfolding alongBy
     by-kept Failed t p q = tt
     by-kept (Value s) Failed p q = tt
     by-kept (Value s) (Value t) p q = union-proper s t (geop-in-order .div-proper (subS (sharp (e .lo)) a) d s from-lo moved p) (geop-in-order .div-proper (subS (sharp (e .hi)) a) d t from-hi moved q)
 
-    along-kept : Kept Proper (along geop e a b)
+    along-kept : OfHat Proper (along geop e a b)
     unfolding along
     along-kept = by-kept first second refl refl
 
@@ -140,7 +140,7 @@ module _ (dim : ℕ) where
         on t S rest true = rw (intersect-fine t range) (rest (intersectS t range) (intersect-proper t range S R))
         on t S rest false = refl
 
-        go : (h : Hat) → Kept Proper h → Rest
+        go : (h : Hat) → OfHat Proper h → Rest
             → _≡_ {A = Tested Bool} (elim h [ Missing ↦ debug.meets dim a b range (suc k) es | Over t ↦ elim (couldBeEqual t range) [ true ↦ (tested.intersect t range >>= λ r. debug.meets dim a b r (suc k) es) | false ↦ fine false ] ])
             (fine (elim h [ Missing ↦ meets geop dim a b range (suc k) es | Over t ↦ elim (couldBeEqual t range) [ true ↦ meets geop dim a b (intersectS t range) (suc k) es | false ↦ false ] ]))
         go Missing S rest = rest range R

@@ -34,7 +34,7 @@ bound-above (inf false) q h k = unfold lt in tt
 bound-above (fin s m e) q h k =
     value→lt false 0 (pos 0) s m e (subst (λ (z : ℚ). z <ℚ value (fin s m e)) (sym (value-zero false (pos 0))) (lt-le-trans h k))
 
-pub weight-high : (w : Scalar) → Weighs w → T (lt zeroF (w .hi))
+weight-high : (w : Scalar) → Weighs w → T (lt zeroF (w .hi))
 weight-high w s = bound-above (w .hi) (s .number) (s .above) (s .holds .high)
 
 -- it could be zero where its lo is not above zero

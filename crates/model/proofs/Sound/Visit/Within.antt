@@ -30,7 +30,7 @@ use Rattle.model.specs.declared.fat_line.Hat.{Hat}
 use Rattle.model.specs.declared.fat_line.Hat.the-variants.{Over, Missing}
 use Rattle.model.proofs.Sound.Base.{Known, Knots}
 use Rattle.model.proofs.Sound.Known.{le-known}
-use Rattle.model.proofs.Sound.Visit.Keeps.{Kept, kept-if, clip-keeps, Doubles, zeros-doubles}
+use Rattle.model.proofs.Sound.Visit.Keeps.{OfHat, of-hat-if, clip-keeps, DoubleBounds, zeros-doubles}
 
 -- a test that failed did not pass
 pub clash : (x : Bool) → T (not x) → T x → ⊥
@@ -76,7 +76,7 @@ pub record Within (a b : Float) (hat : Scalar) : Type 0 where
   pub double-lo : T (fits binary64 (hat .lo))
   pub double-hi : T (fits binary64 (hat .hi))
 
-module _ (a b : Float) (hat z : Scalar) (h : Within a b hat) (dz : Doubles z) (t : T (couldBeEqual z hat)) where
+module _ (a b : Float) (hat z : Scalar) (h : Within a b hat) (dz : DoubleBounds z) (t : T (couldBeEqual z hat)) where
   z-hat : T (le (z .lo) (hat .hi))
   z-hat = and-l (le (z .lo) (hat .hi)) (le (hat .lo) (z .hi)) t
 
@@ -146,10 +146,10 @@ module _ (a b : Float) (hat z : Scalar) (h : Within a b hat) (dz : Doubles z) (t
       (λ n. pick (Within a b) (le (sub binary64 (hat .hi) (hat .lo)) (sub binary64 (z .hi) (z .lo))) hat z (λ _. h) (λ m. chosen n m))
 
 -- ---- the domain, and what the axes leave of it
-narrowed-within : (a b : Float) (hat : Scalar) (z : Hat) → Within a b hat → Kept Doubles z → Kept (Within a b) (narrowed hat z)
+narrowed-within : (a b : Float) (hat : Scalar) (z : Hat) → Within a b hat → OfHat DoubleBounds z → OfHat (Within a b) (narrowed hat z)
 unfolding narrowed
 narrowed-within a b hat Missing h d = tt
-narrowed-within a b hat (Over z) h d = kept-if (Within a b) (couldBeEqual z hat) (intersectS hat z) (λ t. intersect-within a b hat z h d t)
+narrowed-within a b hat (Over z) h d = of-hat-if (Within a b) (couldBeEqual z hat) (intersectS hat z) (λ t. intersect-within a b hat z h d t)
 
 -- the first hat
 pub domain-within : (a b : Float) → Known a → Known b → T (le a b) → Within a b (domain a b)
@@ -182,6 +182,6 @@ module _ (p : ℕ) (c : Piece) (K : Knots p (length (c .points)) (c .knots)) whe
   -- THE CLIP, for any points, abscissae and box
   pub clip-within : (ar : Arithmetic) → Encloses ar → (dim : ℕ) (ξs box : List Scalar) (hat : Scalar) → clip ar dim (c .points) ξs (domain (start p c) (end c)) 0 box ≡ Over hat
       → Within (start p c) (end c) hat
-  clip-within ar E dim ξs box hat e = subst (Kept (Within (start p c) (end c))) e
+  clip-within ar E dim ξs box hat e = subst (OfHat (Within (start p c) (end c))) e
       (clip-keeps ar dim (c .points) ξs (Within (start p c) (end c)) (λ _ _. Unit {0}) (λ k e g _ h. narrowed-within (start p c) (end c) g _ h (zeros-doubles ar E ξs (axis ar dim k e (c .points))))
       box 0 (domain (start p c) (end c)) (λ _ _. tt) (domain-within (start p c) (end c) start-known end-known start-end))
