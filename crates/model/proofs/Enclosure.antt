@@ -2,12 +2,12 @@
 use mathlib.Core.Path.{_≡_, refl, sym, ap, _∙_, subst}
 use mathlib.Core.Logic.{inl}
 use mathlib.Core.List.{List, [], _∷_}
-use mathlib.Core.Bool.{true, false, _&&_}
+use mathlib.Core.Bool.{Bool, true, false, _&&_}
 use mathlib.Core.Option.{Option, none}
 use Prim.Native.Nat.{ℕ, zero, suc, _+_, _*_, _≤_, _<_}
 use native.Mathlib.Omega.{arith}
 use lib.Dec.{T, eqb, eqb→eq}
-use lib.IntN.{pos}
+use lib.IntN.{ℤ, pos}
 use lib.ListN.{length, getD}
 use lib.Ieee.{Float, nan, inf, fin, lt, le, eq, fits}
 use Rattle.exact.specs.Rational.{ℚ, _≤ℚ_, _<ℚ_}
@@ -54,23 +54,21 @@ use Rattle.model.proofs.Proper.Lent.{curve-held, box-bounded as boxes-b
 zero-known : Known zeroF
 zero-known = record { double = unfold fits in tt; moderate = unfold le lt eq in tt }
 
-plain-low : (x : Float) (t : ℚ) → Below x t → Below (positiveZero x) t
+-- what rests on the value alone, and a NaN does not have
+plain-keeps : (P : Float → Type 0) → (P nan → ⊥) → ((s : Bool) (m : ℕ) (e : ℤ) → value (fin s m e) ≡ value zeroF → P (fin s m e) → P zeroF) → (x : Float) → P x → P (positiveZero x)
 unfolding positiveZero
-plain-low x t h = pick (λ (z : Float). Below z t) (eq x zeroF) zeroF x (same x h) (λ _. h)
+plain-keeps P none-has move x h = pick P (eq x zeroF) zeroF x (same x h) (λ _. h)
   where
-    same : (x : Float) → Below x t → T (eq x zeroF) → Below zeroF t
-    same nan k e = absurd k
-    same (inf z) k e = unfold eq in absurd e
-    same (fin z m w) k e = subst (λ (v : ℚ). v ≤ℚ t) (eq→value z m w false 0 (pos 0) e) k
+    same : (x : Float) → P x → T (eq x zeroF) → P zeroF
+    same nan k e = absurd (none-has k)
+    same (inf s) k e = unfold eq in absurd e
+    same (fin s m w) k e = move s m w (eq→value s m w false 0 (pos 0) e) k
+
+plain-low : (x : Float) (t : ℚ) → Below x t → Below (positiveZero x) t
+plain-low x t = plain-keeps (λ z. Below z t) (λ k. k) (λ _ _ _ v k. subst (λ (z : ℚ). z ≤ℚ t) v k) x
 
 plain-high : (x : Float) (t : ℚ) → Above x t → Above (positiveZero x) t
-unfolding positiveZero
-plain-high x t h = pick (λ (z : Float). Above z t) (eq x zeroF) zeroF x (same x h) (λ _. h)
-  where
-    same : (x : Float) → Above x t → T (eq x zeroF) → Above zeroF t
-    same nan k e = absurd k
-    same (inf z) k e = unfold eq in absurd e
-    same (fin z m w) k e = subst (λ (v : ℚ). t ≤ℚ v) (eq→value z m w false 0 (pos 0) e) k
+plain-high x t = plain-keeps (λ z. Above z t) (λ k. k) (λ _ _ _ v k. subst (λ (z : ℚ). t ≤ℚ z) v k) x
 
 plain-lies : (l u : Float) (x : Float) → Known l → Known u → Lies (value l) (value u) x → NotOutside l u (positiveZero x)
 unfolding positiveZero

@@ -9,7 +9,6 @@ use mathlib.Core.List.{List, [], _∷_}
 use mathlib.Core.Option.{Option, none, some}
 use lib.ListN.{length}
 use lib.Dec.{le→leb}
-use borrow.Author.Tests.{lt-ltb, le-ltb}
 use Rattle.math.specs.declared.scalars.Scalar.{Scalar}
 use Rattle.math.specs.Scalars.{Arithmetic}
 use Rattle.model.specs.NurbCurve.{Piece}
@@ -24,17 +23,8 @@ use Rattle.model.specs.declared.contains.Found.{Found}
 use Rattle.model.specs.declared.contains.Found.the-variants.{Nothing, Enclosed, Spent, Refused}
 use Rattle.model.specs.declared.fat_line.Hat.{Hat}
 use Rattle.model.specs.declared.fat_line.Hat.the-variants.{Over, Missing}
-use Rattle.model.proofs.Pause.{ends, once, fails, waits, paused}
+use Rattle.model.proofs.Pause.{goes, spends, ends, once, fails, waits, paused}
 use Rattle.model.proofs.Checks.{accepted-by, curve-accepted}
-
--- ---- before a visit: one is left, or none
-goes : (nodes : ℕ) (c : Piece) (cs : List Piece) (v : ℕ) (f : Option Scalar) → v < nodes → ended nodes (c ∷ cs) v f ≡ none
-unfolding ended
-goes nodes c cs v f h = rw (lt-ltb v nodes h)
-
-spends : (nodes : ℕ) (c : Piece) (cs : List Piece) (v : ℕ) (f : Option Scalar) → nodes ≤ v → ended nodes (c ∷ cs) v f ≡ some (Spent (suc (length cs)) v)
-unfolding ended
-spends nodes c cs v f h = rw (le-ltb v nodes h)
 
 module _ (see : Piece → Visit) (n m : ℕ) (h : n ≤ m) where
   abbrev at : List Piece → ℕ → Option Scalar → State

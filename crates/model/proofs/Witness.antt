@@ -1,15 +1,15 @@
--- Exact hits there are, at the domain's end too: the call of document 01's case P1, a curve of degree 0, is hit wherever it has a span. Assumes nothing.
+-- Exact hits there are, at 1/2 and at the domain's end: the call of document 01's case P1, a curve of degree 0, is hit wherever it has a span. Assumes nothing.
 use Prim.Native.Nat.{ℕ, zero, suc, _+_, _*_, _<_}
-use mathlib.Core.Path.{_≡_, refl, ap, _∙_}
+use mathlib.Core.Path.{_≡_, refl, sym, ap, _∙_, subst}
 use native.Mathlib.Omega.{arith}
 use lib.Ieee.{ofBits, lt}
-use Rattle.exact.specs.Rational.{ℚ, _*ℚ_, 1ℚ, invℚ, _<ℚ_}
-use Rattle.exact.specs.Spline.{closing, drawn}
+use Rattle.exact.specs.Rational.{ℚ, _*ℚ_, 0ℚ, 1ℚ, invℚ, _÷_, _≤ℚ_, _<ℚ_}
+use Rattle.exact.specs.Spline.{before, closing, drawn}
 use Rattle.exact.proofs.Field.{*ℚ-1}
 use Rattle.exact.proofs.Order.{le-refl, inv-unique}
-use Rattle.exact.proofs.Embed.{÷-eq, ÷-one}
+use Rattle.exact.proofs.Embed.{÷-eq, ÷-nn, ÷-lt, ÷-one}
 use Rattle.math.specs.Values.{value, Holds}
-use Rattle.math.proofs.Doubles.Values.{lt→value}
+use Rattle.math.proofs.Doubles.Values.{value-zero, lt→value}
 use Rattle.model.specs.Layout.{scalarAt}
 use Rattle.model.specs.Call.{Call}
 use Rattle.model.specs.Enclosure.{knotValues, SpanOf, HitAt}
@@ -60,6 +60,23 @@ knots-rise : knotValues (point-call .curve .knots) 0 <ℚ knotValues (point-call
 unfolding ofBits lt
 knots-rise = lt→value _ _ _ _ _ _ tt
 
--- and so at the domain's end.
+-- at the domain's end,
 pub end-hit : HitAt point-call (knotValues (point-call .curve .knots) 1)
 end-hit = point-hit _ (closing (record { first = omega arith; last = omega arith; wide = knots-rise; stop = refl; here = refl }))
+
+knot-zero : knotValues (point-call .curve .knots) 0 ≡ 0ℚ
+unfolding ofBits
+knot-zero = value-zero _ _
+
+knot-one : knotValues (point-call .curve .knots) 1 ≡ 1ℚ
+unfolding ofBits value
+knot-one = ÷-eq _ 1 _ 1 (omega arith) (omega arith) (omega arith) ∙ ÷-one
+
+-- and at 1/2, in its middle.
+pub half-hit : HitAt point-call (1 ÷ 2)
+half-hit = point-hit (1 ÷ 2) (before (record {
+  first = omega arith;
+  last = omega arith;
+  from = subst (λ (z : ℚ). z ≤ℚ 1 ÷ 2) (sym knot-zero) (÷-nn 1 2);
+  upto = subst (λ (z : ℚ). 1 ÷ 2 <ℚ z) (÷-one ∙ sym knot-one) (÷-lt 1 1 2 1 (omega arith) (omega arith) (omega arith));
+}))

@@ -11,6 +11,7 @@ pub mod Layout
 pub mod Call
 pub mod Paper
 pub mod Enclosure
+pub mod Weights
 pub mod Nodes
 pub mod Tested
 pub mod Debug

@@ -13,7 +13,7 @@ use lib.Pow.{pow-add, pow-pos}
 use lib.Ieee.{Float, nan, inf, fin, binary64, up, down, fits, isNan, add, sub, mul, lt, le, eq, neg}
 use lib.Ieee.Fits.{add-fits, mul-fits, nan-fits, down-pos}
 use lib.Ieee.Bits.{ofBits-fits, is-true}
-use Rattle.exact.specs.Ring.{by-rep, read}
+use Rattle.ring.proofs.Ring.{by-rep, read}
 use Rattle.exact.specs.Rational.{ℚ, _+ℚ_, _*ℚ_, 0ℚ, _≤ℚ_, nn-of, lt→not-le}
 use Rattle.exact.proofs.Field.{ℚring}
 use Rattle.exact.proofs.Order.{le-by, le-trans as ≤ℚ-trans, mul-mono}

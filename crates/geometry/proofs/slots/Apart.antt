@@ -11,7 +11,7 @@ use Rattle.lists.specs.Lists.{part, put, tab}
 use Rattle.lists.proofs.Tab.{tab-ext}
 use Rattle.lists.proofs.Part.{length-part, getD-part, part-part}
 use Rattle.lists.proofs.Put.{length-put, put-swap}
-use Rattle.lists.proofs.Read.{part-put, part-put-other, getD-put-other}
+use Rattle.lists.proofs.Read.{part-put-other}
 use Rattle.model.specs.NurbCurve.{Piece}
 use Rattle.model.specs.Vector.{Vector}
 use Rattle.model.specs.Layout.{pointsOf, slotWords}

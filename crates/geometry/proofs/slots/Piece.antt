@@ -11,8 +11,8 @@ use lib.Seq.{take-all}
 use lib.Ieee.{Float, nan}
 use Rattle.lists.specs.Lists.{part, put}
 use Rattle.lists.proofs.Part.{length-part, part-cons, getD-part, part-part}
-use Rattle.lists.proofs.Put.{length-put, put-again, put-part, put-put, put-swap, put-inside}
-use Rattle.lists.proofs.Read.{part-put, part-put-in, part-put-other, getD-put, getD-put-before, getD-put-other}
+use Rattle.lists.proofs.Put.{length-put, put-part, put-put, put-swap, put-inside}
+use Rattle.lists.proofs.Read.{part-put-in, part-put-other, getD-put, getD-put-before}
 use Rattle.model.specs.Vector.{Vector}
 use Rattle.model.specs.NurbCurve.{Piece}
 use Rattle.model.specs.Layout.{pointsOf, slotWords}

@@ -30,7 +30,7 @@ use Rattle.model.proofs.Sound.Base.{Known, Knots}
 use Rattle.model.proofs.Sound.Restrict.{Both}
 use Rattle.model.proofs.Sound.Search.{Fine, fine-both}
 use Rattle.model.proofs.Sound.Visits.{Ok, Inner, choices, visit-fine}
-use Rattle.model.proofs.Sound.Visit.Keeps.{Kept}
+use Rattle.model.proofs.Sound.Visit.Keeps.{OfHat}
 use Rattle.model.proofs.Sound.Visit.Within.{Within, clip-within, start-known, end-known}
 use Rattle.model.proofs.Every.{every-of}
 use Rattle.model.proofs.Proper.Blend.{Solid, known-proper}
@@ -105,12 +105,12 @@ module _ (ar : Arithmetic) (E : Encloses ar) (q : Question) (Q : Asked q) where
         (on-held (restrict ar p (hat .lo) (hat .hi) c) (restrict-solid ar E dim p c K S (hat .lo) (hat .hi) (at .double-lo) (at .double-hi)))
         (both-held hat (splitMid ar p c) h (split-solid ar E dim p c K S)) h
 
-    shrink-held : (z : Hat) → Kept Proper z → ((hat : Scalar) → z ≡ Over hat → Within (start (q .degree) c) (end c) hat) → Fine Proper (Held (q .dim)) (shrink ar q c z)
+    shrink-held : (z : Hat) → OfHat Proper z → ((hat : Scalar) → z ≡ Over hat → Within (start (q .degree) c) (end c) hat) → Fine Proper (Held (q .dim)) (shrink ar q c z)
     shrink-held Missing h at = unfold shrink in tt
     shrink-held (Over hat) h at = hat-held hat h (at hat refl)
 
     -- ---- its hat
-    hat-proper : (ξs : List Scalar) → Given (length (c .points)) ξs → Kept Proper (clip ar (q .dim) (c .points) ξs (domain (start (q .degree) c) (end c)) 0 (q .box))
+    hat-proper : (ξs : List Scalar) → Given (length (c .points)) ξs → OfHat Proper (clip ar (q .dim) (c .points) ξs (domain (start (q .degree) c) (end c)) 0 (q .box))
     hat-proper ξs G = clip-proper ar E dim (c .points) (weighty dim (c .points) S w) ξs G (some-points p c K) (q .box) (domain a b) (omega (arith, Q .long)) (Q .box) (whole-proper p c K)
 
     clipped-held : (g : Option (List Scalar)) → Givens (length (c .points)) g → Fine Proper (Held (q .dim)) (clipped ar q c g)

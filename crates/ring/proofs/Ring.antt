@@ -1,12 +1,12 @@
 -- Commutative rings, and a normaliser for their identities: an expression over variables (`E`) is multiplied out into a sorted sum of
 -- monomials with integer coefficients (`norm`), and two expressions whose difference has only zero coefficients have one value (`by-norm`).
-use mathlib.Core.Path.{_≡_, refl, sym, _∙_, ap, ap₂, subst, _≡⟨_⟩_, _∎}
+use mathlib.Core.Path.{_≡_, refl, sym, _∙_, ap, ap₂, subst}
 use mathlib.Core.List.{List, [], _∷_}
 use mathlib.Core.Bool.{Bool, true, false, _&&_}
-use Prim.Native.Nat.{ℕ, zero, suc, _+_, compare, Ordering, Ordering·lt, Ordering·eq, Ordering·gt}
+use Prim.Native.Nat.{ℕ, zero, suc, compare, Ordering, Ordering·lt, Ordering·eq, Ordering·gt}
 use lib.Dec.{T, eqb, eqb→eq, isEq}
-use lib.IntN.{ℤ, pos, negsuc, sucℤ, predℤ, negℤ, _+ℤ_, _-ℤ_, _*ℤ_, one, suc-pred, +ℤ-idl, +ℤ-idr, +ℤ-assoc, +ℤ-comm, +ℤ-invl, +ℤ-invr, sucℤ-+ℤ, predℤ-+ℤ, sucℤ-*ℤ, predℤ-*ℤ, zero-*ℤ, *ℤ-comm, *ℤ-one}
-use Rattle.exact.specs.Integer.{ℤ-step, *ℤ-ldist, *ℤ-assoc}
+use lib.IntN.{ℤ, pos, negsuc, sucℤ, predℤ, negℤ, _+ℤ_, _*ℤ_, suc-pred, +ℤ-idl, +ℤ-idr, +ℤ-assoc, +ℤ-comm, +ℤ-invl, +ℤ-invr, sucℤ-+ℤ, predℤ-+ℤ, sucℤ-*ℤ, predℤ-*ℤ, zero-*ℤ, *ℤ-comm}
+use Rattle.ring.proofs.Integer.{ℤ-step, *ℤ-unit, *ℤ-ldist, *ℤ-assoc}
 
 pub record CRing (A : Type 0) : Type 0 where
   pub add : A → A → A
@@ -379,3 +379,21 @@ module _ {A : Type 0} (𝓡 : CRing A) where
   by-eq {x} {y} k {p} {q} h e = cancel 𝓡 x y (k ⊗ q) (e ∙ ap (λ z. y ⊕ k ⊗ z) h)
 
 pub ruleset read = (rep-add, rep-mul, rep-neg, rep-nil, rep-unit, rep-0, rep-1, rep-2, rep-3, rep-4, rep-5, rep-6, rep-7, rep-8, rep-9, rep-10, rep-11, rep-12, rep-13)
+
+-- ---- the integers as a ring
+abbrev pub ℤring : CRing ℤ
+ℤring = record {
+  add = _+ℤ_;
+  mul = _*ℤ_;
+  neg = negℤ;
+  nil = pos 0;
+  unit = pos 1;
+  add-assoc = +ℤ-assoc;
+  add-comm = +ℤ-comm;
+  add-nil = +ℤ-idr;
+  add-neg = +ℤ-invr;
+  mul-assoc = *ℤ-assoc;
+  mul-comm = *ℤ-comm;
+  mul-unit = *ℤ-unit;
+  mul-add = *ℤ-ldist;
+}
