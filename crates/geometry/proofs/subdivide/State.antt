@@ -38,7 +38,6 @@ unfolding foundOf
 found-some f e = sym (pick-no (eqb (f .any) 0) none (some (f .all)) (ne-eqb (f .any) 0 e))
 
 pub children-few : (o : Outcome) → children o ≤ 2
-unfolding children
 children-few Dropped = omega arith
 children-few (Reported t) = omega arith
 children-few (Restricted n) = omega arith
@@ -58,7 +57,6 @@ module _ (s : Shape) (l m : List Float) (slots h n : ℕ) (r : Ring s l slots h 
   module _ (d : Beside s (ringBase s slots h n) (ringBase s slots h (n + 1)) l m) where
     -- the ring that is left
     ring-after : (o : Outcome) → HandedOn s m (ringBase s slots h n) (ringBase s slots h (n + 1)) o → Ring s m slots h (n + children o)
-    unfolding children
     ring-after Dropped k = rw (add-zero n) (ring-none s l m slots h n r room d)
     ring-after (Reported t) k = rw (add-zero n) (ring-none s l m slots h n r room d)
     ring-after (Restricted i) k = ring-one s l m slots h n r room d (pieceAt s m a) k refl
@@ -72,7 +70,7 @@ module _ (s : Shape) (l m : List Float) (slots h n : ℕ) (r : Ring s l slots h 
     -- and what waits in it
     after-goes : (v : ℕ) (f : Option Scalar) (o : Outcome) → hasBadWeight o ≡ false → HandedOn s m (ringBase s slots h n) (ringBase s slots h (n + 1)) o
         → after (waiting s l slots h n) v f (outcomeOf s m (ringBase s slots h n) (ringBase s slots h (n + 1)) o) ≡ going (left v f o)
-    unfolding after outcomeOf children withReport hasBadWeight
+    unfolding after outcomeOf
     after-goes v f Dropped e k = rw (add-zero n) (ap (λ (q : List Piece). going (record { queue = q; visited = v; found = f })) (sym (push-none s l m slots h n r room d)))
     after-goes v f (Reported t) e k = rw (add-zero n) (ap (λ (q : List Piece). going (record { queue = q; visited = v; found = withReport f (Reported t) })) (sym (push-none s l m slots h n r room d)))
     after-goes v f (Restricted i) e k =
@@ -82,7 +80,7 @@ module _ (s : Shape) (l m : List Float) (slots h n : ℕ) (r : Ring s l slots h 
     after-goes v f BadWeight e k = absurd (no true e tt)
 
     after-fails : (v : ℕ) (f : Option Scalar) (o : Outcome) → hasBadWeight o ≡ true → after (waiting s l slots h n) v f (outcomeOf s m (ringBase s slots h n) (ringBase s slots h (n + 1)) o) ≡ over (Refused 11 v)
-    unfolding after outcomeOf hasBadWeight
+    unfolding after outcomeOf
     after-fails v f BadWeight e = refl
     after-fails v f Dropped e = absurd (yes false e)
     after-fails v f (Reported t) e = absurd (yes false e)
