@@ -40,9 +40,15 @@ greater-requires-4 c κs = search needs
 returns : tie.Need-returns
 unfolding corners ofBits neg
 returns c =
-    let hi = most-of _ _ _ _ _ _ _ _ (c .before .before .before .greater .ensures .0) (c .before .before .greater2 .ensures .0) (c .before .greater3 .ensures .0) (c .greater4 .ensures .0) in
-    let l = c .before .before .before .before in
-    let lo = least-of _ _ _ _ _ _ _ _ (l .before .before .before .lesser .ensures .0) (l .before .before .lesser2 .ensures .0) (l .before .lesser3 .ensures .0) (l .lesser4 .ensures .0) in
+    let at-greater3 = c .before in
+    let at-greater2 = at-greater3 .before in
+    let at-greater = at-greater2 .before in
+    let at-lesser4 = at-greater .before in
+    let at-lesser3 = at-lesser4 .before in
+    let at-lesser2 = at-lesser3 .before in
+    let at-lesser = at-lesser2 .before in
+    let hi = most-of _ _ _ _ _ _ _ _ (at-greater .greater .ensures .0) (at-greater2 .greater2 .ensures .0) (at-greater3 .greater3 .ensures .0) (c .greater4 .ensures .0) in
+    let lo = least-of _ _ _ _ _ _ _ _ (at-lesser .lesser .ensures .0) (at-lesser2 .lesser2 .ensures .0) (at-lesser3 .lesser3 .ensures .0) (at-lesser4 .lesser4 .ensures .0) in
     λ i. record { lo = lo i; hi = hi i }
 
 pub corners-spec : {M : Type 1} → statement M

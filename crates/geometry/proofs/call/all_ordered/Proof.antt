@@ -58,9 +58,10 @@ shared-slice-read-if1-2 c = omega arith
 -- src/call.rt:40:13
 returns : tie.Need-returns Inv-loop μ-loop
 returns c =
-    let l = c .before .before .before .before in
-    let a = l .before .args in
-    all-stop ordered (scalarsOf (a .n) (a .l .now)) (l .loop .i) _ (l .loop .inv .1) absent (omega (arith, length-tab (a .n) (λ j. scalarAt (a .l .now) j))) (ap ordered (getD-tab (a .n) (λ j. scalarAt (a .l .now) j) (l .loop .i) absent (omega arith)) ∙ not-true _ (c .if1 .taken))
+    let at-loop = c .before .before .before .before in
+    let k = at-loop .before in
+    let a = k .args in
+    all-stop ordered (scalarsOf (a .n) (a .l .now)) (at-loop .loop .i) _ (at-loop .loop .inv .1) absent (omega (arith, length-tab (a .n) (λ j. scalarAt (a .l .now) j))) (ap ordered (getD-tab (a .n) (λ j. scalarAt (a .l .now) j) (at-loop .loop .i) absent (omega arith)) ∙ not-true _ (c .if1 .taken))
 
 -- src/call.rt:42:9
 add-i : tie.Need-add-i Inv-loop μ-loop
@@ -73,9 +74,10 @@ loop-less c = omega arith
 -- src/call.rt:38:5
 loop-again : tie.Need-loop-again Inv-loop μ-loop
 loop-again c =
-    let l = c .before .before .before .before in
-    let a = l .before .args in
-    (omega arith, all-keep ordered (scalarsOf (a .n) (a .l .now)) (l .loop .i) _ (l .loop .inv .1) absent (omega (arith, length-tab (a .n) (λ j. scalarAt (a .l .now) j))) (ap ordered (getD-tab (a .n) (λ j. scalarAt (a .l .now) j) (l .loop .i) absent (omega arith)) ∙ not-false _ (c .if1 .left)))
+    let at-loop = c .before .before .before .before in
+    let k = at-loop .before in
+    let a = k .args in
+    (omega arith, all-keep ordered (scalarsOf (a .n) (a .l .now)) (at-loop .loop .i) _ (at-loop .loop .inv .1) absent (omega (arith, length-tab (a .n) (λ j. scalarAt (a .l .now) j))) (ap ordered (getD-tab (a .n) (λ j. scalarAt (a .l .now) j) (at-loop .loop .i) absent (omega arith)) ∙ not-false _ (c .if1 .left)))
 
 -- src/call.rt:33:1
 returns-2 : tie.Need-returns-2 Inv-loop μ-loop

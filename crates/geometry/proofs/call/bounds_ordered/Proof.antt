@@ -38,8 +38,10 @@ all-ordered-requires c κs = search needs
 -- src/call.rt:187:9
 returns : tie.Need-returns
 returns c =
-    let g = c .before .before .before .before .args in
-    and-stop (all ordered (scalarsOf (suc (g .dim) * g .count) (g .points .now))) _ (sym (c .before .all-ordered .ensures ∙ same (g .dim) (g .count) (g .points .now)) ∙ not-true _ (c .if1 .taken))
+    let at-all-ordered = c .before in
+    let k = at-all-ordered .before .before .before in
+    let g = k .args in
+    and-stop (all ordered (scalarsOf (suc (g .dim) * g .count) (g .points .now))) _ (sym (at-all-ordered .all-ordered .ensures ∙ same (g .dim) (g .count) (g .points .now)) ∙ not-true _ (c .if1 .taken))
 
 -- src/call.rt:189:5
 all-ordered-requires-2 : tie.Need-all-ordered-requires-2

@@ -46,9 +46,10 @@ shared-slice-read-if1-2 c = omega arith
 -- src/call.rt:54:13
 returns : tie.Need-returns Inv-loop μ-loop
 returns c =
-    let l = c .before .before .before .before in
-    let a = l .before .args in
-    rising-stop (a .knots .now) (l .loop .i) _ (l .loop .inv .0) (l .loop .inv .1) (omega arith) (not-true _ (c .if1 .taken))
+    let at-loop = c .before .before .before .before in
+    let k = at-loop .before in
+    let a = k .args in
+    rising-stop (a .knots .now) (at-loop .loop .i) _ (at-loop .loop .inv .0) (at-loop .loop .inv .1) (omega arith) (not-true _ (c .if1 .taken))
 
 -- src/call.rt:56:9
 add-i : tie.Need-add-i Inv-loop μ-loop
@@ -61,9 +62,10 @@ loop-less c = omega arith
 -- src/call.rt:52:5
 loop-again : tie.Need-loop-again Inv-loop μ-loop
 loop-again c =
-    let l = c .before .before .before .before in
-    let a = l .before .args in
-    (omega arith, rising-keep (a .knots .now) (l .loop .i) _ (l .loop .inv .0) (l .loop .inv .1) (omega arith) (not-false _ (c .if1 .left)))
+    let at-loop = c .before .before .before .before in
+    let k = at-loop .before in
+    let a = k .args in
+    (omega arith, rising-keep (a .knots .now) (at-loop .loop .i) _ (at-loop .loop .inv .0) (at-loop .loop .inv .1) (omega arith) (not-false _ (c .if1 .left)))
 
 -- src/call.rt:48:1
 returns-2 : tie.Need-returns-2 Inv-loop μ-loop

@@ -18,6 +18,9 @@ Inv-loop xi count dx₀ x0 i₀ dx i = (i ≤ count) × ((length dx ≡ length d
 abbrev μ-loop : tie.MeasureT-loop
 μ-loop xi count dx₀ x0 i₀ dx i = count - i
 
+abbrev from-loop : tie.At-loop Inv-loop μ-loop → tie.Start Inv-loop μ-loop
+from-loop c = c .before .before .before .before
+
 scalar-at-requires : tie.Need-scalar-at-requires Inv-loop μ-loop
 scalar-at-requires c κs = search needs
 
@@ -31,28 +34,36 @@ sub-requires : tie.Need-sub-requires Inv-loop μ-loop
 sub-requires c κs = search needs
 
 mul-dx : tie.Need-mul-dx Inv-loop μ-loop
-mul-dx c = let s = c .before .before .before .before .before .before .before in let l = c .before .before .before in omega (arith, c .before .before .loop-test .taken)
+mul-dx c = let in-loop = c .before .before in let at-loop = in-loop .before in let k = from-loop at-loop in omega (arith, in-loop .loop-test .taken)
 
 mul-dx-2 : tie.Need-mul-dx-2 Inv-loop μ-loop
-mul-dx-2 c = let s = c .before .before .before .before .before .before .before in let l = c .before .before .before in omega (arith, c .before .before .loop-test .taken)
+mul-dx-2 c = let in-loop = c .before .before in let at-loop = in-loop .before in let k = from-loop at-loop in omega (arith, in-loop .loop-test .taken)
 
 slice-write-dx : tie.Need-slice-write-dx Inv-loop μ-loop
-slice-write-dx c = let s = c .before .before .before .before .before .before .before in let l = c .before .before .before in omega (arith, c .before .before .loop-test .taken)
+slice-write-dx c =
+    let in-loop = c .before .before in
+    let at-loop = in-loop .before in
+    let k = from-loop at-loop in
+    omega (arith, in-loop .loop-test .taken)
 
 mul-dx-3 : tie.Need-mul-dx-3 Inv-loop μ-loop
-mul-dx-3 c = let s = c .before .before .before .before .before .before .before in let l = c .before .before .before in omega (arith, c .before .before .loop-test .taken)
+mul-dx-3 c = let in-loop = c .before .before in let at-loop = in-loop .before in let k = from-loop at-loop in omega (arith, in-loop .loop-test .taken)
 
 add-dx : tie.Need-add-dx Inv-loop μ-loop
-add-dx c = let s = c .before .before .before .before .before .before .before in let l = c .before .before .before in omega (arith, c .before .before .loop-test .taken)
+add-dx c = let in-loop = c .before .before in let at-loop = in-loop .before in let k = from-loop at-loop in omega (arith, in-loop .loop-test .taken)
 
 mul-dx-4 : tie.Need-mul-dx-4 Inv-loop μ-loop
-mul-dx-4 c = let s = c .before .before .before .before .before .before .before in let l = c .before .before .before in omega (arith, c .before .before .loop-test .taken)
+mul-dx-4 c = let in-loop = c .before .before in let at-loop = in-loop .before in let k = from-loop at-loop in omega (arith, in-loop .loop-test .taken)
 
 slice-write-dx-2 : tie.Need-slice-write-dx-2 Inv-loop μ-loop
-slice-write-dx-2 c = let s = c .before .before .before .before .before .before .before in let l = c .before .before .before in simp length-set (omega (arith, c .before .before .loop-test .taken))
+slice-write-dx-2 c =
+    let in-loop = c .before .before in
+    let at-loop = in-loop .before in
+    let k = from-loop at-loop in
+    simp length-set (omega (arith, in-loop .loop-test .taken))
 
 add-i : tie.Need-add-i Inv-loop μ-loop
-add-i c = let s = c .before .before .before .before .before .before .before in let l = c .before .before .before in omega (arith, c .before .before .loop-test .taken)
+add-i c = let in-loop = c .before .before in let at-loop = in-loop .before in let k = from-loop at-loop in omega (arith, in-loop .loop-test .taken)
 
 loop-less : tie.Need-loop-less Inv-loop μ-loop
 loop-less c = search needs
@@ -74,10 +85,10 @@ same-length c = search needs
 
 returns : tie.Need-returns Inv-loop μ-loop
 returns c =
-    let l = c .before in
-    let s = l .before .before .before .before in
-    let a = s .args in
-    runs-done (a .xi .now) (a .dx .now) (l .loop .dx) (a .count) (l .loop .i) (s .pre .0) (omega arith) (l .loop .inv .1 .1)
+    let at-loop = c .before in
+    let k = from-loop at-loop in
+    let a = k .args in
+    runs-done (a .xi .now) (a .dx .now) (at-loop .loop .dx) (a .count) (at-loop .loop .i) (k .pre .0) (omega arith) (at-loop .loop .inv .1 .1)
 
 pub from-first-spec : {M : Type 1} → statement M
 from-first-spec =
