@@ -6,8 +6,6 @@ use mathlib.Core.Path.{sym, _∙_}
 use native.Mathlib.Omega.{arith}
 use Rattle.geometry.proofs.call.knots_valid.Statement.{statement}
 use Rattle.geometry.proofs.call.knots_valid.Tie as tie
-use Rattle.geometry.proofs.call.knots_valid.Reads as reads
-use Rattle.geometry.proofs.call.knots_valid.Lts as lts
 use Rattle.geometry.proofs.call.multiplicities_ok.Reads as multiplicities-ok-reads
 use Rattle.geometry.proofs.call.rising.Reads as rising-reads
 
@@ -16,27 +14,21 @@ use Rattle.geometry.proofs.call.rising.Reads as rising-reads
 abbrev from-rising : tie.After-rising → tie.Start
 from-rising c = c .before .before .before .before
 
--- src/call.rt:135:13
 mul-a : tie.Need-mul-a
 mul-a c = search needs
 
--- src/call.rt:135:13
 shared-slice-read-a : tie.Need-shared-slice-read-a
 shared-slice-read-a c = search needs
 
--- src/call.rt:136:13
 mul-b : tie.Need-mul-b
 mul-b c = search needs
 
--- src/call.rt:136:13
 shared-slice-read-b : tie.Need-shared-slice-read-b
 shared-slice-read-b c = search needs
 
--- src/call.rt:137:9
 rising-requires : tie.Need-rising-requires
 rising-requires c κs = search needs
 
--- src/call.rt:138:9
 returns : tie.Need-returns
 returns c =
     let at-rising = c .before in
@@ -44,20 +36,17 @@ returns c =
     let g = k .args in
     knots-fall (g .degree) (g .count) (g .knots .now) (sym (at-rising .rising .ensures) ∙ not-true _ (c .if1 .taken))
 
--- src/call.rt:141:9
 returns-2 : tie.Need-returns-2
 returns-2 c =
     let k = from-rising (c .before .before) in
     let g = k .args in
     domain-empty (g .degree) (g .count) (g .knots .now) (not-true _ (c .if2 .taken))
 
--- src/call.rt:143:5
 multiplicities-ok-requires : tie.Need-multiplicities-ok-requires
 multiplicities-ok-requires c κs =
     let k = c .before .before in
     (omega arith, sym (k .rising .ensures) ∙ not-false _ (c .before .if1 .left))
 
--- src/call.rt:131:1
 returns-3 : tie.Need-returns-3
 returns-3 c =
     let passed2 = c .before in
