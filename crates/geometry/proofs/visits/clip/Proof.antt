@@ -8,8 +8,8 @@ use Rattle.math.specs.Scalars.{geop, unionS}
 use Rattle.model.specs.Layout.{scalarsOf, pointsOf}
 use Rattle.model.specs.NurbCurve.{domain}
 use Rattle.model.specs.Contains.{clip}
-use Rattle.geometry.specs.Zeros.{runs}
-use Rattle.geometry.proofs.fat_line.Zeros.{runs-held, runs-kept}
+use Rattle.geometry.specs.Zeros.{fromFirst}
+use Rattle.geometry.proofs.fat_line.Zeros.{from-first-held, from-first-kept}
 use Rattle.geometry.proofs.visits.Clips.{axis-kept, left, left-none, left-next, left-done}
 use borrow.Author.Needs.{needs}
 use Rattle.geometry.proofs.visits.clip.Statement.{statement}
@@ -20,7 +20,7 @@ Inv-loop xi points point-box dim count start end dx d₀ hat₀ k₀ d hat k =
     (k ≤ dim)
     × (length d ≡ 64)
     × (length dx ≡ 64)
-    × (scalarsOf count dx ≡ runs (scalarsOf count xi))
+    × (scalarsOf count dx ≡ fromFirst (scalarsOf count xi))
     × (left dim (pointsOf (suc dim) count points) (scalarsOf count xi) point-box hat k ≡ clip geop dim (pointsOf (suc dim) count points) (scalarsOf count xi) (domain start end) 0 (scalarsOf dim point-box))
 
 abbrev μ-loop : tie.MeasureT-loop
@@ -32,8 +32,8 @@ from-loop c = c .before .before .before .before .before .before .before .before 
 abbrev to-scalar-at : tie.After-clip-axis Inv-loop μ-loop → tie.After-scalar-at Inv-loop μ-loop
 to-scalar-at c = c .before .before .before
 
-slice-aggregate-runs : tie.Need-slice-aggregate-from-first Inv-loop μ-loop
-slice-aggregate-runs c = search needs
+slice-aggregate-from-first : tie.Need-slice-aggregate-from-first Inv-loop μ-loop
+slice-aggregate-from-first c = search needs
 
 from-first-requires : tie.Need-from-first-requires Inv-loop μ-loop
 from-first-requires c κs = search needs
@@ -57,8 +57,8 @@ loop-holds c =
     let a = k .args in
     let n = length-replicate 64 (ofBits binary64 0) in
     let p = k .pre in
-    let kept = runs-kept (a .xi .now) _ _ (a .count) (p .0 .0) (omega (arith, n, p .0 .1)) (at-from-first .from-first .ensures) in
-    let held = runs-held (a .xi .now) _ _ (a .count) (p .0 .0) (at-from-first .from-first .ensures) in
+    let kept = from-first-kept (a .xi .now) _ _ (a .count) (p .0 .0) (omega (arith, n, p .0 .1)) (at-from-first .from-first .ensures) in
+    let held = from-first-held (a .xi .now) _ _ (a .count) (p .0 .0) (at-from-first .from-first .ensures) in
     (omega arith, n, kept ∙ n, held, ap (λ hat. left (a .dim) (pointsOf (suc (a .dim)) (a .count) (a .points .now)) (scalarsOf (a .count) (a .xi .now)) (a .point-box .now) hat 0) (c .union .ensures ∙ (λ i. unionS (at-from-f64 .from-f64 .ensures i) (at-from-f642 .from-f642 .ensures i))))
 
 scalar-at-requires : tie.Need-scalar-at-requires Inv-loop μ-loop
@@ -131,7 +131,7 @@ clip-spec =
     (tie.spec
     Inv-loop
     μ-loop
-    slice-aggregate-runs
+    slice-aggregate-from-first
     from-first-requires
     from-f64-requires
     from-f64-requires-2
