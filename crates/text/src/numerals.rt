@@ -1,5 +1,5 @@
 // Numbers in a text: small ones in decimal, doubles as the hexadecimal digits of their bits.
-use crate::places::Small;
+use crate::cursor::Small;
 ghost use mathlib.Core.Path.{_≡_};
 ghost use mathlib.Core.Bool.{true, _&&_};
 ghost use Prim.Native.Nat.{_+_, _≤_};
@@ -7,7 +7,7 @@ ghost use lib.ListN.{length, drop};
 ghost use lib.Dec.{leb};
 ghost use Rattle.lists.specs.Lists.{part, all};
 ghost use Rattle.text.specs.Numerals.{isDigit, isSmall, isHex, digits, decimalOf, small, nibble, hexOf, doubleOf};
-ghost use Rattle.text.specs.Places.{SmallRead};
+ghost use Rattle.text.specs.Cursor.{SmallRead};
 
 // The byte is from low to high.
 fn between(b: u8, low: u8, high: u8) -> bool

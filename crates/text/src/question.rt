@@ -1,10 +1,10 @@
 // The lines of a question.
+use crate::cursor::Head;
+use crate::cursor::Place;
+use crate::cursor::Small;
 use crate::numerals::double;
 use crate::numerals::is_double;
 use crate::numerals::small;
-use crate::places::Head;
-use crate::places::Place;
-use crate::places::Small;
 ghost use mathlib.Core.Path.{_≡_};
 ghost use mathlib.Core.Bool.{_&&_, _||_};
 ghost use mathlib.Core.List.{[], _∷_};
@@ -13,7 +13,7 @@ ghost use lib.ListN.{length, drop};
 ghost use lib.Dec.{leb, eqb};
 ghost use Rattle.text.specs.Bytes.{word};
 ghost use Rattle.text.specs.Question.{behind, smallLine, values, line, lines, sizes, sizesRefused, numbers};
-ghost use Rattle.text.specs.Places.{WordRead, SmallRead, HeadRead, ValueRead, ValuesRead, LimitsRead, ShapeRead, NumbersRead};
+ghost use Rattle.text.specs.Cursor.{WordRead, SmallRead, HeadRead, ValueRead, ValuesRead, LimitsRead, ShapeRead, NumbersRead};
 
 // The word w from `at` on.
 fn word(text: &[u8], at: usize, w: &[u8]) -> Place

@@ -4,7 +4,7 @@ use Prim.Native.Nat.{ℕ, _-_, _^_, _≤_, _<_}
 use native.Mathlib.Omega.{arith}
 use Rattle.lists.specs.Lists.{part}
 use Rattle.text.specs.Numerals.{decimalOf}
-use Rattle.text.proofs.Digits.{digit-low, digit-high, decimal-none, decimal-turn, decimal-below, power-ten}
+use Rattle.text.proofs.numerals.Decimal.{digit-low, digit-high, decimal-none, decimal-turn, decimal-below, power-ten}
 use Rattle.text.proofs.numerals.decimal_of.Statement.{statement}
 use Rattle.text.proofs.numerals.decimal_of.Tie as tie
 

@@ -5,7 +5,7 @@ use native.Mathlib.Omega.{arith}
 use lib.ListN.{length, drop}
 use borrow.Author.Tests.{not-true, not-false}
 use Rattle.text.specs.Numerals.{digits}
-use Rattle.text.proofs.Digits.{digits-turn, digits-stop, digits-done, digits-known}
+use Rattle.text.proofs.numerals.Decimal.{digits-turn, digits-stop, digits-done, digits-known}
 use Rattle.text.proofs.numerals.digits.Statement.{statement}
 use Rattle.text.proofs.numerals.digits.Tie as tie
 

@@ -4,7 +4,7 @@ use Prim.Native.Nat.{ℕ, _-_, _^_, _≤_, _<_}
 use native.Mathlib.Omega.{arith}
 use Rattle.lists.specs.Lists.{part}
 use Rattle.text.specs.Numerals.{hexOf}
-use Rattle.text.proofs.Digits.{hex-known, hex-none, hex-turn, hex-below, power-fifteen}
+use Rattle.text.proofs.numerals.Hexadecimal.{hex-known, hex-none, hex-turn, hex-below, power-fifteen}
 use Rattle.text.proofs.numerals.hex_of.Statement.{statement}
 use Rattle.text.proofs.numerals.hex_of.Tie as tie
 

@@ -7,7 +7,7 @@ use lib.ListN.{length, drop}
 use Rattle.lists.specs.Lists.{part, all}
 use Rattle.math.proofs.Bools.{yes}
 use Rattle.text.specs.Numerals.{isHex}
-use Rattle.text.proofs.Digits.{double-short, walk-stop, walk-keep, walk-end}
+use Rattle.text.proofs.numerals.Hexadecimal.{double-short, walk-stop, walk-keep, walk-end}
 use Rattle.text.proofs.numerals.is_double.Statement.{statement}
 use Rattle.text.proofs.numerals.is_double.Tie as tie
 

@@ -1,7 +1,8 @@
 -- `nibble` equals its definition.
 use mathlib.Core.Path.{sym, _∙_}
 use native.Mathlib.Omega.{arith}
-use Rattle.text.proofs.Digits.{low-of, nibble-digit, nibble-lower, nibble-upper, nibble-none}
+use Rattle.text.proofs.numerals.Decimal.{low-of}
+use Rattle.text.proofs.numerals.Hexadecimal.{nibble-digit, nibble-lower, nibble-upper, nibble-none}
 use Rattle.text.proofs.numerals.nibble.Statement.{statement}
 use Rattle.text.proofs.numerals.nibble.Tie as tie
 

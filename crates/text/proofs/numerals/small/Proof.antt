@@ -3,7 +3,7 @@ use mathlib.Core.Path.{sym, _∙_}
 use native.Mathlib.Omega.{arith}
 use borrow.Author.Tests.{not-true, not-false}
 use lib.ListN.{drop}
-use Rattle.text.proofs.Digits.{small-nine, small-bad, small-got}
+use Rattle.text.proofs.numerals.Decimal.{small-nine, small-bad, small-got}
 use Rattle.text.proofs.numerals.small.Statement.{statement}
 use Rattle.text.proofs.numerals.small.Tie as tie
 

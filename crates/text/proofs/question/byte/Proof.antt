@@ -1,6 +1,6 @@
 -- `byte` reads one byte: it is missing, it is another, or it is there.
 use native.Mathlib.Omega.{arith}
-use Rattle.text.proofs.Lines.{byte-none, byte-off, byte-there}
+use Rattle.text.proofs.question.Words.{byte-none, byte-off, byte-there}
 use borrow.Author.Needs.{needs}
 use Rattle.text.proofs.question.byte.Statement.{statement}
 use Rattle.text.proofs.question.byte.Tie as tie

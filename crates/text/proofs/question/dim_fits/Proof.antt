@@ -1,5 +1,5 @@
 -- `dim_fits` equals its definition.
-use Rattle.text.proofs.Lines.{or-yes, or-no}
+use Rattle.text.proofs.question.Heads.{or-yes, or-no}
 use borrow.Author.Tests.{eq-eqb, ne-eqb}
 use Rattle.text.proofs.question.dim_fits.Statement.{statement}
 use Rattle.text.proofs.question.dim_fits.Tie as tie

@@ -1,5 +1,6 @@
 -- `limits` reads the nodes and the resolution.
-use Rattle.text.proofs.Lines.{small-some, limits-none, limits-one, limits-two}
+use Rattle.text.proofs.question.Words.{small-some}
+use Rattle.text.proofs.question.Others.{limits-none, limits-one, limits-two}
 use Rattle.text.specs.Bytes.{bytes}
 use borrow.Author.Needs.{needs}
 use Rattle.text.proofs.question.limits.Statement.{statement}

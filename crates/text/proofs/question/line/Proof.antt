@@ -1,5 +1,6 @@
 -- `line` reads a key and the doubles behind it.
-use Rattle.text.proofs.Lines.{word-some, line-keyless, line-rest}
+use Rattle.text.proofs.question.Words.{word-some}
+use Rattle.text.proofs.question.Doubles.{line-keyless, line-rest}
 use borrow.Author.Needs.{needs}
 use Rattle.text.proofs.question.line.Statement.{statement}
 use Rattle.text.proofs.question.line.Tie as tie

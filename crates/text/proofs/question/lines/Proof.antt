@@ -4,7 +4,7 @@ use Prim.Native.Nat.{_*_, _-_, _≤_}
 use native.Mathlib.Omega.{arith}
 use lib.ListN.{length, drop}
 use Rattle.text.specs.Question.{lines}
-use Rattle.text.proofs.Lines.{Taken, row-in, lines-begin, lines-stop, lines-turn, lines-end}
+use Rattle.text.proofs.question.Doubles.{Taken, row-in, lines-begin, lines-stop, lines-turn, lines-end}
 use borrow.Author.Needs.{needs}
 use Rattle.text.proofs.question.lines.Statement.{statement}
 use Rattle.text.proofs.question.lines.Tie as tie

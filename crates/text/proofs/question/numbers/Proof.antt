@@ -1,6 +1,6 @@
 -- `numbers` reads the limits and the shape, and writes their doubles one behind the other.
 use native.Mathlib.Omega.{arith}
-use Rattle.text.proofs.Lines.{limits-in, numbers-none, numbers-one, numbers-two}
+use Rattle.text.proofs.question.Others.{limits-in, numbers-none, numbers-one, numbers-two}
 use borrow.Author.Needs.{needs}
 use Rattle.text.proofs.question.numbers.Statement.{statement}
 use Rattle.text.proofs.question.numbers.Tie as tie

@@ -1,7 +1,8 @@
 -- `shape` reads the knots, the points and the box, and writes them one behind the other.
 use Prim.Native.Nat.{_+_, _*_}
 use native.Mathlib.Omega.{arith}
-use Rattle.text.proofs.Lines.{values-some, few, shape-none, shape-one, shape-two}
+use Rattle.text.proofs.question.Doubles.{values-some}
+use Rattle.text.proofs.question.Others.{few, shape-none, shape-one, shape-two}
 use Rattle.text.specs.Bytes.{bytes}
 use borrow.Author.Needs.{needs}
 use Rattle.text.proofs.question.shape.Statement.{statement}

@@ -1,5 +1,6 @@
 -- `sizes` reads the three lines, one behind the other.
-use Rattle.text.proofs.Lines.{small-some, sizes-none, sizes-one, sizes-two, sizes-three}
+use Rattle.text.proofs.question.Words.{small-some}
+use Rattle.text.proofs.question.Heads.{sizes-none, sizes-one, sizes-two, sizes-three}
 use Rattle.text.specs.Bytes.{bytes}
 use borrow.Author.Needs.{needs}
 use Rattle.text.proofs.question.sizes.Statement.{statement}

@@ -1,7 +1,7 @@
 -- `sizes_refused` equals its definition, by its three tests in order.
 use borrow.Author.Needs.{needs}
 use borrow.Author.Tests.{not-true, not-false, le-leb, lt-leb}
-use Rattle.text.proofs.Lines.{refused-dim, refused-degree, refused-count, refused-not}
+use Rattle.text.proofs.question.Heads.{refused-dim, refused-degree, refused-count, refused-not}
 use Rattle.text.proofs.question.sizes_refused.Statement.{statement}
 use Rattle.text.proofs.question.sizes_refused.Tie as tie
 

@@ -1,5 +1,5 @@
 -- `small_line` reads a key, a small number and the end of the line.
-use Rattle.text.proofs.Lines.{word-some, small-some, small-line-keyless, small-line-none, small-line-endless, small-line-whole}
+use Rattle.text.proofs.question.Words.{word-some, small-some, small-line-keyless, small-line-none, small-line-endless, small-line-whole}
 use borrow.Author.Needs.{needs}
 use Rattle.text.proofs.question.small_line.Statement.{statement}
 use Rattle.text.proofs.question.small_line.Tie as tie

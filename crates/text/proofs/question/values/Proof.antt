@@ -4,7 +4,7 @@ use Prim.Native.Nat.{_-_, _≤_}
 use native.Mathlib.Omega.{arith}
 use lib.ListN.{length, drop, length-set}
 use Rattle.text.specs.Question.{values}
-use Rattle.text.proofs.Lines.{value-found, Taken, values-begin, values-stop, values-turn, values-end}
+use Rattle.text.proofs.question.Doubles.{value-found, Taken, values-begin, values-stop, values-turn, values-end}
 use borrow.Author.Needs.{needs}
 use Rattle.text.proofs.question.values.Statement.{statement}
 use Rattle.text.proofs.question.values.Tie as tie

@@ -4,7 +4,7 @@ use Prim.Native.Nat.{_+_, _-_, _≤_}
 use native.Mathlib.Omega.{arith}
 use lib.ListN.{length, drop, length-drop}
 use Rattle.text.specs.Bytes.{word}
-use Rattle.text.proofs.Lines.{word-short, word-begins, word-turn, word-off, word-done}
+use Rattle.text.proofs.question.Words.{word-short, word-begins, word-turn, word-off, word-done}
 use Rattle.text.proofs.question.word.Statement.{statement}
 use Rattle.text.proofs.question.word.Tie as tie
 

@@ -1,0 +1,224 @@
+-- Laws of reading doubles: one, a line of them, and several lines; one turn of each loop.
+use mathlib.Core.Path.{_≡_, refl, sym, ap, _∙_, subst}
+use mathlib.Core.Bool.{Bool, true, false, _&&_}
+use mathlib.Core.List.{List, [], _∷_, _++_, append-assoc, append-nil}
+use Prim.Native.Nat.{ℕ, zero, suc, _+_, _-_, _*_, _≤_, _<_}
+use native.Mathlib.Nat.{mul-zero, mul-suc, mul-le-mul-left}
+use native.Mathlib.Numerals.{add-one}
+use native.Mathlib.Omega.{arith}
+use lib.ListN.{length, drop, set, length-append}
+use lib.Seq.{drop-drop}
+use lib.Dec.{leb}
+use lib.Ieee.{Float}
+use Rattle.lists.specs.Lists.{all, part, put}
+use Rattle.lists.proofs.Put.{put-nil, put-put, put-one, length-put}
+use Rattle.text.specs.Bytes.{Read, bad, got, then, word}
+use Rattle.text.specs.Numerals.{isHex, hexOf, doubleOf, double}
+use Rattle.text.specs.Question.{behind, values, line, lines}
+use Rattle.text.specs.Cursor.{WordRead, ValueRead, ValuesRead}
+use Rattle.text.specs.declared.cursor.Place.{Place}
+use Rattle.text.specs.declared.cursor.Place.the-variants.{Bad, At}
+use Rattle.text.proofs.question.Words.{then-bad, then-got, word-none, word-some}
+
+-- ---- doubles
+
+pub behind-more : (n : ℕ) → (n ≡ 0 → ⊥) → 32 ≡ behind n
+behind-more zero h = absurd (h refl)
+behind-more (suc n) h = refl
+
+both : (a b : Bool) → a && b ≡ true → (a ≡ true) × (b ≡ true)
+both true b e = (refl, e)
+both false b e = absurd (never e)
+  where
+    never : false ≡ true → ⊥
+    never q = let z : _≡_ {A = ℕ} 0 1 = cc in omega arith
+
+module _ (text : List ℕ) (at b : ℕ) (r : Bool) (d : r ≡ (leb 16 (length (drop at text)) && all isHex (part text at 16))) where
+  -- there is no double
+  pub value-none : r ≡ false → then (double (drop at text)) (λ x rest. word (b ∷ []) rest) ≡ bad
+  unfolding double
+  value-none e = then-bad _ _ (rw (sym d ∙ e))
+
+  reads : r ≡ true → double (drop at text) ≡ got (doubleOf (hexOf (part text at 16))) (drop (at + 16) text)
+  unfolding double
+  reads e = rw (sym d ∙ e, drop-drop 16 at text)
+
+  -- there is one, and the byte b behind it or not
+  pub value-is : r ≡ true → at + 16 ≤ length text → (q : Place) → WordRead text (word (b ∷ []) (drop (at + 16) text)) q → ValueRead text at b q
+  value-is e h Bad w = then-got (double (drop at text)) _ _ _ (reads e) ∙ w
+  value-is e h (At i) w = (w .0, h, both (leb 16 (length (drop at text))) (all isHex (part text at 16)) (sym d ∙ e) .1, reads e, w .1)
+
+pub value-stops : (text : List ℕ) (at b : ℕ) (r : Place) → ValueRead text at b r → r ≡ Bad → then (double (drop at text)) (λ x rest. word (b ∷ []) rest) ≡ bad
+value-stops text at b r h e = subst (λ (q : Place). ValueRead text at b q) e h
+
+pub value-found : (text : List ℕ) (at b : ℕ) (r : Place) (i : ℕ) → ValueRead text at b r → r ≡ At i → ValueRead text at b (At i)
+value-found text at b r i h e = subst (λ (q : Place). ValueRead text at b q) e h
+
+-- Some doubles, and what is read behind them.
+pub prepend : List Float → Read (List Float) → Read (List Float)
+prepend xs r = then r (λ ys rest. got (xs ++ ys) rest)
+
+prepend-nil : (r : Read (List Float)) → r ≡ prepend [] r
+unfolding prepend then
+prepend-nil bad = refl
+prepend-nil (got ys t) = refl
+
+prepend-bad : (xs : List Float) → prepend xs bad ≡ bad
+unfolding prepend then
+prepend-bad xs = refl
+
+prepend-end : (xs : List Float) (t : List ℕ) → prepend xs (got [] t) ≡ got xs t
+unfolding prepend then
+prepend-end xs t = rw (append-nil xs)
+
+prepend-more : (xs ys : List Float) (r : Read (List Float)) → prepend xs (prepend ys r) ≡ prepend (xs ++ ys) r
+unfolding prepend then
+prepend-more xs ys bad = refl
+prepend-more xs ys (got zs t) = rw (append-assoc xs ys zs)
+
+-- Of what is read as `whole`, the first i doubles were written to the memory l from `to` on, which became m; the others are read as `left`.
+pub record Taken (whole left : Read (List Float)) (i to : ℕ) (l m : List Float) : Type 0 where
+  pub xs : List Float
+  pub long : length xs ≡ i
+  pub wrote : m ≡ put l to xs
+  pub told : whole ≡ prepend xs left
+
+module _ (whole : Read (List Float)) (to : ℕ) (l : List Float) where
+  -- nothing was taken yet
+  pub taken-none : (left : Read (List Float)) → whole ≡ left → Taken whole left 0 to l l
+  taken-none left e = record { xs = []; long = refl; wrote = sym (put-nil l to); told = e ∙ prepend-nil left }
+
+  -- what is left cannot be read
+  pub taken-bad : (left : Read (List Float)) (i : ℕ) (m : List Float) → Taken whole left i to l m → left ≡ bad → whole ≡ bad
+  taken-bad left i m k e = k .told ∙ ap (prepend (k .xs)) e ∙ prepend-bad (k .xs)
+
+  -- nothing is left
+  pub taken-all : (left : Read (List Float)) (i n : ℕ) (m : List Float) (text : List ℕ) (p : ℕ) → Taken whole left i to l m → left ≡ got [] (drop p text) → i ≡ n → p ≤ length text
+      → ValuesRead text whole n to l m (At p)
+  taken-all left i n m text p k e f h = (h, k .xs, k .told ∙ ap (prepend (k .xs)) e ∙ prepend-end (k .xs) (drop p text), k .long ∙ f, k .wrote)
+
+  -- some more are taken
+  pub taken-more : (left rest : Read (List Float)) (i j at : ℕ) (m : List Float) (ys : List Float) → Taken whole left i to l m → left ≡ prepend ys rest → i + length ys ≡ j → at ≡ to + i → to + j ≤ length l
+      → Taken whole rest j to l (put m at ys)
+  taken-more left rest i j at m ys k e f g h =
+      let q : at ≡ to + length (k .xs) = omega (arith, k .long) in
+      record {
+        xs = k .xs ++ ys;
+        long = length-append (k .xs) ys ∙ ap (λ (n : ℕ). n + length ys) (k .long) ∙ f;
+        wrote = (λ a. put (k .wrote a) (q a) ys) ∙ put-put l to (k .xs) ys (omega (arith, k .long));
+        told = k .told ∙ ap (prepend (k .xs)) e ∙ prepend-more (k .xs) ys rest;
+      }
+
+-- where a value cannot be read, neither can the values
+stuck : (d : Read Float) (b : ℕ) (f : Float → Unit {0} → List ℕ → Read (List Float)) → then d (λ x rest. word (b ∷ []) rest) ≡ bad → then d (λ x a. then (word (b ∷ []) a) (f x)) ≡ bad
+unfolding then
+stuck bad b f e = refl
+stuck (got x t) b f e = ap (λ (q : Read (Unit {0})). then q (f x)) e
+
+values-stuck : (n m : ℕ) (t : List ℕ) (b : ℕ) → n ≡ suc m → b ≡ behind m → then (double t) (λ x rest. word (b ∷ []) rest) ≡ bad → values n t ≡ bad
+unfolding values
+values-stuck n m t b e f h = rw (e, ← f) (stuck (double t) b _ h)
+
+values-one : (n m : ℕ) (t a c : List ℕ) (b : ℕ) (x : Float) → n ≡ suc m → b ≡ behind m → double t ≡ got x a → word (b ∷ []) a ≡ got tt c → values n t ≡ prepend (x ∷ []) (values m c)
+unfolding values prepend
+values-one n m t a c b x e f d w = rw (e, ← f) (then-got (double t) _ x a d ∙ then-got (word (b ∷ []) a) _ tt c w)
+
+module _ (text : List ℕ) (n at to : ℕ) (l : List Float) where
+  -- before the first value
+  pub values-begin : Taken (values n (drop at text)) (values (n - 0) (drop at text)) 0 to l l
+  values-begin = let z : n ≡ n - 0 = omega arith in taken-none (values n (drop at text)) to l (values (n - 0) (drop at text)) (ap (λ (q : ℕ). values q (drop at text)) z)
+
+  module _ (i k b : ℕ) (m : List Float) (r : Place) (less : i < n) (sep : b ≡ behind (n - i - 1)) (read : ValueRead text k b r) (so : Taken (values n (drop at text)) (values (n - i) (drop k text)) i to l m) where
+    next : n - i ≡ suc (n - i - 1)
+    next = omega arith
+
+    -- a value that cannot be read
+    pub values-stop : r ≡ Bad → values n (drop at text) ≡ bad
+    values-stop e = taken-bad (values n (drop at text)) to l _ i m so (values-stuck (n - i) (n - i - 1) (drop k text) b next sep (value-stops text k b r read e))
+
+    -- one value
+    pub values-turn : (j : ℕ) (x : Float) → r ≡ At j → x ≡ doubleOf (hexOf (part text k 16)) → to + n ≤ length l → Taken (values n (drop at text)) (values (n - (i + 1)) (drop j text)) (i + 1) to l (set m (to + i) x)
+    values-turn j x e f h =
+        let v = value-found text k b r j read e in
+        let s : n - i - 1 ≡ n - (i + 1) = omega arith in
+        let w : length m ≡ length l = rw (so .wrote) (length-put l to (so .xs) (omega (arith, so .long))) in
+        let o : values (n - i) (drop k text) ≡ prepend (x ∷ []) (values (n - (i + 1)) (drop j text)) = rw (f, ← s) (values-one (n - i) (n - i - 1) (drop k text) (drop (k + 16) text) (drop j text) b _ next sep (v .3) (v .4)) in
+        rw (put-one m (to + i) x (omega arith)) (taken-more (values n (drop at text)) to l _ _ i (i + 1) (to + i) m (x ∷ []) so o refl refl (omega arith))
+
+  -- behind the last value
+  pub values-end : (i k : ℕ) (m : List Float) → n ≤ i → i ≤ n → k ≤ length text → Taken (values n (drop at text)) (values (n - i) (drop k text)) i to l m → ValuesRead text (values n (drop at text)) n to l m (At k)
+  unfolding values
+  values-end i k m g h p so =
+      let z : n - i ≡ 0 = omega arith in
+      taken-all (values n (drop at text)) to l _ i n m text k so (ap (λ (q : ℕ). values q (drop k text)) z) (omega arith) p
+
+pub values-none : (text : List ℕ) (spec : Read (List Float)) (n to : ℕ) (l m : List Float) (r : Place) → ValuesRead text spec n to l m r → r ≡ Bad → spec ≡ bad
+values-none text spec n to l m r h e = subst (λ (q : Place). ValuesRead text spec n to l m q) e h
+
+pub values-some : (text : List ℕ) (spec : Read (List Float)) (n to : ℕ) (l m : List Float) (r : Place) (i : ℕ) → ValuesRead text spec n to l m r → r ≡ At i → ValuesRead text spec n to l m (At i)
+values-some text spec n to l m r i h e = subst (λ (q : Place). ValuesRead text spec n to l m q) e h
+
+-- ---- lines of doubles
+
+module _ (text key t : List ℕ) (n : ℕ) (r : Place) (w : WordRead text (word key t) r) where
+  -- the key is missing
+  pub line-keyless : r ≡ Bad → line key n t ≡ bad
+  unfolding line
+  line-keyless e = then-bad (word key t) _ (word-none text (word key t) r w e)
+
+  line-is : (i : ℕ) → r ≡ At i → line key n t ≡ values n (drop i text)
+  unfolding line
+  line-is i e = then-got (word key t) _ tt (drop i text) (word-some text (word key t) r i w e .1)
+
+  -- the values behind the key
+  pub line-rest : (i : ℕ) → r ≡ At i → (to : ℕ) (l m : List Float) (q : Place) → ValuesRead text (values n (drop i text)) n to l m q → ValuesRead text (line key n t) n to l m q
+  line-rest i e to l m q h = subst (λ (spec : Read (List Float)). ValuesRead text spec n to l m q) (sym (line-is i e)) h
+
+lines-stuck : (key : List ℕ) (n k m : ℕ) (t : List ℕ) → k ≡ suc m → line key n t ≡ bad → lines key n k t ≡ bad
+unfolding lines
+lines-stuck key n k m t e h = rw e (then-bad (line key n t) _ h)
+
+lines-one : (key : List ℕ) (n k m : ℕ) (t a : List ℕ) (ys : List Float) → k ≡ suc m → line key n t ≡ got ys a → lines key n k t ≡ prepend ys (lines key n m a)
+unfolding lines prepend
+lines-one key n k m t a ys e h = rw e (then-got (line key n t) _ ys a h)
+
+-- one more row of n is within k of them
+pub row-in : (n i k : ℕ) → i < k → n * i + n ≤ n * k
+row-in n i k h = rw (← mul-suc n i) (mul-le-mul-left n h)
+
+module _ (text key : List ℕ) (n k at to : ℕ) (l : List Float) where
+  -- before the first line
+  pub lines-begin : Taken (lines key n k (drop at text)) (lines key n (k - 0) (drop at text)) (n * 0) to l l
+  lines-begin =
+      let z : k ≡ k - 0 = omega arith in
+      rw (mul-zero n) (taken-none (lines key n k (drop at text)) to l (lines key n (k - 0) (drop at text)) (ap (λ (q : ℕ). lines key n q (drop at text)) z))
+
+  module _ (i p : ℕ) (m w : List Float) (r : Place) (less : i < k) (read : ValuesRead text (line key n (drop p text)) n (to + n * i) m w r)
+      (so : Taken (lines key n k (drop at text)) (lines key n (k - i) (drop p text)) (n * i) to l m) where
+    left : k - i ≡ suc (k - (i + 1))
+    left = omega arith
+
+    -- a line that cannot be read
+    pub lines-stop : r ≡ Bad → lines key n k (drop at text) ≡ bad
+    lines-stop e =
+        taken-bad (lines key n k (drop at text)) to l _ (n * i) m so (lines-stuck key n (k - i) (k - (i + 1)) (drop p text) left (values-none text _ n (to + n * i) m w r read e))
+
+    -- one line
+    pub lines-turn : (j : ℕ) → r ≡ At j → to + n * k ≤ length l → (j ≤ length text) × Taken (lines key n k (drop at text)) (lines key n (k - (i + 1)) (drop j text)) (n * (i + 1)) to l w
+    lines-turn j e h =
+        let v = values-some text _ n (to + n * i) m w r j read e in
+        let f : n * i + length (v .1) ≡ n * (i + 1) = rw (v .3, add-one i, mul-suc n i) in
+        let g : n * (i + 1) ≤ n * k = rw (add-one i) (mul-le-mul-left n less) in (
+          v .0,
+          rw (v .4)
+              (taken-more (lines key n k (drop at text)) to l _ _ (n * i) (n * (i + 1)) (to + n * i) m (v .1) so (lines-one key n (k - i) (k - (i + 1)) (drop p text) (drop j text) (v .1) left (v .2)) f refl (omega arith)),
+        )
+
+  -- behind the last line
+  pub lines-end : (i p : ℕ) (m : List Float) → k ≤ i → i ≤ k → p ≤ length text → Taken (lines key n k (drop at text)) (lines key n (k - i) (drop p text)) (n * i) to l m
+      → ValuesRead text (lines key n k (drop at text)) (n * k) to l m (At p)
+  unfolding lines
+  lines-end i p m g h q so =
+      let z : k - i ≡ 0 = omega arith in
+      let y : i ≡ k = omega arith in
+      taken-all (lines key n k (drop at text)) to l _ (n * i) (n * k) m text p so (ap (λ (q : ℕ). lines key n q (drop p text)) z) (ap (λ (q : ℕ). n * q) y) q
