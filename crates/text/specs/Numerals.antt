@@ -8,6 +8,10 @@ use lib.Ieee.{Float, nan, binary64, nanBits, ofBits, toBits}
 use Rattle.lists.specs.Lists.{all, foldl}
 use Rattle.text.specs.Bytes.{Read, bad, got}
 
+-- The number that some digits are in a base, where `value` is what one digit counts.
+unfoldable pub inBase : ℕ → (ℕ → ℕ) → List ℕ → ℕ
+inBase base value ds = foldl (λ n b. base * n + value b) 0 ds
+
 -- ---- small numbers
 
 -- The byte is from 0 to 9.
@@ -20,8 +24,8 @@ digits [] = 0
 digits (b ∷ t) = let n = digits t in cond (isDigit b) (suc n) 0
 
 -- The number that some digits are.
-unfoldable pub decimalOf : List ℕ → ℕ
-decimalOf ds = foldl (λ n b. 10 * n + (b - 48)) 0 ds
+abbrev pub decimalOf : List ℕ → ℕ
+decimalOf ds = inBase 10 (λ b. b - 48) ds
 
 -- So many digits are a small number: one to nine, and no leading zero.
 abbrev pub isSmall : ℕ → List ℕ → Bool
@@ -42,8 +46,8 @@ abbrev pub isHex : ℕ → Bool
 isHex b = leb (nibble b) 15
 
 -- The number that some hexadecimal digits are.
-unfoldable pub hexOf : List ℕ → ℕ
-hexOf ds = foldl (λ n b. 16 * n + nibble b) 0 ds
+abbrev pub hexOf : List ℕ → ℕ
+hexOf ds = inBase 16 nibble ds
 
 -- The double of these bits. There is one NaN, whatever its bits are.
 unfoldable pub doubleOf : ℕ → Float

@@ -2,17 +2,17 @@
 use mathlib.Core.Path.{_≡_, refl, sym, ap, _∙_, subst}
 use mathlib.Core.Bool.{Bool, true, false, not, cond, _&&_, _||_}
 use mathlib.Core.List.{List, [], _∷_}
-use Prim.Native.Nat.{ℕ, suc, _+_, _-_, _*_, _^_, _≤_, _<_}
-use native.Mathlib.Nat.{add-zero, pow-suc, pow-le-pow-right}
+use Prim.Native.Nat.{ℕ, suc, _+_, _≤_, _<_}
+use native.Mathlib.Nat.{add-zero}
 use native.Mathlib.Numerals.{add-one}
 use native.Mathlib.Omega.{arith}
 use lib.ListN.{length, take, drop, getD, drop-of-length-le}
 use lib.Seq.{drop-cons, drop-drop, getD-drop}
 use lib.Dec.{T, leb, eqb}
 use borrow.Author.Tests.{leb-true, le-leb, lt-leb, ne-eqb}
-use Rattle.lists.specs.Lists.{part, all, foldl}
+use Rattle.lists.specs.Lists.{part, all}
 use Rattle.lists.proofs.Part.{length-part, getD-part}
-use Rattle.lists.proofs.Fold.{foldl-part, all-getD}
+use Rattle.lists.proofs.Fold.{all-getD}
 use Rattle.text.specs.Numerals.{isDigit, isSmall, digits, decimalOf, small}
 use Rattle.text.specs.Bytes.{bad, got}
 
@@ -27,7 +27,7 @@ both false b e = absurd (subst T (sym e) tt)
 pub low-of : (a b c : ℕ) → leb a b && leb b c ≡ true → a ≤ b
 low-of a b c e = leb-true a b (both (leb a b) (leb b c) e .0)
 
-pub high-of : (a b c : ℕ) → leb a b && leb b c ≡ true → b ≤ c
+high-of : (a b c : ℕ) → leb a b && leb b c ≡ true → b ≤ c
 high-of a b c e = leb-true b c (both (leb a b) (leb b c) e .1)
 
 -- ---- how many digits a text begins with
@@ -66,27 +66,9 @@ digits-known l at n e = ap (λ (k : ℕ). all isDigit (take k (drop at l))) e �
 pub part-all : (p : ℕ → Bool) (l : List ℕ) (at n i : ℕ) → at + n ≤ length l → all p (part l at n) ≡ true → i < n → p (getD l (at + i) 0) ≡ true
 part-all p l at n i h e g = sym (ap p (getD-part l at n i 0 g)) ∙ all-getD p (part l at n) i 0 e (rw (length-part l at n h) g)
 
-pub digit-low : (l : List ℕ) (at n i : ℕ) → at + n ≤ length l → all isDigit (part l at n) ≡ true → i < n → 48 ≤ getD l (at + i) 0
-digit-low l at n i h e g = low-of 48 _ 57 (part-all isDigit l at n i h e g)
-
-pub digit-high : (l : List ℕ) (at n i : ℕ) → at + n ≤ length l → all isDigit (part l at n) ≡ true → i < n → getD l (at + i) 0 ≤ 57
-digit-high l at n i h e g = high-of 48 _ 57 (part-all isDigit l at n i h e g)
-
-pub decimal-none : (l : List ℕ) (at : ℕ) → 0 ≡ decimalOf (part l at 0)
-unfolding decimalOf foldl
-decimal-none l at = refl
-
--- one more digit
-pub decimal-turn : (l : List ℕ) (at i v : ℕ) → at + i < length l → v ≡ decimalOf (part l at i) → 10 * v + (getD l (at + i) 0 - 48) ≡ decimalOf (part l at (i + 1))
-unfolding decimalOf
-decimal-turn l at i v h e = rw e (foldl-part (λ n b. 10 * n + (b - 48)) 0 l at i 0 h)
-
--- a number of at most nine digits
-pub power-ten : (i : ℕ) → i ≤ 9 → 10 ^ i ≤ 1000000000
-power-ten i h = pow-le-pow-right {n = 10} (omega arith) {i = i} {j = 9} h
-
-pub decimal-below : (i v d : ℕ) → v < 10 ^ i → d ≤ 9 → 10 * v + d < 10 ^ (i + 1)
-decimal-below i v d h g = let e : 10 ^ (i + 1) ≡ 10 ^ i * 10 = ap (λ (k : ℕ). 10 ^ k) (add-one i) ∙ pow-suc 10 i in omega arith
+-- a digit among digits
+pub digit-between : (l : List ℕ) (at n i : ℕ) → at + n ≤ length l → all isDigit (part l at n) ≡ true → i < n → (48 ≤ getD l (at + i) 0) × (getD l (at + i) 0 ≤ 57)
+digit-between l at n i h e g = let t = part-all isDigit l at n i h e g in (low-of 48 _ 57 t, high-of 48 _ 57 t)
 
 -- ---- small numbers
 

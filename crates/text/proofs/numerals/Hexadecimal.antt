@@ -2,18 +2,16 @@
 use mathlib.Core.Path.{_≡_, refl, sym, ap, _∙_, subst}
 use mathlib.Core.Bool.{Bool, true, false, not, _&&_}
 use mathlib.Core.List.{List}
-use Prim.Native.Nat.{ℕ, _+_, _-_, _*_, _/_, _%_, _^_, _≤_, _<_}
-use native.Mathlib.Nat.{pow-suc, pow-le-pow-right}
-use native.Mathlib.Numerals.{add-one}
+use Prim.Native.Nat.{ℕ, _+_, _-_, _/_, _%_, _≤_, _<_}
 use native.Mathlib.Omega.{arith}
 use lib.ListN.{length, drop, getD, length-drop}
 use lib.Dec.{leb}
 use lib.Ieee.{nan, binary64, nanBits, ofBits}
 use borrow.Author.Tests.{leb-true, le-leb, lt-leb, eqb-true, eq-eqb, ne-eqb}
-use Rattle.lists.specs.Lists.{part, all, foldl}
+use Rattle.lists.specs.Lists.{part, all}
 use Rattle.lists.proofs.Part.{length-part, getD-part}
-use Rattle.lists.proofs.Fold.{foldl-part, all-turn, all-done}
-use Rattle.text.specs.Numerals.{isDigit, isHex, nibble, hexOf, doubleOf}
+use Rattle.lists.proofs.Fold.{all-turn, all-done}
+use Rattle.text.specs.Numerals.{isDigit, isHex, nibble, doubleOf}
 use Rattle.text.proofs.numerals.Decimal.{part-all}
 
 -- ---- hexadecimal digits
@@ -36,20 +34,6 @@ nibble-none b e f g = rw (e, f, g)
 
 pub hex-known : (l : List ℕ) (at i : ℕ) → at + 16 ≤ length l → all isHex (part l at 16) ≡ true → i < 16 → nibble (getD l (at + i) 0) ≤ 15
 hex-known l at i h e g = leb-true _ 15 (part-all isHex l at 16 i h e g)
-
-pub hex-none : (l : List ℕ) (at : ℕ) → 0 ≡ hexOf (part l at 0)
-unfolding hexOf foldl
-hex-none l at = refl
-
-pub hex-turn : (l : List ℕ) (at i v d : ℕ) → at + i < length l → v ≡ hexOf (part l at i) → d ≡ nibble (getD l (at + i) 0) → 16 * v + d ≡ hexOf (part l at (i + 1))
-unfolding hexOf
-hex-turn l at i v d h e f = rw (e, f) (foldl-part (λ n b. 16 * n + nibble b) 0 l at i 0 h)
-
-pub power-fifteen : (i : ℕ) → i ≤ 15 → 16 ^ i ≤ 1152921504606846976
-power-fifteen i h = pow-le-pow-right {n = 16} (omega arith) {i = i} {j = 15} h
-
-pub hex-below : (i v d : ℕ) → v < 16 ^ i → d ≤ 15 → 16 * v + d < 16 ^ (i + 1)
-hex-below i v d h g = let e : 16 ^ (i + 1) ≡ 16 ^ i * 16 = ap (λ (k : ℕ). 16 ^ k) (add-one i) ∙ pow-suc 16 i in omega arith
 
 -- ---- sixteen of them
 
