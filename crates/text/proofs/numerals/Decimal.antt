@@ -19,7 +19,7 @@ use Rattle.text.specs.Bytes.{bad, got}
 -- ---- tests
 
 -- both sides of a true `&&` are
-both : (a b : Bool) → a && b ≡ true → (a ≡ true) × (b ≡ true)
+pub both : (a b : Bool) → a && b ≡ true → (a ≡ true) × (b ≡ true)
 both true b e = (refl, e)
 both false b e = absurd (subst T (sym e) tt)
 

@@ -21,7 +21,7 @@ use Rattle.math.specs.declared.scalars.Scalar.{Scalar}
 use Rattle.text.specs.Bytes.{bytes}
 use Rattle.text.specs.Respond.{resultWord, boundLines, printed}
 use Rattle.text.specs.Numerals.{digitOf, lastDigits, decimalLength, decimal, hexadecimal}
-use Rattle.text.specs.Printable.{Written, Printable}
+use Rattle.text.specs.Printable.{Written}
 
 -- ---- words
 
@@ -120,17 +120,9 @@ double-written l at x m r w = (w, omega (arith, w .end, length-digits 16 16 (toB
 
 -- ---- lines
 
--- What was written for an answer g was written for f, where they are the same: the word of the result.
-pub result-as : {f g : Found} {l m : List ℕ} {at r : ℕ} → f ≡ g → Written l at (resultWord (paper g .result)) m r → r ≤ at + 28 → Written l at (resultWord (paper f .result)) m r × (r ≤ at + 28)
-result-as {f} {g} {l} {m} {at} {r} e w h = (subst (λ (x : Found). Written l at (resultWord (paper x .result)) m r) (sym e) w, h)
-
--- The lines of the bounds.
-pub bounds-as : {f g : Found} {l m : List ℕ} {at r : ℕ} → f ≡ g → Written l at (boundLines (paper g .bounds)) m r → r ≤ at + 40 → Written l at (boundLines (paper f .bounds)) m r × (r ≤ at + 40)
-bounds-as {f} {g} {l} {m} {at} {r} e w h = (subst (λ (x : Found). Written l at (boundLines (paper x .bounds)) m r) (sym e) w, h)
-
--- What is asked of the bounds of f is so for g.
-pub printable-as : {f g : Found} → f ≡ g → Printable f → Printable g
-printable-as e p = subst (λ (x : Found). Printable x) e p
+-- What was written for an answer g was written for f, where they are the same.
+pub written-as : (of : Found → List ℕ) {f g : Found} {l m : List ℕ} {at r n : ℕ} → f ≡ g → Written l at (of g) m r → r ≤ n → Written l at (of f) m r × (r ≤ n)
+written-as of {l = l} {m = m} {at = at} {r = r} e w h = (subst (λ (x : Found). Written l at (of x) m r) (sym e) w, h)
 
 -- an answer that is not Enclosed has no bounds
 unbounded : (f : Found) → (tagOf the-type f ≡ 0) ⊎ ((tagOf the-type f ≡ 2) ⊎ (tagOf the-type f ≡ 3)) → paper f .bounds ≡ none

@@ -18,20 +18,14 @@ use Rattle.text.specs.Question.{behind, values, line, lines}
 use Rattle.text.specs.Cursor.{WordRead, ValueRead, ValuesRead}
 use Rattle.text.specs.declared.cursor.Place.{Place}
 use Rattle.text.specs.declared.cursor.Place.the-variants.{Bad, At}
-use Rattle.text.proofs.question.Words.{then-bad, then-got, word-none, word-some}
+use Rattle.text.proofs.question.Words.{then-bad, then-got}
+use Rattle.text.proofs.numerals.Decimal.{both}
 
 -- ---- doubles
 
 pub behind-more : (n : ℕ) → (n ≡ 0 → ⊥) → 32 ≡ behind n
 behind-more zero h = absurd (h refl)
 behind-more (suc n) h = refl
-
-both : (a b : Bool) → a && b ≡ true → (a ≡ true) × (b ≡ true)
-both true b e = (refl, e)
-both false b e = absurd (never e)
-  where
-    never : false ≡ true → ⊥
-    never q = let z : _≡_ {A = ℕ} 0 1 = cc in omega arith
 
 module _ (text : List ℕ) (at b : ℕ) (r : Bool) (d : r ≡ (leb 16 (length (drop at text)) && all isHex (part text at 16))) where
   -- there is no double
@@ -47,12 +41,6 @@ module _ (text : List ℕ) (at b : ℕ) (r : Bool) (d : r ≡ (leb 16 (length (d
   pub value-is : r ≡ true → at + 16 ≤ length text → (q : Place) → WordRead text (word (b ∷ []) (drop (at + 16) text)) q → ValueRead text at b q
   value-is e h Bad w = then-got (double (drop at text)) _ _ _ (reads e) ∙ w
   value-is e h (At i) w = (w .0, h, both (leb 16 (length (drop at text))) (all isHex (part text at 16)) (sym d ∙ e) .1, reads e, w .1)
-
-pub value-stops : (text : List ℕ) (at b : ℕ) (r : Place) → ValueRead text at b r → r ≡ Bad → then (double (drop at text)) (λ x rest. word (b ∷ []) rest) ≡ bad
-value-stops text at b r h e = subst (λ (q : Place). ValueRead text at b q) e h
-
-pub value-found : (text : List ℕ) (at b : ℕ) (r : Place) (i : ℕ) → ValueRead text at b r → r ≡ At i → ValueRead text at b (At i)
-value-found text at b r i h e = subst (λ (q : Place). ValueRead text at b q) e h
 
 -- Some doubles, and what is read behind them.
 pub prepend : List Float → Read (List Float) → Read (List Float)
@@ -134,12 +122,12 @@ module _ (text : List ℕ) (n at to : ℕ) (l : List Float) where
 
     -- a value that cannot be read
     pub values-stop : r ≡ Bad → values n (drop at text) ≡ bad
-    values-stop e = taken-bad (values n (drop at text)) to l _ i m so (values-stuck (n - i) (n - i - 1) (drop k text) b next sep (value-stops text k b r read e))
+    values-stop e = taken-bad (values n (drop at text)) to l _ i m so (values-stuck (n - i) (n - i - 1) (drop k text) b next sep (subst (ValueRead text k b) e read))
 
     -- one value
     pub values-turn : (j : ℕ) (x : Float) → r ≡ At j → x ≡ doubleOf (hexOf (part text k 16)) → to + n ≤ length l → Taken (values n (drop at text)) (values (n - (i + 1)) (drop j text)) (i + 1) to l (set m (to + i) x)
     values-turn j x e f h =
-        let v = value-found text k b r j read e in
+        let v = subst (ValueRead text k b) e read in
         let s : n - i - 1 ≡ n - (i + 1) = omega arith in
         let w : length m ≡ length l = rw (so .wrote) (length-put l to (so .xs) (omega (arith, so .long))) in
         let o : values (n - i) (drop k text) ≡ prepend (x ∷ []) (values (n - (i + 1)) (drop j text)) = rw (f, ← s) (values-one (n - i) (n - i - 1) (drop k text) (drop (k + 16) text) (drop j text) b _ next sep (v .3) (v .4)) in
@@ -152,23 +140,17 @@ module _ (text : List ℕ) (n at to : ℕ) (l : List Float) where
       let z : n - i ≡ 0 = omega arith in
       taken-all (values n (drop at text)) to l _ i n m text k so (ap (λ (q : ℕ). values q (drop k text)) z) (omega arith) p
 
-pub values-none : (text : List ℕ) (spec : Read (List Float)) (n to : ℕ) (l m : List Float) (r : Place) → ValuesRead text spec n to l m r → r ≡ Bad → spec ≡ bad
-values-none text spec n to l m r h e = subst (λ (q : Place). ValuesRead text spec n to l m q) e h
-
-pub values-some : (text : List ℕ) (spec : Read (List Float)) (n to : ℕ) (l m : List Float) (r : Place) (i : ℕ) → ValuesRead text spec n to l m r → r ≡ At i → ValuesRead text spec n to l m (At i)
-values-some text spec n to l m r i h e = subst (λ (q : Place). ValuesRead text spec n to l m q) e h
-
 -- ---- lines of doubles
 
 module _ (text key t : List ℕ) (n : ℕ) (r : Place) (w : WordRead text (word key t) r) where
   -- the key is missing
   pub line-keyless : r ≡ Bad → line key n t ≡ bad
   unfolding line
-  line-keyless e = then-bad (word key t) _ (word-none text (word key t) r w e)
+  line-keyless e = then-bad (word key t) _ (subst (WordRead text (word key t)) e w)
 
   line-is : (i : ℕ) → r ≡ At i → line key n t ≡ values n (drop i text)
   unfolding line
-  line-is i e = then-got (word key t) _ tt (drop i text) (word-some text (word key t) r i w e .1)
+  line-is i e = then-got (word key t) _ tt (drop i text) (subst (WordRead text (word key t)) e w .1)
 
   -- the values behind the key
   pub line-rest : (i : ℕ) → r ≡ At i → (to : ℕ) (l m : List Float) (q : Place) → ValuesRead text (values n (drop i text)) n to l m q → ValuesRead text (line key n t) n to l m q
@@ -201,12 +183,12 @@ module _ (text key : List ℕ) (n k at to : ℕ) (l : List Float) where
     -- a line that cannot be read
     pub lines-stop : r ≡ Bad → lines key n k (drop at text) ≡ bad
     lines-stop e =
-        taken-bad (lines key n k (drop at text)) to l _ (n * i) m so (lines-stuck key n (k - i) (k - (i + 1)) (drop p text) left (values-none text _ n (to + n * i) m w r read e))
+        taken-bad (lines key n k (drop at text)) to l _ (n * i) m so (lines-stuck key n (k - i) (k - (i + 1)) (drop p text) left (subst (ValuesRead text (line key n (drop p text)) n (to + n * i) m w) e read))
 
     -- one line
     pub lines-turn : (j : ℕ) → r ≡ At j → to + n * k ≤ length l → (j ≤ length text) × Taken (lines key n k (drop at text)) (lines key n (k - (i + 1)) (drop j text)) (n * (i + 1)) to l w
     lines-turn j e h =
-        let v = values-some text _ n (to + n * i) m w r j read e in
+        let v = subst (ValuesRead text (line key n (drop p text)) n (to + n * i) m w) e read in
         let f : n * i + length (v .1) ≡ n * (i + 1) = rw (v .3, add-one i, mul-suc n i) in
         let g : n * (i + 1) ≤ n * k = rw (add-one i) (mul-le-mul-left n less) in (
           v .0,

@@ -1,5 +1,5 @@
 -- Laws of the first three lines: which of them are there, and when the sizes are refused.
-use mathlib.Core.Path.{_≡_, sym, _∙_}
+use mathlib.Core.Path.{_≡_, sym, subst, _∙_}
 use mathlib.Core.Bool.{Bool, true, false, _&&_, _||_}
 use mathlib.Core.List.{List}
 use Prim.Native.Nat.{ℕ, _+_}
@@ -12,32 +12,32 @@ use Rattle.text.specs.Cursor.{SmallRead, HeadRead}
 use Rattle.text.specs.declared.cursor.Small.{Small}
 use Rattle.text.specs.declared.cursor.Small.the-variants.{NoNumber, Number}
 use Rattle.text.specs.declared.cursor.Head.the-variants.{Heads}
-use Rattle.text.proofs.question.Words.{then-bad, then-got, small-none, small-some}
+use Rattle.text.proofs.question.Words.{then-bad, then-got}
 
 -- ---- the first three lines: none of them is there, or the first, or two, or all three
 
 module _ (text : List ℕ) (r : Small) (one : SmallRead text (smallLine (bytes "dim=") (drop 0 text)) r) where
   pub sizes-none : r ≡ NoNumber → sizes text ≡ bad
   unfolding sizes
-  sizes-none e = then-bad (smallLine (bytes "dim=") text) _ (small-none text _ r one e)
+  sizes-none e = then-bad (smallLine (bytes "dim=") text) _ (subst (SmallRead text (smallLine (bytes "dim=") text)) e one)
 
   module _ (d i : ℕ) (e : r ≡ Number d i) (q : Small) (two : SmallRead text (smallLine (bytes "degree=") (drop i text)) q) where
     sizes-next : sizes text ≡ then (smallLine (bytes "degree=") (drop i text)) (λ degree b. then (smallLine (bytes "count=") b) (λ count rest. got (record { dim = d; degree = degree; count = count }) rest))
     unfolding sizes
-    sizes-next = then-got (smallLine (bytes "dim=") text) _ d (drop i text) (small-some text _ r d i one e .2)
+    sizes-next = then-got (smallLine (bytes "dim=") text) _ d (drop i text) (subst (SmallRead text (smallLine (bytes "dim=") text)) e one .2)
 
     pub sizes-one : q ≡ NoNumber → sizes text ≡ bad
-    sizes-one f = sizes-next ∙ then-bad (smallLine (bytes "degree=") (drop i text)) _ (small-none text _ q two f)
+    sizes-one f = sizes-next ∙ then-bad (smallLine (bytes "degree=") (drop i text)) _ (subst (SmallRead text (smallLine (bytes "degree=") (drop i text))) f two)
 
     module _ (p j : ℕ) (f : q ≡ Number p j) (z : Small) (three : SmallRead text (smallLine (bytes "count=") (drop j text)) z) where
       sizes-last : sizes text ≡ then (smallLine (bytes "count=") (drop j text)) (λ count rest. got (record { dim = d; degree = p; count = count }) rest)
-      sizes-last = sizes-next ∙ then-got (smallLine (bytes "degree=") (drop i text)) _ p (drop j text) (small-some text _ q p j two f .2)
+      sizes-last = sizes-next ∙ then-got (smallLine (bytes "degree=") (drop i text)) _ p (drop j text) (subst (SmallRead text (smallLine (bytes "degree=") (drop i text))) f two .2)
 
       pub sizes-two : z ≡ NoNumber → sizes text ≡ bad
-      sizes-two g = sizes-last ∙ then-bad (smallLine (bytes "count=") (drop j text)) _ (small-none text _ z three g)
+      sizes-two g = sizes-last ∙ then-bad (smallLine (bytes "count=") (drop j text)) _ (subst (SmallRead text (smallLine (bytes "count=") (drop j text))) g three)
 
       pub sizes-three : (n k : ℕ) → z ≡ Number n k → HeadRead text (sizes text) (Heads d p n k)
-      sizes-three n k g = let s = small-some text _ z n k three g in (s .1, sizes-last ∙ then-got (smallLine (bytes "count=") (drop j text)) _ n (drop k text) (s .2))
+      sizes-three n k g = let s = subst (SmallRead text (smallLine (bytes "count=") (drop j text))) g three in (s .1, sizes-last ∙ then-got (smallLine (bytes "count=") (drop j text)) _ n (drop k text) (s .2))
 
 -- ---- the refusal of sizes: the arms of a test with ||, then the three tests
 

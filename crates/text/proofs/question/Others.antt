@@ -15,8 +15,7 @@ use Rattle.text.specs.declared.cursor.Place.{Place}
 use Rattle.text.specs.declared.cursor.Place.the-variants.{Bad, At}
 use Rattle.text.specs.declared.cursor.Small.{Small}
 use Rattle.text.specs.declared.cursor.Small.the-variants.{NoNumber, Number}
-use Rattle.text.proofs.question.Words.{then-bad, then-got, small-none, small-some}
-use Rattle.text.proofs.question.Doubles.{values-none, values-some}
+use Rattle.text.proofs.question.Words.{then-bad, then-got}
 
 -- ---- the other lines: again by how many of them are there
 
@@ -26,16 +25,16 @@ put-next l a b xs ys e h = rw e (put-put l a xs ys h)
 
 module _ (text t : List ℕ) (r : Small) (one : SmallRead text (smallLine (bytes "nodes=") t) r) (l m : List Float) where
   pub limits-none : r ≡ NoNumber → then (smallLine (bytes "nodes=") t) (λ _ a. line (bytes "resolution=") 1 a) ≡ bad
-  limits-none e = then-bad (smallLine (bytes "nodes=") t) _ (small-none text _ r one e)
+  limits-none e = then-bad (smallLine (bytes "nodes=") t) _ (subst (SmallRead text (smallLine (bytes "nodes=") t)) e one)
 
   module _ (n i : ℕ) (e : r ≡ Number n i) (q : Place) (two : ValuesRead text (line (bytes "resolution=") 1 (drop i text)) 1 0 l m q) where
     pub limits-one : q ≡ Bad → then (smallLine (bytes "nodes=") t) (λ _ a. line (bytes "resolution=") 1 a) ≡ bad
-    limits-one f = then-got (smallLine (bytes "nodes=") t) _ n (drop i text) (small-some text _ r n i one e .2) ∙ values-none text _ 1 0 l m q two f
+    limits-one f = then-got (smallLine (bytes "nodes=") t) _ n (drop i text) (subst (SmallRead text (smallLine (bytes "nodes=") t)) e one .2) ∙ subst (ValuesRead text (line (bytes "resolution=") 1 (drop i text)) 1 0 l m) f two
 
     pub limits-two : (j : ℕ) → q ≡ At j → LimitsRead text t l m (Number n j)
     limits-two j f =
-        let v = values-some text _ 1 0 l m q j two f in
-        let s = small-some text _ r n i one e in
+        let v = subst (ValuesRead text (line (bytes "resolution=") 1 (drop i text)) 1 0 l m) f two in
+        let s = subst (SmallRead text (smallLine (bytes "nodes=") t)) e one in
         by (v .1) (v .0) (s .0) (s .2) (v .2) (v .3) (v .4)
       where
         by : (xs : List Float) → j ≤ length text → n ≤ 999999999 → smallLine (bytes "nodes=") t ≡ got n (drop i text) → line (bytes "resolution=") 1 (drop i text) ≡ got xs (drop j text) → length xs ≡ 1 → m ≡ put l 0 xs
@@ -51,12 +50,12 @@ few w n h k = mul-le-mul h k
 module _ (text t : List ℕ) (dim degree count : ℕ) (l m₁ : List Float) (r : Place) (one : ValuesRead text (line (bytes "knots=") (count + degree + 1) t) (count + degree + 1) 1 l m₁ r) where
   pub shape-none : r ≡ Bad → shape (record { dim = dim; degree = degree; count = count }) t ≡ bad
   unfolding shape
-  shape-none e = then-bad (line (bytes "knots=") (count + degree + 1) t) _ (values-none text _ (count + degree + 1) 1 l m₁ r one e)
+  shape-none e = then-bad (line (bytes "knots=") (count + degree + 1) t) _ (subst (ValuesRead text (line (bytes "knots=") (count + degree + 1) t) (count + degree + 1) 1 l m₁) e one)
 
   module _ (w i : ℕ) (e : r ≡ At i) (wide : w ≡ 2 * suc dim) (m₂ : List Float) (q : Place)
       (two : ValuesRead text (lines (bytes "point=") w count (drop i text)) (w * count) (1 + (count + degree + 1)) m₁ m₂ q) where
     knots-read : ValuesRead text (line (bytes "knots=") (count + degree + 1) t) (count + degree + 1) 1 l m₁ (At i)
-    knots-read = values-some text _ (count + degree + 1) 1 l m₁ r i one e
+    knots-read = subst (ValuesRead text (line (bytes "knots=") (count + degree + 1) t) (count + degree + 1) 1 l m₁) e one
 
     same : lines (bytes "point=") (2 * suc dim) count (drop i text) ≡ lines (bytes "point=") w count (drop i text)
     same = ap (λ (n : ℕ). lines (bytes "point=") n count (drop i text)) (sym wide)
@@ -67,16 +66,16 @@ module _ (text t : List ℕ) (dim degree count : ℕ) (l m₁ : List Float) (r :
     shape-next = then-got (line (bytes "knots=") (count + degree + 1) t) _ (knots-read .1) (drop i text) (knots-read .2)
 
     pub shape-one : q ≡ Bad → shape (record { dim = dim; degree = degree; count = count }) t ≡ bad
-    shape-one f = shape-next ∙ then-bad (lines (bytes "point=") (2 * suc dim) count (drop i text)) _ (same ∙ values-none text _ (w * count) (1 + (count + degree + 1)) m₁ m₂ q two f)
+    shape-one f = shape-next ∙ then-bad (lines (bytes "point=") (2 * suc dim) count (drop i text)) _ (same ∙ subst (ValuesRead text (lines (bytes "point=") w count (drop i text)) (w * count) (1 + (count + degree + 1)) m₁ m₂) f two)
 
     pub shape-two : (j : ℕ) → q ≡ At j → (m₃ : List Float) (z : Place) → ValuesRead text (line (bytes "box=") (2 * dim) (drop j text)) (2 * dim) (1 + (count + degree + 1) + w * count) m₂ m₃ z
         → 1 + (count + degree + 1) + w * count + 2 * dim ≤ length l → ShapeRead text t (record { dim = dim; degree = degree; count = count }) l m₃ z
     shape-two j f m₃ Bad three h =
-        let v = values-some text _ (w * count) (1 + (count + degree + 1)) m₁ m₂ q j two f in
+        let v = subst (ValuesRead text (lines (bytes "point=") w count (drop i text)) (w * count) (1 + (count + degree + 1)) m₁ m₂) f two in
         shape-next ∙ then-got (lines (bytes "point=") (2 * suc dim) count (drop i text)) _ (v .1) (drop j text) (same ∙ v .2) ∙ then-bad (line (bytes "box=") (2 * dim) (drop j text)) _ three
     shape-two j f m₃ (At k) three h =
         let u = knots-read in
-        let v = values-some text _ (w * count) (1 + (count + degree + 1)) m₁ m₂ q j two f in
+        let v = subst (ValuesRead text (lines (bytes "point=") w count (drop i text)) (w * count) (1 + (count + degree + 1)) m₁ m₂) f two in
         let a : 1 + (count + degree + 1) ≡ 1 + length (u .1) = omega (arith, u .3) in
         let b : 1 + (count + degree + 1) + w * count ≡ 1 + length (u .1 ++ v .1) = simp length-append (omega (arith, u .3, v .3)) in (
           three .0,
@@ -121,24 +120,14 @@ unfolding then
 three-bad bad h k f g e = refl
 three-bad (got x t) h k f g e = two-bad (h t) k (f x) (g x) e
 
-limits-told : (text t : List ℕ) (l m : List Float) (r : Small) (n i : ℕ) → LimitsRead text t l m r → r ≡ Number n i → LimitsRead text t l m (Number n i)
-limits-told text t l m r n i h e = subst (λ (q : Small). LimitsRead text t l m q) e h
-
-shape-told : (text t : List ℕ) (s : Sizes) (l m : List Float) (r : Place) (i : ℕ) → ShapeRead text t s l m r → r ≡ At i → ShapeRead text t s l m (At i)
-shape-told text t s l m r i h e = subst (λ (q : Place). ShapeRead text t s l m q) e h
-
--- where the rest begins
-pub limits-in : (text t : List ℕ) (l m : List Float) (r : Small) (n i : ℕ) → LimitsRead text t l m r → r ≡ Number n i → i ≤ length text
-limits-in text t l m r n i h e = limits-told text t l m r n i h e .0
-
 module _ (text t : List ℕ) (s : Sizes) (l m₁ : List Float) (r : Small) (one : LimitsRead text t l m₁ r) where
   pub numbers-none : r ≡ NoNumber → numbers s t ≡ bad
   unfolding numbers
-  numbers-none e = part-bad (smallLine (bytes "nodes=") t) (λ _ a. line (bytes "resolution=") 1 a) _ (subst (λ (q : Small). LimitsRead text t l m₁ q) e one)
+  numbers-none e = part-bad (smallLine (bytes "nodes=") t) (λ _ a. line (bytes "resolution=") 1 a) _ (subst (LimitsRead text t l m₁) e one)
 
   module _ (n i : ℕ) (e : r ≡ Number n i) (m₂ : List Float) (q : Place) (two : ShapeRead text (drop i text) s m₁ m₂ q) where
     front : LimitsRead text t l m₁ (Number n i)
-    front = limits-told text t l m₁ r n i one e
+    front = subst (LimitsRead text t l m₁) e one
 
     numbers-next : numbers s t
         ≡ then (line (bytes "knots=") (s .count + s .degree + 1) (drop i text)) (λ knots c.
@@ -153,11 +142,11 @@ module _ (text t : List ℕ) (s : Sizes) (l m₁ : List Float) (r : Small) (one 
     numbers-one f =
         numbers-next
         ∙ three-bad (line (bytes "knots=") (s .count + s .degree + 1) (drop i text)) (λ c. lines (bytes "point=") (2 * suc (s .dim)) (s .count) c) (λ d. line (bytes "box=") (2 * s .dim) d) (λ knots points box. knots ++ points ++ box) _
-        (subst (λ (p : Place). ShapeRead text (drop i text) s m₁ m₂ p) f two)
+        (subst (ShapeRead text (drop i text) s m₁ m₂) f two)
 
     pub numbers-two : (j : ℕ) → q ≡ At j → 1 ≤ length l → NumbersRead text (numbers s t) s l m₂ (Number n j)
     numbers-two j f h =
-        let v = shape-told text (drop i text) s m₁ m₂ q j two f in (
+        let v = subst (ShapeRead text (drop i text) s m₁ m₂) f two in (
           v .0,
           record { nodes = n; resolution = front .3; knots = v .1; points = v .2; box = v .3 },
           numbers-next

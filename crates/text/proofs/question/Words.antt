@@ -30,20 +30,6 @@ module _ {A B : Type 0} where
   unfolding then
   then-got r f x t e = ap (λ (q : Read A). then q f) e
 
--- ---- what an answer says
-
-pub word-none : (text : List ℕ) (spec : Read (Unit {0})) (r : Place) → WordRead text spec r → r ≡ Bad → spec ≡ bad
-word-none text spec r h e = subst (λ (q : Place). WordRead text spec q) e h
-
-pub word-some : (text : List ℕ) (spec : Read (Unit {0})) (r : Place) (i : ℕ) → WordRead text spec r → r ≡ At i → (i ≤ length text) × (spec ≡ got tt (drop i text))
-word-some text spec r i h e = subst (λ (q : Place). WordRead text spec q) e h
-
-pub small-none : (text : List ℕ) (spec : Read ℕ) (r : Small) → SmallRead text spec r → r ≡ NoNumber → spec ≡ bad
-small-none text spec r h e = subst (λ (q : Small). SmallRead text spec q) e h
-
-pub small-some : (text : List ℕ) (spec : Read ℕ) (r : Small) (n i : ℕ) → SmallRead text spec r → r ≡ Number n i → (n ≤ 999999999) × (i ≤ length text) × (spec ≡ got n (drop i text))
-small-some text spec r n i h e = subst (λ (q : Small). SmallRead text spec q) e h
-
 -- ---- words
 
 cond-same : {A : Type 0} (b : Bool) (x : A) → cond b x x ≡ x
@@ -102,27 +88,27 @@ module _ (text key t : List ℕ) (r : Place) (w : WordRead text (word key t) r) 
   -- the key is missing
   pub small-line-keyless : r ≡ Bad → smallLine key t ≡ bad
   unfolding smallLine
-  small-line-keyless e = then-bad (word key t) _ (word-none text (word key t) r w e)
+  small-line-keyless e = then-bad (word key t) _ (subst (WordRead text (word key t)) e w)
 
   module _ (i : ℕ) (e : r ≡ At i) (s : Small) (n : SmallRead text (small (drop i text)) s) where
     behind-key : smallLine key t ≡ then (small (drop i text)) (λ n b. then (word (10 ∷ []) b) (λ _ rest. got n rest))
     unfolding smallLine
-    behind-key = then-got (word key t) _ tt (drop i text) (word-some text (word key t) r i w e .1)
+    behind-key = then-got (word key t) _ tt (drop i text) (subst (WordRead text (word key t)) e w .1)
 
     -- no number follows
     pub small-line-none : s ≡ NoNumber → smallLine key t ≡ bad
-    small-line-none f = behind-key ∙ then-bad (small (drop i text)) _ (small-none text (small (drop i text)) s n f)
+    small-line-none f = behind-key ∙ then-bad (small (drop i text)) _ (subst (SmallRead text (small (drop i text))) f n)
 
     module _ (x j : ℕ) (f : s ≡ Number x j) (q : Place) (b : WordRead text (word (10 ∷ []) (drop j text)) q) where
       behind-number : smallLine key t ≡ then (word (10 ∷ []) (drop j text)) (λ _ rest. got x rest)
-      behind-number = behind-key ∙ then-got (small (drop i text)) _ x (drop j text) (small-some text (small (drop i text)) s x j n f .2)
+      behind-number = behind-key ∙ then-got (small (drop i text)) _ x (drop j text) (subst (SmallRead text (small (drop i text))) f n .2)
 
       -- the line does not end
       pub small-line-endless : q ≡ Bad → smallLine key t ≡ bad
-      small-line-endless g = behind-number ∙ then-bad (word (10 ∷ []) (drop j text)) _ (word-none text _ q b g)
+      small-line-endless g = behind-number ∙ then-bad (word (10 ∷ []) (drop j text)) _ (subst (WordRead text (word (10 ∷ []) (drop j text))) g b)
 
       -- the whole line is there
       pub small-line-whole : (k : ℕ) → q ≡ At k → SmallRead text (smallLine key t) (Number x k)
       small-line-whole k g =
-          let p = word-some text _ q k b g in
-          (small-some text (small (drop i text)) s x j n f .0, p .0, behind-number ∙ then-got (word (10 ∷ []) (drop j text)) _ tt (drop k text) (p .1))
+          let p = subst (WordRead text (word (10 ∷ []) (drop j text))) g b in
+          (subst (SmallRead text (small (drop i text))) f n .0, p .0, behind-number ∙ then-got (word (10 ∷ []) (drop j text)) _ tt (drop k text) (p .1))

@@ -25,6 +25,7 @@ use Rattle.text.specs.declared.cursor.Head.{Head}
 use Rattle.text.specs.declared.cursor.Head.the-variants.{NoHead, Heads}
 use Rattle.text.specs.declared.cursor.Small.{Small}
 use Rattle.text.specs.declared.cursor.Small.the-variants.{NoNumber, Number}
+use Rattle.text.proofs.numerals.Decimal.{both}
 use Rattle.text.proofs.respond.Lent.{asked-same}
 
 -- ---- the other lines
@@ -95,10 +96,6 @@ either-small true b d f g e = omega (arith, f refl)
 either-small false true d f g e = omega (arith, g refl)
 either-small false false d f g e = absurd (yes false e)
 
-both-true : (a b : Bool) → (a && b) ≡ true → b ≡ true
-both-true true b e = e
-both-true false b e = absurd (yes false e)
-
 -- sizes that are not refused are small
 pub sizes-fit : (d p n k : ℕ) → k ≡ sizesRefused (record { dim = d; degree = p; count = n }) → k ≡ 0 → (d ≤ 3) × (p ≤ 7) × (n ≤ 32)
 unfolding sizesRefused dimFits degreeFits countFits
@@ -106,7 +103,7 @@ sizes-fit d p n k e z =
     let a = passes (eqb d 2 || eqb d 3) (cond (leb p 7) (cond (leb (p + 1) n && leb n 32) 0 3) 2) 0 (sym e ∙ z) in
     let b = passes (leb p 7) (cond (leb (p + 1) n && leb n 32) 0 3) 1 (a .1) in
     let c = passes (leb (p + 1) n && leb n 32) 0 2 (b .1) in
-    (either-small (eqb d 2) (eqb d 3) d (eqb-true d 2) (eqb-true d 3) (a .0), leb-true p 7 (b .0), leb-true n 32 (both-true (leb (p + 1) n) (leb n 32) (c .0)))
+    (either-small (eqb d 2) (eqb d 3) d (eqb-true d 2) (eqb-true d 3) (a .0), leb-true p 7 (b .0), leb-true n 32 (both (leb (p + 1) n) (leb n 32) (c .0) .1))
 
 module _ (text : List ℕ) (r : Head) (h : HeadRead text (sizes text) r) where
   pub head-bad : r ≡ NoHead → Refused 12 0 ≡ answered text

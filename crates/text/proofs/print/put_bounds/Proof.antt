@@ -1,8 +1,11 @@
 -- `put_bounds` writes the two dashes, or the two bounds behind their keys.
-use Rattle.text.proofs.print.Writing.{printable-as, bounds-as, dashes-written, five-joined}
+use Rattle.text.proofs.print.Writing.{written-as, dashes-written, five-joined}
 use Rattle.text.specs.Bytes.{bytes}
 use Rattle.text.specs.Respond.{boundLines}
 use Prim.Native.Nat.{_+_, _≤_}
+use Rattle.model.specs.Paper.{paper}
+use Rattle.text.specs.Printable.{Printable}
+use mathlib.Core.Path.{subst}
 use native.Mathlib.Omega.{arith}
 use borrow.Author.Needs.{needs}
 use Rattle.text.proofs.print.put_bounds.Statement.{statement}
@@ -34,7 +37,7 @@ put-word-requires-2 c κs = search needs
 
 put-double-requires : tie.Need-put-double-requires
 put-double-requires c κs =
-    (omega arith, printable-as (c .before .before .before .before .before .before .before .f .given .1) (c .before .before .before .before .before .before .before .before .before .before .pre .1) .0)
+    (omega arith, subst Printable (c .before .before .before .before .before .before .before .f .given .1) (c .before .before .before .before .before .before .before .before .before .before .pre .1) .0)
 
 slice-aggregate-put-word-3 : tie.Need-slice-aggregate-put-word-3
 slice-aggregate-put-word-3 c = search needs
@@ -44,7 +47,7 @@ put-word-requires-3 c κs = search needs
 
 put-double-requires-2 : tie.Need-put-double-requires-2
 put-double-requires-2 c κs =
-    (omega arith, printable-as (c .before .before .before .before .before .before .before .before .before .before .before .before .before .before .before .before .f .given .1) (c .before .before .before .before .before .before .before .before .before .before .before .before .before .before .before .before .before .before .before .pre .1) .1)
+    (omega arith, subst Printable (c .before .before .before .before .before .before .before .before .before .before .before .before .before .before .before .before .f .given .1) (c .before .before .before .before .before .before .before .before .before .before .before .before .before .before .before .before .before .before .before .pre .1) .1)
 
 slice-aggregate-put-word-4 : tie.Need-slice-aggregate-put-word-4
 slice-aggregate-put-word-4 c = search needs
@@ -65,7 +68,7 @@ returns-2 c =
     let y = c .before .before .put-word4 .ensures in
     let g = c .before .before .before .before .before .before .before .before .before .before .before .before .before .before .before .before .before .before .before .before .before .before .before .before .before .before .before in
     let h : c .before .before .put-word4 .result ≤ g .args .at + 40 = omega (arith, u .end, v .1, w .end, x .1, y .end) in
-    bounds-as (c .before .before .before .before .before .before .before .before .before .before .before .before .before .before .before .before .before .before .before .before .before .before .before .before .f .given .1) (five-joined (omega (arith, h, g .pre .0)) u (v .0) w (x .0) y) h
+    written-as (λ f. boundLines (paper f .bounds)) (c .before .before .before .before .before .before .before .before .before .before .before .before .before .before .before .before .before .before .before .before .before .before .before .before .f .given .1) (five-joined (omega (arith, h, g .pre .0)) u (v .0) w (x .0) y) h
 
 pub put-bounds-spec : {M : Type 1} → statement M
 put-bounds-spec =

@@ -1,11 +1,19 @@
 -- `put_result` writes the word of its case, and behind the last one the number of the refusal.
-use Rattle.text.proofs.print.Writing.{joined, result-as}
+use Rattle.text.proofs.print.Writing.{joined, written-as}
 use Rattle.text.specs.Bytes.{bytes}
 use Rattle.text.specs.Respond.{resultWord}
+use Rattle.model.specs.Paper.{paper}
+use Rattle.model.specs.declared.contains.Found.{Found}
+use mathlib.Core.List.{List}
+use Prim.Native.Nat.{ℕ}
 use native.Mathlib.Omega.{arith}
 use borrow.Author.Needs.{needs}
 use Rattle.text.proofs.print.put_result.Statement.{statement}
 use Rattle.text.proofs.print.put_result.Tie as tie
+
+-- What is to be written for an answer.
+abbrev word : Found → List ℕ
+word f = resultWord (paper f .result)
 
 enum-told : tie.Need-enum-told
 enum-told c = search needs
@@ -51,21 +59,21 @@ same-length c = search needs
 
 returns : tie.Need-returns
 unfolding resultWord bytes
-returns c = let w = c .before .before .put-word .ensures in result-as (c .before .before .before .before .before .enum-told .given .1) w (omega (arith, w .end))
+returns c = let w = c .before .before .put-word .ensures in written-as word (c .before .before .before .before .before .enum-told .given .1) w (omega (arith, w .end))
 
 same-length-2 : tie.Need-same-length-2
 same-length-2 c = search needs
 
 returns-2 : tie.Need-returns-2
 unfolding resultWord bytes
-returns-2 c = let w = c .before .before .put-word2 .ensures in result-as (c .before .before .before .before .before .enum-told2 .given .1) w (omega (arith, w .end))
+returns-2 c = let w = c .before .before .put-word2 .ensures in written-as word (c .before .before .before .before .before .enum-told2 .given .1) w (omega (arith, w .end))
 
 same-length-3 : tie.Need-same-length-3
 same-length-3 c = search needs
 
 returns-3 : tie.Need-returns-3
 unfolding resultWord bytes
-returns-3 c = let w = c .before .before .put-word3 .ensures in result-as (c .before .before .before .before .before .enum-told3 .given .1) w (omega (arith, w .end))
+returns-3 c = let w = c .before .before .put-word3 .ensures in written-as word (c .before .before .before .before .before .enum-told3 .given .1) w (omega (arith, w .end))
 
 same-length-4 : tie.Need-same-length-4
 same-length-4 c = search needs
@@ -75,7 +83,7 @@ unfolding resultWord bytes
 returns-4 c =
     let w = c .before .before .before .before .before .before .put-word4 .ensures in
     let d = c .before .before .put-decimal .ensures in
-    result-as (c .before .before .before .before .before .before .before .before .before .before .f .given .1) (joined (omega (arith, w .end)) w (d .0)) (omega (arith, w .end, d .1))
+    written-as word (c .before .before .before .before .before .before .before .before .before .before .f .given .1) (joined (omega (arith, w .end)) w (d .0)) (omega (arith, w .end, d .1))
 
 pub put-result-spec : {M : Type 1} → statement M
 put-result-spec =

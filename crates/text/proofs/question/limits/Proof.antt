@@ -1,5 +1,6 @@
 -- `limits` reads the nodes and the resolution.
-use Rattle.text.proofs.question.Words.{small-some}
+use mathlib.Core.Path.{subst}
+use Rattle.text.specs.Cursor.{SmallRead}
 use Rattle.text.proofs.question.Others.{limits-none, limits-one, limits-two}
 use Rattle.text.specs.Bytes.{bytes}
 use borrow.Author.Needs.{needs}
@@ -32,7 +33,7 @@ line-requires : tie.Need-line-requires
 line-requires c κs =
     let n = c .before .before .before in
     let u = n .before .before in
-    (small-some _ _ _ _ _ (u .small-line .ensures) (n .n .given .1) .1, u .before .before .before .before .pre .1)
+    (subst (SmallRead _ _) (n .n .given .1) (u .small-line .ensures) .1, u .before .before .before .before .pre .1)
 
 enum-known-j : tie.Need-enum-known-j
 enum-known-j c = search needs

@@ -1,5 +1,6 @@
 -- `line` reads a key and the doubles behind it.
-use Rattle.text.proofs.question.Words.{word-some}
+use mathlib.Core.Path.{subst}
+use Rattle.text.specs.Cursor.{WordRead}
 use Rattle.text.proofs.question.Doubles.{line-keyless, line-rest}
 use borrow.Author.Needs.{needs}
 use Rattle.text.proofs.question.line.Statement.{statement}
@@ -23,7 +24,7 @@ returns c =
 values-requires : tie.Need-values-requires
 values-requires c κs =
     let w = c .before .before .before .before in
-    (word-some _ _ _ _ (w .word .ensures) (c .before .before .i .given .1) .0, w .before .before .before .before .pre .1)
+    (subst (WordRead _ _) (c .before .before .i .given .1) (w .word .ensures) .0, w .before .before .before .before .pre .1)
 
 same-length : tie.Need-same-length
 same-length c = search needs

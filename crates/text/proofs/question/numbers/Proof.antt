@@ -1,6 +1,8 @@
 -- `numbers` reads the limits and the shape, and writes their doubles one behind the other.
+use mathlib.Core.Path.{subst}
 use native.Mathlib.Omega.{arith}
-use Rattle.text.proofs.question.Others.{limits-in, numbers-none, numbers-one, numbers-two}
+use Rattle.text.specs.Cursor.{LimitsRead}
+use Rattle.text.proofs.question.Others.{numbers-none, numbers-one, numbers-two}
 use borrow.Author.Needs.{needs}
 use Rattle.text.proofs.question.numbers.Statement.{statement}
 use Rattle.text.proofs.question.numbers.Tie as tie
@@ -29,7 +31,7 @@ shape-requires c κs =
     let u = n .before .before .before .before in
     let k = u .before .before .before .before in
     let a = k .args in
-    (limits-in (a .text .now) _ (a .out .now) (u .limits .last .1 .1 .0) (u .limits .result) _ _ (u .limits .ensures) (n .n .given .1), k .pre .1, k .pre .2, k .pre .3, omega (arith, k .pre .4, u .limits .kept .1 .1 .0))
+    (subst (LimitsRead (a .text .now) _ (a .out .now) (u .limits .last .1 .1 .0)) (n .n .given .1) (u .limits .ensures) .0, k .pre .1, k .pre .2, k .pre .3, omega (arith, k .pre .4, u .limits .kept .1 .1 .0))
 
 enum-known-j : tie.Need-enum-known-j
 enum-known-j c = search needs

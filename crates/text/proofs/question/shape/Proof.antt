@@ -1,7 +1,8 @@
 -- `shape` reads the knots, the points and the box, and writes them one behind the other.
+use mathlib.Core.Path.{subst}
 use Prim.Native.Nat.{_+_, _*_}
 use native.Mathlib.Omega.{arith}
-use Rattle.text.proofs.question.Doubles.{values-some}
+use Rattle.text.specs.Cursor.{ValuesRead}
 use Rattle.text.proofs.question.Others.{few, shape-none, shape-one, shape-two}
 use Rattle.text.specs.Bytes.{bytes}
 use borrow.Author.Needs.{needs}
@@ -54,7 +55,7 @@ lines-requires c κs =
     let u = i .before .before .before .before in
     let a = u .before .before .before .before .before .args in
     let h = few (2 * (a .dim + 1)) (a .count) (omega arith) (omega arith) in
-    (values-some _ _ _ _ _ _ _ _ (u .line .ensures) (i .i .given .1) .0, omega (arith, u .line .kept .1 .1 .1 .1 .0))
+    (subst (ValuesRead _ _ _ _ _ _) (i .i .given .1) (u .line .ensures) .0, omega (arith, u .line .kept .1 .1 .1 .1 .0))
 
 enum-known-j : tie.Need-enum-known-j
 enum-known-j c = search needs
@@ -102,7 +103,7 @@ line-requires-2 c κs =
     let u = v .before .before .before .before .before .before .before .before in
     let a = u .before .before .before .before .before .args in
     let h = few (2 * (a .dim + 1)) (a .count) (omega arith) (omega arith) in
-    (values-some _ _ _ _ _ _ _ _ (v .lines .ensures) (j .j .given .1) .0, omega (arith, v .lines .kept .1 .1 .1 .1 .1 .0, u .line .kept .1 .1 .1 .1 .0))
+    (subst (ValuesRead _ _ _ _ _ _) (j .j .given .1) (v .lines .ensures) .0, omega (arith, v .lines .kept .1 .1 .1 .1 .1 .0, u .line .kept .1 .1 .1 .1 .0))
 
 same-length-3 : tie.Need-same-length-3
 same-length-3 c = search needs

@@ -1,5 +1,6 @@
 -- `sizes` reads the three lines, one behind the other.
-use Rattle.text.proofs.question.Words.{small-some}
+use mathlib.Core.Path.{subst}
+use Rattle.text.specs.Cursor.{SmallRead}
 use Rattle.text.proofs.question.Heads.{sizes-none, sizes-one, sizes-two, sizes-three}
 use Rattle.text.specs.Bytes.{bytes}
 use borrow.Author.Needs.{needs}
@@ -29,7 +30,7 @@ slice-aggregate-small-line-2 : tie.Need-slice-aggregate-small-line-2
 slice-aggregate-small-line-2 c = search needs
 
 small-line-requires-2 : tie.Need-small-line-requires-2
-small-line-requires-2 c κs = small-some _ _ _ _ _ (c .before .before .before .before .small-line .ensures) (c .before .before .d .given .1) .1
+small-line-requires-2 c κs = subst (SmallRead _ _) (c .before .before .d .given .1) (c .before .before .before .before .small-line .ensures) .1
 
 enum-known-p : tie.Need-enum-known-p
 enum-known-p c = search needs
@@ -50,7 +51,7 @@ slice-aggregate-small-line-3 : tie.Need-slice-aggregate-small-line-3
 slice-aggregate-small-line-3 c = search needs
 
 small-line-requires-3 : tie.Need-small-line-requires-3
-small-line-requires-3 c κs = small-some _ _ _ _ _ (c .before .before .before .before .small-line2 .ensures) (c .before .before .p .given .1) .1
+small-line-requires-3 c κs = subst (SmallRead _ _) (c .before .before .p .given .1) (c .before .before .before .before .small-line2 .ensures) .1
 
 enum-known-n : tie.Need-enum-known-n
 enum-known-n c = search needs

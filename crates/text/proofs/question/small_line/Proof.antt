@@ -1,5 +1,7 @@
 -- `small_line` reads a key, a small number and the end of the line.
-use Rattle.text.proofs.question.Words.{word-some, small-some, small-line-keyless, small-line-none, small-line-endless, small-line-whole}
+use mathlib.Core.Path.{subst}
+use Rattle.text.specs.Cursor.{WordRead, SmallRead}
+use Rattle.text.proofs.question.Words.{small-line-keyless, small-line-none, small-line-endless, small-line-whole}
 use borrow.Author.Needs.{needs}
 use Rattle.text.proofs.question.small_line.Statement.{statement}
 use Rattle.text.proofs.question.small_line.Tie as tie
@@ -20,7 +22,7 @@ returns c =
     small-line-keyless (a .text .now) (a .key .now) _ _ (w .word .ensures) (c .enum-told .given .1)
 
 small-requires : tie.Need-small-requires
-small-requires c κs = word-some _ _ _ _ (c .before .before .before .word .ensures) (c .before .i .given .1) .0
+small-requires c κs = subst (WordRead _ _) (c .before .i .given .1) (c .before .before .before .word .ensures) .0
 
 enum-known-n : tie.Need-enum-known-n
 enum-known-n c = search needs
@@ -37,7 +39,7 @@ returns-2 c =
     small-line-none (a .text .now) (a .key .now) _ _ (w .word .ensures) _ (i .i .given .1) _ (s .small .ensures) (c .enum-told2 .given .1)
 
 byte-requires : tie.Need-byte-requires
-byte-requires c κs = small-some _ _ _ _ _ (c .before .before .before .small .ensures) (c .before .n .given .1) .1
+byte-requires c κs = subst (SmallRead _ _) (c .before .n .given .1) (c .before .before .before .small .ensures) .1
 
 enum-known-k : tie.Need-enum-known-k
 enum-known-k c = search needs

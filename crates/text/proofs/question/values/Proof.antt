@@ -1,10 +1,11 @@
 -- `values` reads n doubles. Invariant: the first i were read and written, the others are read from k on.
-use mathlib.Core.Path.{_≡_, refl}
+use mathlib.Core.Path.{_≡_, refl, subst}
 use Prim.Native.Nat.{_-_, _≤_}
 use native.Mathlib.Omega.{arith}
 use lib.ListN.{length, drop, length-set}
 use Rattle.text.specs.Question.{values}
-use Rattle.text.proofs.question.Doubles.{value-found, Taken, values-begin, values-stop, values-turn, values-end}
+use Rattle.text.specs.Cursor.{ValueRead}
+use Rattle.text.proofs.question.Doubles.{Taken, values-begin, values-stop, values-turn, values-end}
 use borrow.Author.Needs.{needs}
 use Rattle.text.proofs.question.values.Statement.{statement}
 use Rattle.text.proofs.question.values.Tie as tie
@@ -51,7 +52,7 @@ returns c =
 double-requires : tie.Need-double-requires Inv-loop μ-loop
 double-requires c κs =
     let v = c .before .before .before in
-    let f = value-found _ _ _ _ _ (v .value .ensures) (c .before .j .given .1) in
+    let f = subst (ValueRead _ _ _) (c .before .j .given .1) (v .value .ensures) in
     (f .1, f .2)
 
 add-out : tie.Need-add-out Inv-loop μ-loop
@@ -77,7 +78,7 @@ loop-again c =
     let e = c .before .before .j .given .1 in (
       omega arith,
       (
-        value-found _ _ _ _ _ (v .value .ensures) e .0,
+        subst (ValueRead _ _ _) e (v .value .ensures) .0,
         (
           simp length-set (l .inv .1 .1 .0),
           values-turn (a .text .now) (a .n) (a .at) (a .to) (a .out .now) (l .i) (l .k) _ (l .out) _ (omega arith) (v .before .behind .ensures) (v .value .ensures) (l .inv .1 .1 .1) _ _ e (c .double .ensures) (omega arith),
