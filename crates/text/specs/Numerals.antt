@@ -1,4 +1,5 @@
--- Document 01: "Small numbers are decimal without leading zeros; doubles are the 16 hexadecimal digits of their bits, either case." How they are read, and how they are written. Definitions only.
+-- Document 01: "Small numbers are decimal without leading zeros; doubles are the 16 hexadecimal digits of their bits, either case."
+-- How they are read, and how they are written. Definitions only.
 use Prim.Native.Nat.{ℕ, zero, suc, _+_, _-_, _*_, _/_, _%_}
 use mathlib.Core.Bool.{Bool, cond, not, _&&_, _||_}
 use mathlib.Core.List.{List, [], _∷_, _++_}
@@ -39,7 +40,10 @@ small t = let n = digits t in cond (isSmall n t) (got (decimalOf (take n t)) (dr
 
 -- The value of a hexadecimal digit of either case, and 16 for any other byte.
 unfoldable pub nibble : ℕ → ℕ
-nibble b = cond (isDigit b) (b - 48) (cond (leb 97 b && leb b 102) (b - 87) (cond (leb 65 b && leb b 70) (b - 55) 16))
+nibble b =
+    cond (isDigit b) (b - 48)
+    (cond (leb 97 b && leb b 102) (b - 87)
+    (cond (leb 65 b && leb b 70) (b - 55) 16))
 
 -- The byte is a hexadecimal digit.
 abbrev pub isHex : ℕ → Bool
@@ -53,9 +57,13 @@ hexOf ds = inBase 16 nibble ds
 unfoldable pub doubleOf : ℕ → Float
 doubleOf b = cond (nanBits binary64 b) nan (ofBits binary64 b)
 
+-- A text begins with sixteen hexadecimal digits.
+abbrev pub isDouble : List ℕ → Bool
+isDouble t = leb 16 (length t) && all isHex (take 16 t)
+
 -- A double: sixteen hexadecimal digits.
 unfoldable pub double : List ℕ → Read Float
-double t = cond (leb 16 (length t) && all isHex (take 16 t)) (got (doubleOf (hexOf (take 16 t))) (drop 16 t)) bad
+double t = cond (isDouble t) (got (doubleOf (hexOf (take 16 t))) (drop 16 t)) bad
 
 -- ---- how they are written
 

@@ -1,6 +1,8 @@
 -- The answer to a text, and the five lines that are printed for it. Definitions only.
 use Prim.Native.Nat.{ℕ}
-use mathlib.Core.List.{List, _++_}
+use mathlib.Core.Bool.{cond}
+use mathlib.Core.List.{List, [], _++_}
+use lib.Dec.{leb}
 use mathlib.Core.Option.{Option, none, some}
 use Rattle.math.specs.declared.scalars.Scalar.{Scalar}
 use Rattle.math.specs.Scalars.{geop}
@@ -35,8 +37,16 @@ boundLines (some x) = bytes "lo=" ++ hexadecimal (x .lo) ++ bytes "\nhi=" ++ hex
 
 -- The five lines.
 unfoldable pub printed : Paper → List ℕ
-printed a = bytes "result=" ++ resultWord (a .result) ++ bytes "\nvisited=" ++ decimal (a .visited) ++ bytes "\npending=" ++ decimal (a .pending) ++ bytes "\n" ++ boundLines (a .bounds)
+printed a =
+    bytes "result=" ++ resultWord (a .result)
+    ++ bytes "\nvisited=" ++ decimal (a .visited)
+    ++ bytes "\npending=" ++ decimal (a .pending)
+    ++ bytes "\n" ++ boundLines (a .bounds)
 
 -- What the program writes for a text.
 unfoldable pub response : List ℕ → List ℕ
 response text = printed (paper (answered text))
+
+-- What is written of it where there are n bytes for it: all of it, or nothing where they are fewer than 160.
+abbrev pub fitting : ℕ → List ℕ → List ℕ
+fitting n text = cond (leb 160 n) (response text) []

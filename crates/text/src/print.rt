@@ -7,7 +7,6 @@ ghost use Prim.Native.Nat.{_+_, _≤_, _<_};
 ghost use lib.ListN.{length};
 ghost use lib.Dec.{T};
 ghost use lib.Ieee.{isNan};
-ghost use Rattle.lists.specs.Lists.{put};
 ghost use Rattle.model.specs.Paper.{paper};
 ghost use Rattle.text.specs.Numerals.{digitOf, lastDigits, decimalLength, decimal, hexadecimal};
 ghost use Rattle.text.specs.Respond.{resultWord, boundLines, printed};
@@ -89,7 +88,9 @@ fn put_double(out: &mut [u8], at: usize, x: f64) -> usize
 // What stands behind `result=`, from `at` on.
 fn put_result(out: &mut [u8], at: usize, f: Found) -> usize
     requires { ⌜ at + 28 ≤ length (now out) ⌝ }
-    ensures { λ r. ⌜ Written (now (out .entry)) at (resultWord (paper f .result)) (now (out .exit)) r × (r ≤ at + 28) ⌝ }
+    ensures { λ r.
+        let l = now (out .entry) in let m = now (out .exit) in
+        ⌜ Written l at (resultWord (paper f .result)) m r × (r ≤ at + 28) ⌝ }
 {
     match f {
         Found::Nothing(_) => {
@@ -139,7 +140,9 @@ fn pending_of(f: Found) -> u64
 // A key and a number, from `at` on.
 fn put_count(out: &mut [u8], at: usize, key: &[u8], n: u64) -> usize
     requires { ⌜ at + length (now key) + 20 ≤ length (now out) ⌝ }
-    ensures { λ r. ⌜ Written (now (out .entry)) at (now (key .entry) ++ decimal n) (now (out .exit)) r × (r ≤ at + length (now (key .entry)) + 20) ⌝ }
+    ensures { λ r.
+        let k = now (key .entry) in let l = now (out .entry) in let m = now (out .exit) in
+        ⌜ Written l at (k ++ decimal n) m r × (r ≤ at + length k + 20) ⌝ }
 {
     let i = put_word(out, at, key);
     put_decimal(out, i, n)
@@ -148,7 +151,9 @@ fn put_count(out: &mut [u8], at: usize, key: &[u8], n: u64) -> usize
 // The lines of the two bounds, from `at` on.
 fn put_bounds(out: &mut [u8], at: usize, f: Found) -> usize
     requires { ⌜ (at + 40 ≤ length (now out)) × Printable f ⌝ }
-    ensures { λ r. ⌜ Written (now (out .entry)) at (boundLines (paper f .bounds)) (now (out .exit)) r × (r ≤ at + 40) ⌝ }
+    ensures { λ r.
+        let l = now (out .entry) in let m = now (out .exit) in
+        ⌜ Written l at (boundLines (paper f .bounds)) m r × (r ≤ at + 40) ⌝ }
 {
     let Found::Enclosed(lo, hi, _) = f else {
         let dashes = [b'l', b'o', b'=', b'-', b'\n', b'h', b'i', b'=', b'-', b'\n'];
@@ -167,7 +172,7 @@ fn put_bounds(out: &mut [u8], at: usize, f: Found) -> usize
 // The five lines of an answer, written to the front of `out`. The result is how many bytes they are.
 pub(crate) fn write(f: Found, out: &mut [u8]) -> usize
     requires { ⌜ (160 ≤ length (now out)) × Printable f ⌝ }
-    ensures { λ r. ⌜ (now (out .exit) ≡ put (now (out .entry)) 0 (printed (paper f))) × (r ≡ length (printed (paper f))) × (r ≤ 160) ⌝ }
+    ensures { λ r. ⌜ Written (now (out .entry)) 0 (printed (paper f)) (now (out .exit)) r × (r ≤ 160) ⌝ }
 {
     let result = [b'r', b'e', b's', b'u', b'l', b't', b'='];
     let i = put_word(out, 0, &result);

@@ -11,7 +11,7 @@ use borrow.Author.Tests.{leb-true, le-leb, lt-leb, eqb-true, eq-eqb, ne-eqb}
 use Rattle.lists.specs.Lists.{part, all}
 use Rattle.lists.proofs.Part.{length-part, getD-part}
 use Rattle.lists.proofs.Fold.{all-turn, all-done}
-use Rattle.text.specs.Numerals.{isDigit, isHex, nibble, doubleOf}
+use Rattle.text.specs.Numerals.{isDigit, isHex, isDouble, nibble, doubleOf}
 use Rattle.text.proofs.numerals.Decimal.{part-all}
 
 -- ---- hexadecimal digits
@@ -37,15 +37,11 @@ hex-known l at i h e g = leb-true _ 15 (part-all isHex l at 16 i h e g)
 
 -- ---- sixteen of them
 
--- what is asked of the text
-abbrev Sixteen : List ℕ → ℕ → Bool
-Sixteen l at = leb 16 (length (drop at l)) && all isHex (part l at 16)
-
 -- it is too short
-pub double-short : (l : List ℕ) (at : ℕ) → length l - at < 16 → false ≡ Sixteen l at
+pub double-short : (l : List ℕ) (at : ℕ) → length l - at < 16 → false ≡ isDouble (drop at l)
 double-short l at h = let e : leb 16 (length (drop at l)) ≡ false = lt-leb 16 (length (drop at l)) (simp length-drop h) in rw e
 
-double-long : (l : List ℕ) (at : ℕ) → at + 16 ≤ length l → all isHex (part l at 16) ≡ Sixteen l at
+double-long : (l : List ℕ) (at : ℕ) → at + 16 ≤ length l → all isHex (part l at 16) ≡ isDouble (drop at l)
 double-long l at h = let e : leb 16 (length (drop at l)) ≡ true = le-leb 16 (length (drop at l)) (simp length-drop (omega arith)) in rw e
 
 -- the walk over them, where those that are left answer for all
@@ -57,7 +53,7 @@ module _ (l : List ℕ) (at i : ℕ) (h : at + 16 ≤ length l) (inv : all isHex
       sym (t ∙ ap (λ (b : Bool). b && all isHex (drop (i + 1) (part l at 16))) k) ∙ inv
 
   -- one is no digit
-  pub walk-stop : (d : ℕ) → d ≡ nibble (getD l (at + i) 0) → i < 16 → 15 < d → false ≡ Sixteen l at
+  pub walk-stop : (d : ℕ) → d ≡ nibble (getD l (at + i) 0) → i < 16 → 15 < d → false ≡ isDouble (drop at l)
   walk-stop d e g f = walk-turn false g (lt-leb _ 15 (subst (λ (k : ℕ). 15 < k) e f)) ∙ double-long l at h
 
   -- one is
@@ -65,7 +61,7 @@ module _ (l : List ℕ) (at i : ℕ) (h : at + 16 ≤ length l) (inv : all isHex
   walk-keep d e g f = walk-turn true g (le-leb _ 15 (subst (λ (k : ℕ). k ≤ 15) e f))
 
   -- none is left
-  pub walk-end : 16 ≤ i → true ≡ Sixteen l at
+  pub walk-end : 16 ≤ i → true ≡ isDouble (drop at l)
   walk-end g = sym (all-done isHex (part l at 16) i (rw (length-part l at 16 h) g)) ∙ inv ∙ double-long l at h
 
 -- ---- the double of some bits

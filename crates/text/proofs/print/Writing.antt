@@ -4,7 +4,7 @@ use mathlib.Core.Logic.{_⊎_, ⊎-elim}
 use mathlib.Core.Option.{Option, none}
 use mathlib.Core.List.{List, [], _∷_, _++_, append-nil, append-assoc}
 use Prim.Native.Nat.{ℕ, zero, suc, _+_, _-_, _/_, _%_, _≤_, _<_}
-use native.Mathlib.Nat.{add-zero, zero-add, add-suc, not-suc-le-zero}
+use native.Mathlib.Nat.{add-zero, add-suc, not-suc-le-zero}
 use native.Mathlib.Numerals.{add-one, sub-one}
 use native.Mathlib.Omega.{arith}
 use lib.ListN.{length, set, length-append}
@@ -142,23 +142,24 @@ dashes-written f {l} {m} {at} {r} k w h = (subst (λ (x : Option Scalar). Writte
 
 -- Five words, one behind the other.
 pub five-joined : {l m₁ m₂ m₃ m₄ m₅ : List ℕ} {at p q r s t : ℕ} {a b c d e : List ℕ} → t ≤ length l
-    → Written l at a m₁ p → Written m₁ p b m₂ q → Written m₂ q c m₃ r → Written m₃ r d m₄ s → Written m₄ s e m₅ t → Written l at (a ++ b ++ c ++ d ++ e) m₅ t
+    → Written l at a m₁ p → Written m₁ p b m₂ q → Written m₂ q c m₃ r → Written m₃ r d m₄ s → Written m₄ s e m₅ t
+    → Written l at (a ++ b ++ c ++ d ++ e) m₅ t
 five-joined h u v w x y = joined (omega arith) (joined (omega arith) (joined (omega arith) (joined (omega arith) u v) w) x) y
 
 -- The five lines: the word of the result behind its key, the two counts, the end of their line, and the lines of the bounds.
-pub printed-written : (f : Found) (v n : ℕ) {l m₁ m₂ m₃ m₄ m₅ m₆ : List ℕ} {p q r s t o : ℕ} → v ≡ paper f .visited → n ≡ paper f .pending → o ≤ length l → o ≤ 160
-    → Written l 0 (bytes "result=") m₁ p → Written m₁ p (resultWord (paper f .result)) m₂ q → Written m₂ q (bytes "\nvisited=" ++ decimal v) m₃ r → Written m₃ r (bytes "\npending=" ++ decimal n) m₄ s
-    → Written m₄ s (bytes "\n") m₅ t → Written m₅ t (boundLines (paper f .bounds)) m₆ o → (m₆ ≡ put l 0 (printed (paper f))) × (o ≡ length (printed (paper f))) × (o ≤ 160)
+pub printed-written : (f : Found) (v n : ℕ) {l m₁ m₂ m₃ m₄ m₅ m₆ : List ℕ} {p q r s t o : ℕ}
+    → v ≡ paper f .visited → n ≡ paper f .pending → o ≤ length l → o ≤ 160
+    → Written l 0 (bytes "result=") m₁ p → Written m₁ p (resultWord (paper f .result)) m₂ q
+    → Written m₂ q (bytes "\nvisited=" ++ decimal v) m₃ r → Written m₃ r (bytes "\npending=" ++ decimal n) m₄ s
+    → Written m₄ s (bytes "\n") m₅ t → Written m₅ t (boundLines (paper f .bounds)) m₆ o
+    → Written l 0 (printed (paper f)) m₆ o × (o ≤ 160)
 unfolding printed
-printed-written f v n {l} d e h k u w x y z b =
+printed-written f v n {l} {m₆ = m₆} {o = o} d e h k u w x y z b =
     let j = joined (omega arith) (five-joined (omega arith) u w x y z) b in
-    let g = group (bytes "result=" ++ resultWord (paper f .result)) (bytes "\nvisited=") (decimal v) (bytes "\npending=") (decimal n) (bytes "\n") (boundLines (paper f .bounds)) ∙ same v n (paper f .visited) (paper f .pending) d e in
-    (j .memory ∙ ap (put l 0) g, j .end ∙ zero-add _ ∙ ap length g, k)
+    let result = bytes "result=" ++ resultWord (paper f .result) in
+    let same = group result (bytes "\nvisited=") (bytes "\npending=") (bytes "\n") (boundLines (paper f .bounds)) d e in
+    (subst (λ (ws : List ℕ). Written l 0 ws m₆ o) same j, k)
   where
-    group : (a c d e f g h : List ℕ) → a ++ (c ++ d) ++ (e ++ f) ++ g ++ h ≡ a ++ c ++ d ++ e ++ f ++ g ++ h
-    group a c d e f g h = simp append-assoc
-
-    same : (v n x y : ℕ) → v ≡ x → n ≡ y
-        → bytes "result=" ++ resultWord (paper f .result) ++ bytes "\nvisited=" ++ decimal v ++ bytes "\npending=" ++ decimal n ++ bytes "\n" ++ boundLines (paper f .bounds)
-        ≡ bytes "result=" ++ resultWord (paper f .result) ++ bytes "\nvisited=" ++ decimal x ++ bytes "\npending=" ++ decimal y ++ bytes "\n" ++ boundLines (paper f .bounds)
-    same v n x y d e = rw (d, e)
+    group : (a c f g h : List ℕ) {v n x y : ℕ} → v ≡ x → n ≡ y
+        → a ++ (c ++ decimal v) ++ (f ++ decimal n) ++ g ++ h ≡ a ++ c ++ decimal x ++ f ++ decimal y ++ g ++ h
+    group a c f g h d e = rw (d, e) (simp append-assoc)

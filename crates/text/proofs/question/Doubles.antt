@@ -1,6 +1,6 @@
 -- Laws of reading doubles: one, a line of them, and several lines; one turn of each loop.
 use mathlib.Core.Path.{_≡_, refl, sym, ap, _∙_, subst}
-use mathlib.Core.Bool.{Bool, true, false, _&&_}
+use mathlib.Core.Bool.{Bool, true, false}
 use mathlib.Core.List.{List, [], _∷_, _++_, append-assoc, append-nil}
 use Prim.Native.Nat.{ℕ, zero, suc, _+_, _-_, _*_, _≤_, _<_}
 use native.Mathlib.Nat.{mul-zero, mul-suc, mul-le-mul-left}
@@ -13,9 +13,9 @@ use lib.Ieee.{Float}
 use Rattle.lists.specs.Lists.{all, part, put}
 use Rattle.lists.proofs.Put.{put-nil, put-put, put-one, length-put}
 use Rattle.text.specs.Bytes.{Read, bad, got, then, word}
-use Rattle.text.specs.Numerals.{isHex, hexOf, doubleOf, double}
+use Rattle.text.specs.Numerals.{isHex, isDouble, hexOf, doubleOf, double}
 use Rattle.text.specs.Question.{behind, values, line, lines}
-use Rattle.text.specs.Cursor.{WordRead, ValueRead, ValuesRead}
+use Rattle.text.specs.Cursor.{WordRead, ValueRead, ValuesAt, ValuesRead}
 use Rattle.text.specs.declared.cursor.Place.{Place}
 use Rattle.text.specs.declared.cursor.Place.the-variants.{Bad, At}
 use Rattle.text.proofs.question.Words.{then-bad, then-got}
@@ -27,7 +27,7 @@ pub behind-more : (n : ℕ) → (n ≡ 0 → ⊥) → 32 ≡ behind n
 behind-more zero h = absurd (h refl)
 behind-more (suc n) h = refl
 
-module _ (text : List ℕ) (at b : ℕ) (r : Bool) (d : r ≡ (leb 16 (length (drop at text)) && all isHex (part text at 16))) where
+module _ (text : List ℕ) (at b : ℕ) (r : Bool) (d : r ≡ isDouble (drop at text)) where
   -- there is no double
   pub value-none : r ≡ false → then (double (drop at text)) (λ x rest. word (b ∷ []) rest) ≡ bad
   unfolding double
@@ -40,7 +40,13 @@ module _ (text : List ℕ) (at b : ℕ) (r : Bool) (d : r ≡ (leb 16 (length (d
   -- there is one, and the byte b behind it or not
   pub value-is : r ≡ true → at + 16 ≤ length text → (q : Place) → WordRead text (word (b ∷ []) (drop (at + 16) text)) q → ValueRead text at b q
   value-is e h Bad w = then-got (double (drop at text)) _ _ _ (reads e) ∙ w
-  value-is e h (At i) w = (w .0, h, both (leb 16 (length (drop at text))) (all isHex (part text at 16)) (sym d ∙ e) .1, reads e, w .1)
+  value-is e h (At i) w = record {
+    inside = w .0;
+    room = h;
+    digits = both (leb 16 (length (drop at text))) (all isHex (part text at 16)) (sym d ∙ e) .1;
+    reads = reads e;
+    goes-on = w .1;
+  }
 
 -- Some doubles, and what is read behind them.
 pub prepend : List Float → Read (List Float) → Read (List Float)
@@ -82,8 +88,14 @@ module _ (whole : Read (List Float)) (to : ℕ) (l : List Float) where
 
   -- nothing is left
   pub taken-all : (left : Read (List Float)) (i n : ℕ) (m : List Float) (text : List ℕ) (p : ℕ) → Taken whole left i to l m → left ≡ got [] (drop p text) → i ≡ n → p ≤ length text
-      → ValuesRead text whole n to l m (At p)
-  taken-all left i n m text p k e f h = (h, k .xs, k .told ∙ ap (prepend (k .xs)) e ∙ prepend-end (k .xs) (drop p text), k .long ∙ f, k .wrote)
+      → ValuesAt text whole n to l m p
+  taken-all left i n m text p k e f h = record {
+    inside = h;
+    xs = k .xs;
+    reads = k .told ∙ ap (prepend (k .xs)) e ∙ prepend-end (k .xs) (drop p text);
+    long = k .long ∙ f;
+    wrote = k .wrote;
+  }
 
   -- some more are taken
   pub taken-more : (left rest : Read (List Float)) (i j at : ℕ) (m : List Float) (ys : List Float) → Taken whole left i to l m → left ≡ prepend ys rest → i + length ys ≡ j → at ≡ to + i → to + j ≤ length l
@@ -130,11 +142,11 @@ module _ (text : List ℕ) (n at to : ℕ) (l : List Float) where
         let v = subst (ValueRead text k b) e read in
         let s : n - i - 1 ≡ n - (i + 1) = omega arith in
         let w : length m ≡ length l = rw (so .wrote) (length-put l to (so .xs) (omega (arith, so .long))) in
-        let o : values (n - i) (drop k text) ≡ prepend (x ∷ []) (values (n - (i + 1)) (drop j text)) = rw (f, ← s) (values-one (n - i) (n - i - 1) (drop k text) (drop (k + 16) text) (drop j text) b _ next sep (v .3) (v .4)) in
+        let o : values (n - i) (drop k text) ≡ prepend (x ∷ []) (values (n - (i + 1)) (drop j text)) = rw (f, ← s) (values-one (n - i) (n - i - 1) (drop k text) (drop (k + 16) text) (drop j text) b _ next sep (v .reads) (v .goes-on)) in
         rw (put-one m (to + i) x (omega arith)) (taken-more (values n (drop at text)) to l _ _ i (i + 1) (to + i) m (x ∷ []) so o refl refl (omega arith))
 
   -- behind the last value
-  pub values-end : (i k : ℕ) (m : List Float) → n ≤ i → i ≤ n → k ≤ length text → Taken (values n (drop at text)) (values (n - i) (drop k text)) i to l m → ValuesRead text (values n (drop at text)) n to l m (At k)
+  pub values-end : (i k : ℕ) (m : List Float) → n ≤ i → i ≤ n → k ≤ length text → Taken (values n (drop at text)) (values (n - i) (drop k text)) i to l m → ValuesAt text (values n (drop at text)) n to l m k
   unfolding values
   values-end i k m g h p so =
       let z : n - i ≡ 0 = omega arith in
@@ -189,16 +201,16 @@ module _ (text key : List ℕ) (n k at to : ℕ) (l : List Float) where
     pub lines-turn : (j : ℕ) → r ≡ At j → to + n * k ≤ length l → (j ≤ length text) × Taken (lines key n k (drop at text)) (lines key n (k - (i + 1)) (drop j text)) (n * (i + 1)) to l w
     lines-turn j e h =
         let v = subst (ValuesRead text (line key n (drop p text)) n (to + n * i) m w) e read in
-        let f : n * i + length (v .1) ≡ n * (i + 1) = rw (v .3, add-one i, mul-suc n i) in
+        let f : n * i + length (v .xs) ≡ n * (i + 1) = rw (v .long, add-one i, mul-suc n i) in
         let g : n * (i + 1) ≤ n * k = rw (add-one i) (mul-le-mul-left n less) in (
-          v .0,
-          rw (v .4)
-              (taken-more (lines key n k (drop at text)) to l _ _ (n * i) (n * (i + 1)) (to + n * i) m (v .1) so (lines-one key n (k - i) (k - (i + 1)) (drop p text) (drop j text) (v .1) left (v .2)) f refl (omega arith)),
+          v .inside,
+          rw (v .wrote)
+              (taken-more (lines key n k (drop at text)) to l _ _ (n * i) (n * (i + 1)) (to + n * i) m (v .xs) so (lines-one key n (k - i) (k - (i + 1)) (drop p text) (drop j text) (v .xs) left (v .reads)) f refl (omega arith)),
         )
 
   -- behind the last line
   pub lines-end : (i p : ℕ) (m : List Float) → k ≤ i → i ≤ k → p ≤ length text → Taken (lines key n k (drop at text)) (lines key n (k - i) (drop p text)) (n * i) to l m
-      → ValuesRead text (lines key n k (drop at text)) (n * k) to l m (At p)
+      → ValuesAt text (lines key n k (drop at text)) (n * k) to l m p
   unfolding lines
   lines-end i p m g h q so =
       let z : k - i ≡ 0 = omega arith in

@@ -7,7 +7,7 @@ use lib.ListN.{drop}
 use lib.Dec.{eqb, leb}
 use Rattle.model.specs.Call.{dimFits, degreeFits, countFits}
 use Rattle.text.specs.Bytes.{bytes, bad, got, then}
-use Rattle.text.specs.Question.{smallLine, sizes, sizesRefused}
+use Rattle.text.specs.Question.{smallLine, sizesOf, sizes, sizesRefused}
 use Rattle.text.specs.Cursor.{SmallRead, HeadRead}
 use Rattle.text.specs.declared.cursor.Small.{Small}
 use Rattle.text.specs.declared.cursor.Small.the-variants.{NoNumber, Number}
@@ -22,7 +22,7 @@ module _ (text : List ℕ) (r : Small) (one : SmallRead text (smallLine (bytes "
   sizes-none e = then-bad (smallLine (bytes "dim=") text) _ (subst (SmallRead text (smallLine (bytes "dim=") text)) e one)
 
   module _ (d i : ℕ) (e : r ≡ Number d i) (q : Small) (two : SmallRead text (smallLine (bytes "degree=") (drop i text)) q) where
-    sizes-next : sizes text ≡ then (smallLine (bytes "degree=") (drop i text)) (λ degree b. then (smallLine (bytes "count=") b) (λ count rest. got (record { dim = d; degree = degree; count = count }) rest))
+    sizes-next : sizes text ≡ then (smallLine (bytes "degree=") (drop i text)) (λ degree b. then (smallLine (bytes "count=") b) (λ count rest. got (sizesOf d degree count) rest))
     unfolding sizes
     sizes-next = then-got (smallLine (bytes "dim=") text) _ d (drop i text) (subst (SmallRead text (smallLine (bytes "dim=") text)) e one .2)
 
@@ -30,7 +30,7 @@ module _ (text : List ℕ) (r : Small) (one : SmallRead text (smallLine (bytes "
     sizes-one f = sizes-next ∙ then-bad (smallLine (bytes "degree=") (drop i text)) _ (subst (SmallRead text (smallLine (bytes "degree=") (drop i text))) f two)
 
     module _ (p j : ℕ) (f : q ≡ Number p j) (z : Small) (three : SmallRead text (smallLine (bytes "count=") (drop j text)) z) where
-      sizes-last : sizes text ≡ then (smallLine (bytes "count=") (drop j text)) (λ count rest. got (record { dim = d; degree = p; count = count }) rest)
+      sizes-last : sizes text ≡ then (smallLine (bytes "count=") (drop j text)) (λ count rest. got (sizesOf d p count) rest)
       sizes-last = sizes-next ∙ then-got (smallLine (bytes "degree=") (drop i text)) _ p (drop j text) (subst (SmallRead text (smallLine (bytes "degree=") (drop i text))) f two .2)
 
       pub sizes-two : z ≡ NoNumber → sizes text ≡ bad
@@ -48,19 +48,19 @@ pub or-no : (a b : Bool) → a ≡ false → b ≡ (a || b)
 or-no a b e = rw e
 
 module _ (dim degree count : ℕ) (d : Bool) (fits : d ≡ (eqb dim 2 || eqb dim 3)) where
-  pub refused-dim : d ≡ false → 1 ≡ sizesRefused (record { dim = dim; degree = degree; count = count })
+  pub refused-dim : d ≡ false → 1 ≡ sizesRefused (sizesOf dim degree count)
   unfolding sizesRefused dimFits
   refused-dim e = rw (sym fits ∙ e)
 
-  pub refused-degree : d ≡ true → leb degree 7 ≡ false → 2 ≡ sizesRefused (record { dim = dim; degree = degree; count = count })
+  pub refused-degree : d ≡ true → leb degree 7 ≡ false → 2 ≡ sizesRefused (sizesOf dim degree count)
   unfolding sizesRefused dimFits degreeFits
   refused-degree e f = rw (sym fits ∙ e, f)
 
   module _ (e : d ≡ true) (f : leb degree 7 ≡ true) (n : Bool) (many : n ≡ (leb (degree + 1) count && leb count 32)) where
-    pub refused-count : n ≡ false → 3 ≡ sizesRefused (record { dim = dim; degree = degree; count = count })
+    pub refused-count : n ≡ false → 3 ≡ sizesRefused (sizesOf dim degree count)
     unfolding sizesRefused dimFits degreeFits countFits
     refused-count g = rw (sym fits ∙ e, f, sym many ∙ g)
 
-    pub refused-not : n ≡ true → 0 ≡ sizesRefused (record { dim = dim; degree = degree; count = count })
+    pub refused-not : n ≡ true → 0 ≡ sizesRefused (sizesOf dim degree count)
     unfolding sizesRefused dimFits degreeFits countFits
     refused-not g = rw (sym fits ∙ e, f, sym many ∙ g)

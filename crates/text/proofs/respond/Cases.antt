@@ -1,15 +1,16 @@
 -- The answer to a text by cases: a refusal, or the answer of the search; and what is written for it.
 use mathlib.Core.Path.{_≡_, refl, sym, ap, _∙_, subst}
 use mathlib.Core.Bool.{Bool, true, false, cond, _&&_, _||_}
-use mathlib.Core.List.{List}
-use Prim.Native.Nat.{ℕ, zero, suc, _+_, _*_, _≤_, _<_}
+use Prim.Native.Nat.{ℕ, zero, suc, _+_, _≤_, _<_}
 use native.Mathlib.Omega.{arith}
 use borrow.Author.Tests.{le-leb, lt-leb, eq-eqb, ne-eqb, eqb-true, leb-true}
 use lib.Dec.{leb, eqb}
-use lib.ListN.{length, drop, getD, length-drop}
+use mathlib.Core.List.{List, []}
+use Rattle.lists.proofs.Put.{put-nil}
+use Rattle.text.specs.Printable.{Written}
+use lib.ListN.{length, drop, length-drop}
 use lib.Seq.{length-take-le}
-use lib.Ieee.{Float, nan}
-use Rattle.lists.specs.Lists.{part, put}
+use lib.Ieee.{Float}
 use Rattle.math.specs.Scalars.{geop}
 use Rattle.math.proofs.Bools.{yes, pick-yes, pick-no}
 use Rattle.model.specs.Call.{searched, dimFits, degreeFits, countFits}
@@ -17,16 +18,16 @@ use Rattle.model.specs.Paper.{paper}
 use Rattle.model.specs.declared.contains.Found.{Found}
 use Rattle.model.specs.declared.contains.Found.the-variants.{Refused}
 use Rattle.text.specs.Bytes.{Read, bad, got}
-use Rattle.text.specs.Question.{Sizes, sizes, Numbers, numbers, refusedBy, asks, callOf, sizesRefused, completeBy, openedBy, readBy, reading}
-use Rattle.text.specs.Respond.{answeredBy, answered, printed, response}
-use Rattle.text.specs.Cursor.{HeadRead, NumbersRead}
+use Rattle.text.specs.Question.{Sizes, sizesOf, sizes, Numbers, numbers, refusedBy, asks, callOf, sizesRefused, completeBy, openedBy, readBy, reading}
+use Rattle.text.specs.Respond.{answeredBy, answered, printed, response, fitting}
+use Rattle.text.specs.Cursor.{HeadRead, NumbersAt, NumbersRead, numbersIn}
 use Rattle.text.specs.Counts.{Counts}
 use Rattle.text.specs.declared.cursor.Head.{Head}
 use Rattle.text.specs.declared.cursor.Head.the-variants.{NoHead, Heads}
 use Rattle.text.specs.declared.cursor.Small.{Small}
 use Rattle.text.specs.declared.cursor.Small.the-variants.{NoNumber, Number}
 use Rattle.text.proofs.numerals.Decimal.{both}
-use Rattle.text.proofs.respond.Lent.{asked-same}
+use Rattle.text.proofs.respond.Lent.{lines-back}
 
 -- ---- the other lines
 
@@ -68,21 +69,20 @@ module _ (s : Sizes) (text : List ℕ) (spec : Read Numbers) (l m : List Float) 
   numbers-bad e = asked-bad s text spec (subst (NumbersRead text spec s l m) e h)
 
   module _ (nodes i : ℕ) (e : r ≡ Number nodes i) where
-    seen : NumbersRead text spec s l m (Number nodes i)
+    seen : NumbersAt text spec s l m nodes i
     seen = subst (NumbersRead text spec s l m) e h
 
     pub numbers-long : 65536 < length text → Refused 12 0 ≡ answeredBy (completeBy s (length text) spec)
-    numbers-long = asked-long s text spec (seen .1) i (seen .2)
+    numbers-long = asked-long s text spec (seen .says) i (seen .reads)
 
     pub numbers-more : length text ≤ 65536 → i < length text → Refused 12 0 ≡ answeredBy (completeBy s (length text) spec)
-    numbers-more = asked-more s text spec (seen .1) i (seen .2)
+    numbers-more = asked-more s text spec (seen .says) i (seen .reads)
 
-    pub numbers-all : (f : Found) → length text ≤ 65536 → length text ≤ i
-        → f ≡ searched geop (callOf s (record { nodes = nodes; resolution = getD m 0 nan; knots = part m 1 (s .count + s .degree + 1); points = part m (1 + (s .count + s .degree + 1)) (2 * suc (s .dim) * s .count); box = part m (1 + (s .count + s .degree + 1) + 2 * suc (s .dim) * s .count) (2 * s .dim) }))
+    pub numbers-all : (f : Found) → length text ≤ 65536 → length text ≤ i → f ≡ searched geop (callOf s (numbersIn s nodes m))
         → f ≡ answeredBy (completeBy s (length text) spec)
     numbers-all f a b F =
         let z = seen in
-        asked-all s text spec (z .1) i (z .2) f a b (asked-same s (z .1) l m nodes (z .3) (z .5) (z .6) (z .7) (z .8) f F)
+        asked-all s text spec (z .says) i (z .reads) f a b (lines-back s (z .says) l m (z .long) (z .wrote) nodes f (z .nodes-same) F)
 
 -- ---- the first three lines
 
@@ -97,7 +97,7 @@ either-small false true d f g e = omega (arith, g refl)
 either-small false false d f g e = absurd (yes false e)
 
 -- sizes that are not refused are small
-pub sizes-fit : (d p n k : ℕ) → k ≡ sizesRefused (record { dim = d; degree = p; count = n }) → k ≡ 0 → (d ≤ 3) × (p ≤ 7) × (n ≤ 32)
+pub sizes-fit : (d p n k : ℕ) → k ≡ sizesRefused (sizesOf d p n) → k ≡ 0 → (d ≤ 3) × (p ≤ 7) × (n ≤ 32)
 unfolding sizesRefused dimFits degreeFits countFits
 sizes-fit d p n k e z =
     let a = passes (eqb d 2 || eqb d 3) (cond (leb p 7) (cond (leb (p + 1) n && leb n 32) 0 3) 2) 0 (sym e ∙ z) in
@@ -112,7 +112,7 @@ module _ (text : List ℕ) (r : Head) (h : HeadRead text (sizes text) r) where
 
   module _ (d p n i : ℕ) (e : r ≡ Heads d p n i) where
     abbrev these : Sizes
-    these = record { dim = d; degree = p; count = n }
+    these = sizesOf d p n
 
     head-seen : HeadRead text (sizes text) (Heads d p n i)
     head-seen = subst (HeadRead text (sizes text)) e h
@@ -139,20 +139,20 @@ module _ (text : List ℕ) (r : Head) (h : HeadRead text (sizes text) r) where
 
 -- ---- what is written
 
-module _ (text l m : List ℕ) (f : Found) (r : ℕ) (F : f ≡ answered text) (M : m ≡ put l 0 (printed (paper f))) (R : r ≡ length (printed (paper f))) (few-bytes : r ≤ 160) (room : 160 ≤ length l)
-    (long : length m ≡ length l) where
-  same-text : printed (paper f) ≡ response text
-  unfolding response
-  same-text = ap (λ (x : Found). printed (paper x)) F
+-- All of it, where there is room.
+pub responds : (text : List ℕ) {l m : List ℕ} {f : Found} {r : ℕ} → f ≡ answered text → 160 ≤ length l → length m ≡ length l → r ≤ 160
+    → Written l 0 (printed (paper f)) m r → Written l 0 (fitting (length l) text) m r × Counts r m
+responds text {l} {m} {f} {r} F room long few w =
+    let whole : printed (paper f) ≡ fitting (length l) text =
+    same ∙ pick-yes (leb 160 (length l)) (response text) [] (le-leb 160 (length l) room) in
+    (subst (λ (x : List ℕ). Written l 0 x m r) whole w, (omega arith, sym (length-take-le r m (omega arith))))
+  where
+    same : printed (paper f) ≡ response text
+    same = unfold response in ap (λ (x : Found). printed (paper x)) F
 
-  pub responds : (r ≡ cond (leb 160 (length l)) (length (response text)) 0) × (Counts r m × (m ≡ cond (leb 160 (length l)) (put l 0 (response text)) l))
-  responds = (
-    R ∙ ap length same-text ∙ pick-yes _ _ _ (le-leb 160 (length l) room),
-    (
-      (omega (arith, long), sym (length-take-le r m (omega (arith, long)))),
-      M ∙ ap (put l 0) same-text ∙ pick-yes _ _ _ (le-leb 160 (length l) room),
-    ),
-  )
-
-pub too-short : (text l : List ℕ) → length l < 160 → (0 ≡ cond (leb 160 (length l)) (length (response text)) 0) × (Counts 0 l × (l ≡ cond (leb 160 (length l)) (put l 0 (response text)) l))
-too-short text l h = (pick-no _ _ _ (lt-leb 160 (length l) h), ((omega arith, sym (length-take-le 0 l (omega arith))), pick-no _ _ _ (lt-leb 160 (length l) h)))
+-- Nothing, where there is not.
+pub too-short : (text l : List ℕ) → length l < 160 → Written l 0 (fitting (length l) text) l 0 × Counts 0 l
+too-short text l h =
+    let nothing : [] ≡ fitting (length l) text = pick-no (leb 160 (length l)) (response text) [] (lt-leb 160 (length l) h) in
+    let w : Written l 0 [] l 0 = record { memory = sym (put-nil l 0); end = refl } in
+    (subst (λ (x : List ℕ). Written l 0 x l 0) nothing w, (omega arith, sym (length-take-le 0 l (omega arith))))

@@ -1,10 +1,12 @@
 -- The numbers of a question: read back from the memory that they were written to, and lent to the search. Leans on the contract of the search.
 use mathlib.Core.Path.{_≡_, refl, sym, ap, _∙_}
 use mathlib.Core.List.{List, [], _∷_, _++_, append-assoc, append-nil}
-use Prim.Native.Nat.{ℕ, suc, _+_, _*_, _≤_}
+use Prim.Native.Nat.{ℕ, _+_, _*_, _≤_}
 use native.Mathlib.Omega.{arith}
 use lib.ListN.{length, take, drop, getD, length-append}
-use lib.Ieee.{Float, nan, le}
+use lib.Dec.{T}
+use lib.Ieee.{Float, nan, isNan, le}
+use mathlib.Core.Bool.{not, _&&_}
 use Rattle.lists.specs.Lists.{part, put}
 use Rattle.lists.proofs.Read.{part-put-in, getD-put}
 use Rattle.math.specs.Scalars.{geop}
@@ -15,20 +17,36 @@ use Rattle.model.specs.Call.{lent, searched}
 use Rattle.model.specs.Enclosure.{BoundsInDomain}
 use Rattle.model.specs.declared.contains.Found.{Found}
 use Rattle.model.specs.declared.contains.Found.the-variants.{Nothing, Enclosed, Spent, Refused}
-use Rattle.text.specs.Question.{Sizes, Numbers, callOf}
+use Rattle.text.specs.Question.{Sizes, knotDoubles, pointDoubles, boxDoubles, Numbers, callOf}
+use Rattle.text.specs.Cursor.{Long, laid, numbersIn}
 use Rattle.text.specs.Printable.{Printable}
 
--- the numbers of a question, as the code cuts them out of the memory
-pub search-same : (r : Found) (d p n nodes : ℕ) (l work ks ps bs : List Float) (x : Float) → ks ≡ part l 1 (n + p + 1) → ps ≡ part l (1 + (n + p + 1)) (2 * suc d * n)
-    → bs ≡ part l (1 + (n + p + 1) + 2 * suc d * n) (2 * d) → x ≡ getD l 0 nan → 8192 ≡ length work → r ≡ searched geop (lent d p n ks ps bs x nodes work)
-    → r ≡ searched geop (callOf (record { dim = d; degree = p; count = n }) (record { nodes = nodes; resolution = getD l 0 nan; knots = part l 1 (n + p + 1); points = part l (1 + (n + p + 1)) (2 * suc d * n); box = part l (1 + (n + p + 1) + 2 * suc d * n) (2 * d) }))
-search-same r d p n nodes l work ks ps bs x K P B X W R =
-    R ∙ ap (searched geop) (λ i. record { dim = d; degree = p; count = n; knots = K i; points = P i; box = B i; resolution = X i; nodes = nodes; room = sym W i })
+-- the numbers that the code cuts out of the memory and lends are those of the question
+pub lines-same : (r : Found) (s : Sizes) (nodes : ℕ) (l work ks ps bs : List Float) → ks ≡ numbersIn s nodes l .knots
+    → ps ≡ numbersIn s nodes l .points → bs ≡ numbersIn s nodes l .box → 8192 ≡ length work
+    → r ≡ searched geop (lent (s .dim) (s .degree) (s .count) ks ps bs (getD l 0 nan) nodes work)
+    → r ≡ searched geop (callOf s (numbersIn s nodes l))
+lines-same r s nodes l work ks ps bs K P B W R =
+    R
+    ∙ ap (searched geop) (λ i. record {
+      dim = s .dim;
+      degree = s .degree;
+      count = s .count;
+      knots = K i;
+      points = P i;
+      box = B i;
+      resolution = getD l 0 nan;
+      nodes = nodes;
+      room = sym W i;
+    })
 
 -- a bound that lies in a domain is no NaN
 pub printable : (c : Piece) (p : ℕ) (r : Found) → BoundsInDomain c p r → Printable r
 printable c p (Nothing v) h = tt
-printable c p (Enclosed lo hi v) h = (le-number-r (start p c) lo (and-l (le (start p c) lo) (le lo (end c)) (h .0)), le-number-r (start p c) hi (and-l (le (start p c) hi) (le hi (end c)) (h .1)))
+printable c p (Enclosed lo hi v) h = (number lo (h .0), number hi (h .1))
+  where
+    number : (x : Float) → T (le (start p c) x && le x (end c)) → T (not (isNan x))
+    number x k = le-number-r (start p c) x (and-l (le (start p c) x) (le x (end c)) k)
 printable c p (Spent n v) h = tt
 printable c p (Refused n v) h = tt
 
@@ -51,36 +69,59 @@ module _ {A : Type 0} where
 
 -- ---- the numbers of a question, read back from the memory that they were written to
 
-module _ (s : Sizes) (q : Numbers) (l m : List Float) (nodes : ℕ) (N : q .nodes ≡ nodes) (K : length (q .knots) ≡ s .count + s .degree + 1) (P : length (q .points) ≡ 2 * suc (s .dim) * s .count)
-    (B : length (q .box) ≡ 2 * s .dim) (M : m ≡ put l 0 (q .resolution ∷ (q .knots ++ q .points ++ q .box))) where
-  abbrev all-of : List Float
-  all-of = q .resolution ∷ (q .knots ++ q .points ++ q .box)
+module _ (s : Sizes) (q : Numbers) (l m : List Float) (long : Long s (q .knots) (q .points) (q .box)) (M : m ≡ put l 0 (laid q)) where
+  -- Where the points begin, and where the box does.
+  abbrev at-points : ℕ
+  at-points = 1 + knotDoubles s
 
-  joined : all-of ≡ q .resolution ∷ (q .knots ++ (q .points ++ q .box))
+  abbrev at-box : ℕ
+  at-box = at-points + pointDoubles s * s .count
+
+  joined : laid q ≡ q .resolution ∷ (q .knots ++ (q .points ++ q .box))
   joined = ap (λ (t : List Float). q .resolution ∷ t) (append-assoc (q .knots) (q .points) (q .box))
 
-  all-long : length all-of ≡ 1 + (s .count + s .degree + 1) + 2 * suc (s .dim) * s .count + 2 * s .dim
-  all-long = omega (arith, length-append (q .knots ++ q .points) (q .box), length-append (q .knots) (q .points), K, P, B)
+  all-long : length (laid q) ≡ at-box + boxDoubles s
+  all-long =
+      omega (
+        arith,
+        length-append (q .knots ++ q .points) (q .box),
+        length-append (q .knots) (q .points),
+        long .knots-long,
+        long .points-long,
+        long .box-long,
+      )
 
-  cut : (a w : ℕ) → a + w ≤ length all-of → part m a w ≡ part all-of a w
-  cut a w h = ap (λ (x : List Float). part x a w) M ∙ part-written l all-of a w h
+  cut : (a w : ℕ) → a + w ≤ length (laid q) → part m a w ≡ part (laid q) a w
+  cut a w h = ap (λ (x : List Float). part x a w) M ∙ part-written l (laid q) a w h
 
-  knots-back : part m 1 (s .count + s .degree + 1) ≡ q .knots
-  knots-back = cut 1 (s .count + s .degree + 1) (omega (arith, all-long)) ∙ part-middle (q .resolution ∷ []) (q .knots) (q .points ++ q .box) all-of _ _ joined refl K
+  knots-back : part m 1 (knotDoubles s) ≡ q .knots
+  knots-back =
+      cut 1 (knotDoubles s) (omega (arith, all-long))
+      ∙ part-middle (q .resolution ∷ []) (q .knots) (q .points ++ q .box) (laid q) _ _ joined refl (long .knots-long)
 
-  points-back : part m (1 + (s .count + s .degree + 1)) (2 * suc (s .dim) * s .count) ≡ q .points
-  points-back = cut (1 + (s .count + s .degree + 1)) (2 * suc (s .dim) * s .count) (omega (arith, all-long)) ∙ part-middle (q .resolution ∷ q .knots) (q .points) (q .box) all-of (1 + (s .count + s .degree + 1)) _ joined (omega (arith, K)) P
+  points-back : part m at-points (pointDoubles s * s .count) ≡ q .points
+  points-back =
+      cut at-points (pointDoubles s * s .count) (omega (arith, all-long))
+      ∙ part-middle (q .resolution ∷ q .knots) (q .points) (q .box) (laid q) at-points _ joined (omega (arith, long .knots-long)) (long .points-long)
 
-  box-back : part m (1 + (s .count + s .degree + 1) + 2 * suc (s .dim) * s .count) (2 * s .dim) ≡ q .box
+  box-back : part m at-box (boxDoubles s) ≡ q .box
   box-back =
-      cut (1 + (s .count + s .degree + 1) + 2 * suc (s .dim) * s .count) (2 * s .dim) (omega (arith, all-long))
-      ∙ part-middle (q .resolution ∷ (q .knots ++ q .points)) (q .box) [] all-of (1 + (s .count + s .degree + 1) + 2 * suc (s .dim) * s .count) _ (ap (λ (t : List Float). q .resolution ∷ (q .knots ++ q .points ++ t)) (sym (append-nil (q .box))))
-      (omega (arith, length-append (q .knots) (q .points), K, P)) B
+      let last : laid q ≡ q .resolution ∷ (q .knots ++ q .points ++ (q .box ++ [])) =
+      ap (λ (t : List Float). q .resolution ∷ (q .knots ++ q .points ++ t)) (sym (append-nil (q .box))) in
+      cut at-box (boxDoubles s) (omega (arith, all-long))
+      ∙ part-middle (q .resolution ∷ (q .knots ++ q .points)) (q .box) [] (laid q) at-box _ last
+      (omega (arith, length-append (q .knots) (q .points), long .knots-long, long .points-long)) (long .box-long)
 
   resolution-back : getD m 0 nan ≡ q .resolution
-  resolution-back = ap (λ (x : List Float). getD x 0 nan) M ∙ getD-put l 0 all-of 0 nan (omega (arith, all-long)) (omega arith)
+  resolution-back = ap (λ (x : List Float). getD x 0 nan) M ∙ getD-put l 0 (laid q) 0 nan (omega (arith, all-long)) (omega arith)
 
-  pub asked-same : (r : Found)
-      → r ≡ searched geop (callOf s (record { nodes = nodes; resolution = getD m 0 nan; knots = part m 1 (s .count + s .degree + 1); points = part m (1 + (s .count + s .degree + 1)) (2 * suc (s .dim) * s .count); box = part m (1 + (s .count + s .degree + 1) + 2 * suc (s .dim) * s .count) (2 * s .dim) }))
-      → r ≡ searched geop (callOf s q)
-  asked-same r R = R ∙ (λ i. searched geop (callOf s (record { nodes = sym N i; resolution = resolution-back i; knots = knots-back i; points = points-back i; box = box-back i })))
+  pub lines-back : (nodes : ℕ) (r : Found) → q .nodes ≡ nodes → r ≡ searched geop (callOf s (numbersIn s nodes m)) → r ≡ searched geop (callOf s q)
+  lines-back nodes r N R =
+      R
+      ∙ (λ i. searched geop (callOf s (record {
+        nodes = sym N i;
+        resolution = resolution-back i;
+        knots = knots-back i;
+        points = points-back i;
+        box = box-back i;
+      })))

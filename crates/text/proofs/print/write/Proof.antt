@@ -49,15 +49,22 @@ same-length c = search needs
 returns : tie.Need-returns
 unfolding bytes
 returns c =
-    let g = c .before .before .before .before .before .before .before .before .before .before .before .before .before .before .before .before .before .before .before .before .before .before .before .before .before .before .before .before .before .before .before in
-    let u = c .before .before .before .before .before .before .before .before .before .before .before .before .before .before .before .before .before .before .before .before .before .before .before .before .before .before .before .put-word .ensures in
-    let w = c .before .before .before .before .before .before .before .before .before .before .before .before .before .before .before .before .before .before .before .before .before .before .before .put-result .ensures in
-    let x = c .before .before .before .before .before .before .before .before .before .before .before .before .before .before .before .before .before .put-count .ensures in
-    let y = c .before .before .before .before .before .before .before .before .before .before .before .put-count2 .ensures in
-    let z = c .before .before .before .before .before .before .put-word2 .ensures in
-    let b = c .before .before .put-bounds .ensures in
-    let h : c .before .before .put-bounds .result ≤ 160 = omega (arith, u .end, w .1, x .1, y .1, z .end, b .1) in
-    printed-written (g .args .f) _ _ (c .before .before .before .before .before .before .before .before .before .before .before .before .before .before .before .before .before .before .visited-of .ensures) (c .before .before .before .before .before .before .before .before .before .before .before .before .pending-of .ensures) (omega (arith, h, g .pre .0)) h u (w .0) (x .0) (y .0) z (b .0)
+    let bounds = c .before .before in
+    let end = bounds .before .before .before .before in
+    let pending = end .before .before .before .before .before in
+    let visited = pending .before .before .before .before .before .before in
+    let result = visited .before .before .before .before .before .before in
+    let key = result .before .before .before .before in
+    let g = key .before .before .before .before in
+    let u = key .put-word .ensures in
+    let w = result .put-result .ensures in
+    let x = visited .put-count .ensures in
+    let y = pending .put-count2 .ensures in
+    let z = end .put-word2 .ensures in
+    let b = bounds .put-bounds .ensures in
+    let h : bounds .put-bounds .result ≤ 160 = omega (arith, u .end, w .1, x .1, y .1, z .end, b .1) in
+    printed-written (g .args .f) _ _ (visited .before .visited-of .ensures) (pending .before .pending-of .ensures)
+    (omega (arith, h, g .pre .0)) h u (w .0) (x .0) (y .0) z (b .0)
 
 pub write-spec : {M : Type 1} → statement M
 write-spec =

@@ -3,6 +3,7 @@ use mathlib.Core.Path.{subst}
 use native.Mathlib.Omega.{arith}
 use Rattle.text.specs.Cursor.{LimitsRead}
 use Rattle.text.proofs.question.Others.{numbers-none, numbers-one, numbers-two}
+use Rattle.text.specs.Question.{sizesOf}
 use borrow.Author.Needs.{needs}
 use Rattle.text.proofs.question.numbers.Statement.{statement}
 use Rattle.text.proofs.question.numbers.Tie as tie
@@ -23,7 +24,7 @@ returns : tie.Need-returns
 returns c =
     let u = c .before .before .before .before in
     let a = u .before .before .before .before .args in
-    numbers-none (a .text .now) _ (record { dim = a .dim; degree = a .degree; count = a .count }) (a .out .now) (u .limits .last .1 .1 .0) (u .limits .result) (u .limits .ensures) (c .enum-told .given .1)
+    numbers-none (a .text .now) _ (sizesOf (a .dim) (a .degree) (a .count)) (a .out .now) (u .limits .last .1 .1 .0) (u .limits .result) (u .limits .ensures) (c .enum-told .given .1)
 
 shape-requires : tie.Need-shape-requires
 shape-requires c κs =
@@ -31,7 +32,7 @@ shape-requires c κs =
     let u = n .before .before .before .before in
     let k = u .before .before .before .before in
     let a = k .args in
-    (subst (LimitsRead (a .text .now) _ (a .out .now) (u .limits .last .1 .1 .0)) (n .n .given .1) (u .limits .ensures) .0, k .pre .1, k .pre .2, k .pre .3, omega (arith, k .pre .4, u .limits .kept .1 .1 .0))
+    (subst (LimitsRead (a .text .now) _ (a .out .now) (u .limits .last .1 .1 .0)) (n .n .given .1) (u .limits .ensures) .inside, k .pre .1, k .pre .2, k .pre .3, omega (arith, k .pre .4, u .limits .kept .1 .1 .0))
 
 enum-known-j : tie.Need-enum-known-j
 enum-known-j c = search needs
@@ -48,7 +49,7 @@ returns-2 c =
     let n = v .before .before .before in
     let u = n .before .before .before .before in
     let a = u .before .before .before .before .args in
-    numbers-one (a .text .now) _ (record { dim = a .dim; degree = a .degree; count = a .count }) (a .out .now) (u .limits .last .1 .1 .0) (u .limits .result) (u .limits .ensures) _ _ (n .n .given .1) (v .shape .last .1 .1 .1 .1 .1 .0) (v .shape .result) (v .shape .ensures) (c .enum-told2 .given .1)
+    numbers-one (a .text .now) _ (sizesOf (a .dim) (a .degree) (a .count)) (a .out .now) (u .limits .last .1 .1 .0) (u .limits .result) (u .limits .ensures) _ _ (n .n .given .1) (v .shape .last .1 .1 .1 .1 .1 .0) (v .shape .result) (v .shape .ensures) (c .enum-told2 .given .1)
 
 same-length-3 : tie.Need-same-length-3
 same-length-3 c = search needs
@@ -61,7 +62,7 @@ returns-3 c =
     let u = n .before .before .before .before in
     let k = u .before .before .before .before in
     let a = k .args in
-    numbers-two (a .text .now) _ (record { dim = a .dim; degree = a .degree; count = a .count }) (a .out .now) (u .limits .last .1 .1 .0) (u .limits .result) (u .limits .ensures) _ _ (n .n .given .1) (v .shape .last .1 .1 .1 .1 .1 .0) (v .shape .result) (v .shape .ensures) _ (j .j .given .1) (omega (arith, k .pre .4))
+    numbers-two (a .text .now) _ (sizesOf (a .dim) (a .degree) (a .count)) (a .out .now) (u .limits .last .1 .1 .0) (u .limits .result) (u .limits .ensures) _ _ (n .n .given .1) (v .shape .last .1 .1 .1 .1 .1 .0) (v .shape .result) (v .shape .ensures) _ (j .j .given .1) (omega (arith, k .pre .4))
 
 pub numbers-spec : {M : Type 1} → statement M
 numbers-spec =

@@ -53,7 +53,7 @@ double-requires : tie.Need-double-requires Inv-loop μ-loop
 double-requires c κs =
     let v = c .before .before .before in
     let f = subst (ValueRead _ _ _) (c .before .j .given .1) (v .value .ensures) in
-    (f .1, f .2)
+    (f .room, f .digits)
 
 add-out : tie.Need-add-out Inv-loop μ-loop
 add-out c = omega arith
@@ -78,7 +78,7 @@ loop-again c =
     let e = c .before .before .j .given .1 in (
       omega arith,
       (
-        subst (ValueRead _ _ _) e (v .value .ensures) .0,
+        subst (ValueRead _ _ _) e (v .value .ensures) .inside,
         (
           simp length-set (l .inv .1 .1 .0),
           values-turn (a .text .now) (a .n) (a .at) (a .to) (a .out .now) (l .i) (l .k) _ (l .out) _ (omega arith) (v .before .behind .ensures) (v .value .ensures) (l .inv .1 .1 .1) _ _ e (c .double .ensures) (omega arith),

@@ -1,16 +1,17 @@
--- `search` asks what its numbers say.
-use mathlib.Core.Path.{_≡_, refl, ap, _∙_}
+-- `ask_lines` asks what its numbers say.
+use mathlib.Core.Path.{_≡_, ap, _∙_}
 use Prim.Native.Nat.{ℕ, suc, _+_, _-_, _*_}
 use native.Mathlib.Omega.{arith}
 use lib.ListN.{getD}
 use lib.Ieee.{nan}
 use Rattle.lists.specs.Lists.{part}
 use Rattle.model.specs.Call.{curve, lent}
-use Rattle.text.proofs.question.Others.{few}
-use Rattle.text.proofs.respond.Lent.{search-same, printable}
+use Rattle.text.specs.Question.{sizesOf}
+use Rattle.text.proofs.question.Others.{few-numbers}
+use Rattle.text.proofs.respond.Lent.{lines-same, printable}
 use borrow.Author.Needs.{needs}
-use Rattle.text.proofs.respond.search.Statement.{statement}
-use Rattle.text.proofs.respond.search.Tie as tie
+use Rattle.text.proofs.respond.ask_lines.Statement.{statement}
+use Rattle.text.proofs.respond.ask_lines.Tie as tie
 
 area-requires : tie.Need-area-requires
 area-requires c κs = search needs
@@ -31,16 +32,16 @@ mul-p : tie.Need-mul-p
 mul-p c = search needs
 
 mul-p-2 : tie.Need-mul-p-2
-mul-p-2 c = let g = c .before .before .args in omega (arith, few (2 * (g .dim + 1)) (g .count) (omega arith) (omega arith))
+mul-p-2 c = let g = c .before .before .args in omega (arith, few-numbers (2 * (g .dim + 1)) (g .count) (omega arith) (omega arith))
 
 add-p-2 : tie.Need-add-p-2
-add-p-2 c = let g = c .before .before .args in omega (arith, few (2 * (g .dim + 1)) (g .count) (omega arith) (omega arith))
+add-p-2 c = let g = c .before .before .args in omega (arith, few-numbers (2 * (g .dim + 1)) (g .count) (omega arith) (omega arith))
 
 mul-b : tie.Need-mul-b
 mul-b c = search needs
 
 add-b : tie.Need-add-b
-add-b c = let g = c .before .before .args in omega (arith, few (2 * (g .dim + 1)) (g .count) (omega arith) (omega arith))
+add-b c = let g = c .before .before .args in omega (arith, few-numbers (2 * (g .dim + 1)) (g .count) (omega arith) (omega arith))
 
 sub-curve-could-contain : tie.Need-sub-curve-could-contain
 sub-curve-could-contain c = search needs
@@ -61,10 +62,10 @@ part-curve-could-contain-start-2 : tie.Need-part-curve-could-contain-start-2
 part-curve-could-contain-start-2 c = search needs
 
 part-curve-could-contain-end-2 : tie.Need-part-curve-could-contain-end-2
-part-curve-could-contain-end-2 c = let g = c .before .before .before .args in omega (arith, few (2 * (g .dim + 1)) (g .count) (omega arith) (omega arith))
+part-curve-could-contain-end-2 c = let g = c .before .before .before .args in omega (arith, few-numbers (2 * (g .dim + 1)) (g .count) (omega arith) (omega arith))
 
 mul-curve-could-contain-2 : tie.Need-mul-curve-could-contain-2
-mul-curve-could-contain-2 c = let g = c .before .before .before .before .args in omega (arith, few (2 * (g .dim + 1)) (g .count) (omega arith) (omega arith))
+mul-curve-could-contain-2 c = let g = c .before .before .before .before .args in omega (arith, few-numbers (2 * (g .dim + 1)) (g .count) (omega arith) (omega arith))
 
 sub-curve-could-contain-3 : tie.Need-sub-curve-could-contain-3
 sub-curve-could-contain-3 c = search needs
@@ -73,7 +74,7 @@ part-curve-could-contain-start-3 : tie.Need-part-curve-could-contain-start-3
 part-curve-could-contain-start-3 c = search needs
 
 part-curve-could-contain-end-3 : tie.Need-part-curve-could-contain-end-3
-part-curve-could-contain-end-3 c = let g = c .before .before .before .before .args in omega (arith, few (2 * (g .dim + 1)) (g .count) (omega arith) (omega arith))
+part-curve-could-contain-end-3 c = let g = c .before .before .before .before .args in omega (arith, few-numbers (2 * (g .dim + 1)) (g .count) (omega arith) (omega arith))
 
 shared-slice-read-curve-could-contain : tie.Need-shared-slice-read-curve-could-contain
 shared-slice-read-curve-could-contain c = search needs
@@ -86,25 +87,33 @@ curve-could-contain-requires c κs = search needs
 
 returns : tie.Need-returns
 returns c =
-    let g = c .before .before .before .before .before .before .before .before .before .args in
+    let asked = c .before in
+    let at-area = asked .before .before .before .before .before .before in
+    let g = at-area .before .before .args in
     let l = g .lines .now in
-    let q = c .before .curve-could-contain .ensures in
+    let work = at-area .area .result in
     let K : ℕ = g .count + g .degree + 1 in
     let P : ℕ = 2 * (g .dim + 1) * g .count in
     let one : g .dim + 1 ≡ suc (g .dim) = omega arith in
-    let e : P ≡ 2 * suc (g .dim) * g .count = ap (λ (k : ℕ). 2 * k * g .count) one in (
-      search-same (c .before .curve-could-contain .result) (g .dim) (g .degree) (g .count) (g .nodes) l (c .before .before .before .before .before .before .before .area .result) _ _ _ _
-          (let a : 1 + K - 1 ≡ K = omega arith in ap (part l 1) a)
-          (let a : 1 + K + P - (1 + K) ≡ P = omega arith in ap (part l (1 + K)) (a ∙ e))
-          (let a : 1 + K + P + 2 * g .dim - (1 + K + P) ≡ 2 * g .dim = omega arith in (λ i. part l (1 + K + e i) (a i)))
-          refl
-          (c .before .before .before .before .before .before .before .area .ensures)
-          (q .0),
-      printable (curve (lent (g .dim) (g .degree) (g .count) (part l 1 (1 + K - 1)) (part l (1 + K) (1 + K + P - (1 + K))) (part l (1 + K + P) (1 + K + P + 2 * g .dim - (1 + K + P))) (getD l 0 nan) (g .nodes) (c .before .before .before .before .before .before .before .area .result))) (g .degree) (c .before .curve-could-contain .result) (q .1 .1 .1 .1 .0 .0),
+    let e : P ≡ 2 * suc (g .dim) * g .count = ap (λ (k : ℕ). 2 * k * g .count) one in
+    let long-knots : 1 + K - 1 ≡ K = omega arith in
+    let long-points : 1 + K + P - (1 + K) ≡ P = omega arith in
+    let long-box : 1 + K + P + 2 * g .dim - (1 + K + P) ≡ 2 * g .dim = omega arith in
+    let ks = part l 1 (1 + K - 1) in
+    let ps = part l (1 + K) (1 + K + P - (1 + K)) in
+    let bs = part l (1 + K + P) (1 + K + P + 2 * g .dim - (1 + K + P)) in (
+      lines-same (asked .curve-could-contain .result) (sizesOf (g .dim) (g .degree) (g .count)) (g .nodes) l work ks ps bs
+          (ap (part l 1) long-knots)
+          (ap (part l (1 + K)) (long-points ∙ e))
+          (λ i. part l (1 + K + e i) (long-box i))
+          (at-area .area .ensures)
+          (asked .curve-could-contain .ensures .0),
+      printable (curve (lent (g .dim) (g .degree) (g .count) ks ps bs (getD l 0 nan) (g .nodes) work)) (g .degree)
+          (asked .curve-could-contain .result) (asked .curve-could-contain .ensures .1 .1 .1 .1 .0 .0),
     )
 
-pub search-spec : {M : Type 1} → statement M
-search-spec =
+pub ask-lines-spec : {M : Type 1} → statement M
+ask-lines-spec =
     tie.close
     (tie.spec
     area-requires
