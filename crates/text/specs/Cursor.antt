@@ -8,7 +8,8 @@ use lib.Ieee.{Float, nan}
 use Rattle.lists.specs.Lists.{all, part, put}
 use Rattle.text.specs.Bytes.{bytes, Read, bad, got, then, word}
 use Rattle.text.specs.Numerals.{isHex, hexOf, doubleOf, double}
-use Rattle.text.specs.Question.{smallLine, line, lines, Sizes, sizesOf, knotDoubles, pointDoubles, boxDoubles, Numbers}
+use Rattle.text.specs.Question.{smallLine, line, lines}
+use Rattle.text.specs.Question.{Sizes, sizesOf, knotDoubles, pointDoubles, boxDoubles, Numbers}
 use Rattle.text.specs.declared.cursor.Place.{Place}
 use Rattle.text.specs.declared.cursor.Place.the-variants.{Bad, At}
 use Rattle.text.specs.declared.cursor.Small.{Small}

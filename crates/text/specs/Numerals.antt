@@ -1,4 +1,5 @@
--- Document 01: "Small numbers are decimal without leading zeros; doubles are the 16 hexadecimal digits of their bits, either case."
+-- Document 01: "Small numbers are decimal without leading zeros;
+-- doubles are the 16 hexadecimal digits of their bits, either case."
 -- How they are read, and how they are written. Definitions only.
 use Prim.Native.Nat.{ℕ, zero, suc, _+_, _-_, _*_, _/_, _%_}
 use mathlib.Core.Bool.{Bool, cond, not, _&&_, _||_}

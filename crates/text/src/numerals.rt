@@ -6,7 +6,8 @@ ghost use Prim.Native.Nat.{_+_, _≤_};
 ghost use lib.ListN.{length, drop};
 ghost use lib.Dec.{leb};
 ghost use Rattle.lists.specs.Lists.{part, all};
-ghost use Rattle.text.specs.Numerals.{isDigit, isSmall, isHex, isDouble, digits, decimalOf, small, nibble, hexOf, doubleOf};
+ghost use Rattle.text.specs.Numerals.{isDigit, digits, decimalOf, isSmall, small};
+ghost use Rattle.text.specs.Numerals.{nibble, isHex, hexOf, isDouble, doubleOf};
 ghost use Rattle.text.specs.Cursor.{SmallRead};
 
 // The byte is from low to high.

@@ -8,11 +8,12 @@ use crate::numerals::small;
 ghost use mathlib.Core.Path.{_≡_};
 ghost use mathlib.Core.Bool.{_&&_, _||_};
 ghost use mathlib.Core.List.{[], _∷_};
-ghost use Prim.Native.Nat.{_+_, _*_, _≤_, _<_};
+ghost use Prim.Native.Nat.{_+_, _*_, _≤_};
 ghost use lib.ListN.{length, drop};
 ghost use lib.Dec.{leb, eqb};
 ghost use Rattle.text.specs.Bytes.{word};
-ghost use Rattle.text.specs.Question.{behind, smallLine, values, line, lines, sizesOf, sizes, sizesRefused, numbers};
+ghost use Rattle.text.specs.Question.{behind, smallLine, values, line, lines};
+ghost use Rattle.text.specs.Question.{sizesOf, sizes, sizesRefused, numbers};
 ghost use Rattle.text.specs.Cursor.{WordRead, SmallRead, HeadRead, ValueRead, ValuesRead};
 ghost use Rattle.text.specs.Cursor.{LimitsRead, ShapeRead, NumbersRead};
 
@@ -196,7 +197,9 @@ pub(crate) fn sizes_refused(dim: usize, degree: usize, count: usize) -> usize
 // The line of the nodes and that of the resolution, which is written to the front of `out`.
 fn limits(text: &[u8], at: usize, out: &mut [f64]) -> Small
     requires { ⌜ (at ≤ length (now text)) × (1 ≤ length (now out)) ⌝ }
-    ensures { λ r. ⌜ LimitsRead (now (text .entry)) (drop at (now (text .entry))) (now (out .entry)) (now (out .exit)) r ⌝ }
+    ensures { λ r.
+        let t = now (text .entry) in
+        ⌜ LimitsRead t (drop at t) (now (out .entry)) (now (out .exit)) r ⌝ }
 {
     let nodes = [b'n', b'o', b'd', b'e', b's', b'='];
     let Small::Number(n, i) = small_line(text, at, &nodes) else {

@@ -8,7 +8,7 @@ use crate::question::sizes_refused;
 use geometry::contains::curve_could_contain;
 use model::contains::Found;
 ghost use mathlib.Core.Path.{_≡_};
-ghost use Prim.Native.Nat.{_+_, _*_, _≤_};
+ghost use Prim.Native.Nat.{_≤_};
 ghost use lib.ListN.{length, drop};
 ghost use Rattle.math.specs.Scalars.{geop};
 ghost use Rattle.model.specs.Call.{searched};
@@ -32,7 +32,8 @@ fn room() -> [f64; 303]
     [0.0; 303]
 }
 
-// The answer of the search to the question whose numbers stand in `lines`: the resolution, the knots, the points, the box.
+// The answer of the search to the question whose numbers stand in `lines`:
+// the resolution, the knots, the points, the box.
 fn ask_lines(lines: &[f64], dim: usize, degree: usize, count: usize, nodes: usize) -> Found
     requires { ⌜ (303 ≤ length (now lines)) × (dim ≤ 3) × (degree ≤ 7) × (count ≤ 32) ⌝ }
     ensures equal { λ r.

@@ -16,8 +16,9 @@ same-length c = search needs
 
 returns : tie.Need-returns
 returns c =
-    let w = c .before .before .before .before .before .before .put-word in
-    let d = c .before .before .put-decimal in
+    let number = c .before .before in
+    let w = number .before .before .before .before .put-word in
+    let d = number .put-decimal in
     (joined (omega arith) (w .ensures) (d .ensures .0), omega (arith, w .ensures .end, d .ensures .1))
 
 pub put-count-spec : {M : Type 1} → statement M

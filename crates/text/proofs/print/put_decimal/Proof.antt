@@ -15,9 +15,11 @@ same-length c = search needs
 
 returns : tie.Need-returns
 returns c =
-    let g = c .before .before .before .before .before .before .args in
-    let k = c .before .before .before .before .decimal-length in
-    decimal-written (g .out .now) (g .at) _ (g .n) _ _ (k .ensures .0) (k .ensures .1) (c .before .before .put-digits .ensures)
+    let digits = c .before .before in
+    let length = digits .before .before in
+    let g = length .before .before .args in
+    decimal-written (g .out .now) (g .at) _ (g .n) _ _ (length .decimal-length .ensures .0)
+    (length .decimal-length .ensures .1) (digits .put-digits .ensures)
 
 pub put-decimal-spec : {M : Type 1} → statement M
 put-decimal-spec =

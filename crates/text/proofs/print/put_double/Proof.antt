@@ -15,8 +15,9 @@ same-length c = search needs
 
 returns : tie.Need-returns
 returns c =
-    let g = c .before .before .before .before .before .args in
-    double-written (g .out .now) (g .at) (g .x) _ _ (c .before .before .put-digits .ensures)
+    let digits = c .before .before in
+    let g = digits .before .before .before .args in
+    double-written (g .out .now) (g .at) (g .x) _ _ (digits .put-digits .ensures)
 
 pub put-double-spec : {M : Type 1} → statement M
 put-double-spec =

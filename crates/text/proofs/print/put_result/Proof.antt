@@ -59,21 +59,30 @@ same-length c = search needs
 
 returns : tie.Need-returns
 unfolding resultWord bytes
-returns c = let w = c .before .before .put-word .ensures in written-as word (c .before .before .before .before .before .enum-told .given .1) w (omega (arith, w .end))
+returns c =
+    let at-word = c .before .before in
+    let w = at-word .put-word .ensures in
+    written-as word (at-word .before .before .before .enum-told .given .1) w (omega (arith, w .end))
 
 same-length-2 : tie.Need-same-length-2
 same-length-2 c = search needs
 
 returns-2 : tie.Need-returns-2
 unfolding resultWord bytes
-returns-2 c = let w = c .before .before .put-word2 .ensures in written-as word (c .before .before .before .before .before .enum-told2 .given .1) w (omega (arith, w .end))
+returns-2 c =
+    let at-word = c .before .before in
+    let w = at-word .put-word2 .ensures in
+    written-as word (at-word .before .before .before .enum-told2 .given .1) w (omega (arith, w .end))
 
 same-length-3 : tie.Need-same-length-3
 same-length-3 c = search needs
 
 returns-3 : tie.Need-returns-3
 unfolding resultWord bytes
-returns-3 c = let w = c .before .before .put-word3 .ensures in written-as word (c .before .before .before .before .before .enum-told3 .given .1) w (omega (arith, w .end))
+returns-3 c =
+    let at-word = c .before .before in
+    let w = at-word .put-word3 .ensures in
+    written-as word (at-word .before .before .before .enum-told3 .given .1) w (omega (arith, w .end))
 
 same-length-4 : tie.Need-same-length-4
 same-length-4 c = search needs
@@ -81,9 +90,12 @@ same-length-4 c = search needs
 returns-4 : tie.Need-returns-4
 unfolding resultWord bytes
 returns-4 c =
-    let w = c .before .before .before .before .before .before .put-word4 .ensures in
-    let d = c .before .before .put-decimal .ensures in
-    written-as word (c .before .before .before .before .before .before .before .before .before .before .f .given .1) (joined (omega (arith, w .end)) w (d .0)) (omega (arith, w .end, d .1))
+    let number = c .before .before in
+    let at-word = number .before .before .before .before in
+    let w = at-word .put-word4 .ensures in
+    let d = number .put-decimal .ensures in
+    written-as word (at-word .before .before .before .before .f .given .1) (joined (omega (arith, w .end)) w (d .0))
+    (omega (arith, w .end, d .1))
 
 pub put-result-spec : {M : Type 1} → statement M
 put-result-spec =
