@@ -14,27 +14,39 @@ enum-told : tie.Need-enum-told
 enum-told c = search needs
 
 returns : tie.Need-returns
-returns c = let r = c .before .before .sizes in (head-bad (c .before .before .before .before .args .text .now) (r .result) (r .ensures) (c .enum-told .given .1), tt)
+returns c = let head = c .before .before .sizes in (head-bad _ (head .result) (head .ensures) (c .enum-told .given .1), tt)
 
 sizes-refused-requires : tie.Need-sizes-refused-requires
 sizes-refused-requires c κs = search needs
 
 returns-2 : tie.Need-returns-2
 returns-2 c =
-    let r = c .before .before .before .before .before .sizes in
-    (head-refused (c .before .before .before .before .before .before .before .args .text .now) (r .result) (r .ensures) _ _ _ _ (c .before .before .before .dim .given .1) _ (c .before .sizes-refused .ensures) (c .if1 .taken), tt)
+    let refused = c .before in
+    let at-sizes = refused .before .before in
+    let head = at-sizes .before .before .sizes in (
+      head-refused _ (head .result) (head .ensures) _ _ _ _ (at-sizes .dim .given .1) _ (refused .sizes-refused .ensures)
+          (c .if1 .taken),
+      tt,
+    )
 
 asked-requires : tie.Need-asked-requires
 asked-requires c κs =
-    let r = c .before .before .before .before .before .sizes in
-    let k = sizes-fit _ _ _ _ (c .before .sizes-refused .ensures) (c .if1 .left) in
-    (head-inside (c .before .before .before .before .before .before .before .args .text .now) (r .result) (r .ensures) _ _ _ _ (c .before .before .before .dim .given .1), k .0, k .1, k .2)
+    let refused = c .before in
+    let at-sizes = refused .before .before in
+    let head = at-sizes .before .before .sizes in
+    let small = sizes-fit _ _ _ _ (refused .sizes-refused .ensures) (c .if1 .left) in
+    (head-inside _ (head .result) (head .ensures) _ _ _ _ (at-sizes .dim .given .1), small .0, small .1, small .2)
 
 returns-3 : tie.Need-returns-3
 returns-3 c =
-    let r = c .before .before .before .before .before .before .sizes in
-    let a = c .asked .ensures in
-    (head-asked (c .before .before .before .before .before .before .before .before .args .text .now) (r .result) (r .ensures) _ _ _ _ (c .before .before .before .before .dim .given .1) _ _ (c .before .before .sizes-refused .ensures) (c .before .if1 .left) (a .0), a .1)
+    let refused = c .before .before in
+    let at-sizes = refused .before .before in
+    let head = at-sizes .before .before .sizes in
+    let answer = c .asked .ensures in (
+      head-asked _ (head .result) (head .ensures) _ _ _ _ (at-sizes .dim .given .1) _ _ (refused .sizes-refused .ensures)
+          (c .before .if1 .left) (answer .0),
+      answer .1,
+    )
 
 pub answered-spec : {M : Type 1} → statement M
 answered-spec =

@@ -1,6 +1,7 @@
 -- `asked` equals its definition: the other lines are bad, the text is too long, something stands behind the last line, or the search answers.
 use lib.ListN.{drop}
-use Rattle.text.specs.Question.{sizesOf, numbers}
+use Rattle.text.specs.Bytes.{Read}
+use Rattle.text.specs.Question.{sizesOf, Numbers, numbers}
 use Rattle.text.proofs.respond.Cases.{numbers-bad, numbers-long, numbers-more, numbers-all}
 use borrow.Author.Needs.{needs}
 use Rattle.text.proofs.respond.asked.Statement.{statement}
@@ -21,29 +22,29 @@ enum-known-nodes c = search needs
 enum-told : tie.Need-enum-told
 enum-told c = search needs
 
+-- The other lines, as the text has them.
+abbrev others : tie.After-numbers → Read Numbers
+others c = let g = c .before .before .before .before .args in numbers (sizesOf (g .dim) (g .degree) (g .count)) (drop (g .at) (g .text .now))
+
 returns : tie.Need-returns
 returns c =
-    let g = c .before .before .before .before .before .before .before .args in
-    let z = sizesOf (g .dim) (g .degree) (g .count) in
-    let r = c .before .before .before .numbers in
-    let m = r .last .1 .1 .1 .1 .1 .0 in
-    (numbers-bad z (g .text .now) (numbers z (drop (g .at) (g .text .now))) _ m (r .result) (r .ensures) (c .enum-told .given .1), tt)
+    let read = c .before .before .before in
+    (numbers-bad _ _ (others read) _ _ (read .numbers .result) (read .numbers .ensures) (c .enum-told .given .1), tt)
 
 returns-2 : tie.Need-returns-2
 returns-2 c =
-    let g = c .before .before .before .before .before .before .before .before .before .args in
-    let z = sizesOf (g .dim) (g .degree) (g .count) in
-    let r = c .before .before .before .before .before .numbers in
-    let m = r .last .1 .1 .1 .1 .1 .0 in
-    (numbers-long z (g .text .now) (numbers z (drop (g .at) (g .text .now))) _ m (r .result) (r .ensures) _ _ (c .before .before .nodes .given .1) (c .if1 .taken), tt)
+    let at-nodes = c .before .before in
+    let read = at-nodes .before .before .before in
+    (numbers-long _ _ (others read) _ _ (read .numbers .result) (read .numbers .ensures) _ _ (at-nodes .nodes .given .1) (c .if1 .taken), tt)
 
 returns-3 : tie.Need-returns-3
 returns-3 c =
-    let g = c .before .before .before .before .before .before .before .before .before .before .args in
-    let z = sizesOf (g .dim) (g .degree) (g .count) in
-    let r = c .before .before .before .before .before .before .numbers in
-    let m = r .last .1 .1 .1 .1 .1 .0 in
-    (numbers-more z (g .text .now) (numbers z (drop (g .at) (g .text .now))) _ m (r .result) (r .ensures) _ _ (c .before .before .before .nodes .given .1) (c .before .if1 .left) (c .if2 .taken), tt)
+    let at-length = c .before in
+    let at-nodes = at-length .before .before in
+    let read = at-nodes .before .before .before in (
+      numbers-more _ _ (others read) _ _ (read .numbers .result) (read .numbers .ensures) _ _ (at-nodes .nodes .given .1) (at-length .if1 .left) (c .if2 .taken),
+      tt,
+    )
 
 slice-aggregate-ask-lines : tie.Need-slice-aggregate-ask-lines
 slice-aggregate-ask-lines c = search needs
@@ -53,11 +54,15 @@ ask-lines-requires c κs = search needs
 
 returns-4 : tie.Need-returns-4
 returns-4 c =
-    let g = c .before .before .before .before .before .before .before .before .before .before .before .before .args in
-    let z = sizesOf (g .dim) (g .degree) (g .count) in
-    let r = c .before .before .before .before .before .before .before .before .numbers in
-    let m = r .last .1 .1 .1 .1 .1 .0 in
-    (numbers-all z (g .text .now) (numbers z (drop (g .at) (g .text .now))) _ m (r .result) (r .ensures) _ _ (c .before .before .before .before .before .nodes .given .1) (c .ask-lines .result) (c .before .before .before .if1 .left) (c .before .before .if2 .left) (c .ask-lines .ensures .0), c .ask-lines .ensures .1)
+    let at-end = c .before .before in
+    let at-length = at-end .before in
+    let at-nodes = at-length .before .before in
+    let read = at-nodes .before .before .before in
+    let answer = c .ask-lines in (
+      numbers-all _ _ (others read) _ _ (read .numbers .result) (read .numbers .ensures) _ _ (at-nodes .nodes .given .1) (answer .result)
+          (at-length .if1 .left) (at-end .if2 .left) (answer .ensures .0),
+      answer .ensures .1,
+    )
 
 pub asked-spec : {M : Type 1} → statement M
 asked-spec =
