@@ -21,11 +21,16 @@ few : (c : tie.At-loop Inv-loop μ-loop) → c .loop .v < 1000000000
 few c = known-most (c .loop .inv .1) 9 (omega arith) (omega arith)
 
 -- the byte that is read is a digit
-digit : (c : tie.After-shared-slice-known Inv-loop μ-loop) → let l = c .before .before in let b = getD (l .before .args .text .now) (l .before .args .at + l .loop .i) 0 in (48 ≤ b) × (b ≤ 57)
+digit : (c : tie.After-shared-slice-known Inv-loop μ-loop)
+    → let at-loop = c .before .before in
+    let a = at-loop .before .args in
+    let b = getD (a .text .now) (a .at + at-loop .loop .i) 0 in
+    (48 ≤ b) × (b ≤ 57)
 digit c =
-    let l = c .before .before in
-    let a = l .before .args in
-    digit-between (a .text .now) (a .at) (a .n) (l .loop .i) (omega arith) (l .before .pre .2) (omega arith)
+    let at-loop = c .before .before in
+    let begin = at-loop .before in
+    let a = begin .args in
+    digit-between (a .text .now) (a .at) (a .n) (at-loop .loop .i) (omega arith) (begin .pre .2) (omega arith)
 
 loop-holds : tie.Need-loop-holds Inv-loop μ-loop
 loop-holds c = (omega arith, known-none)

@@ -37,9 +37,10 @@ nibble-requires c κs = tt
 -- the digit is below 16
 digit : (c : tie.After-nibble Inv-loop μ-loop) → c .nibble .result ≤ 15
 digit c =
-    let l = c .before .before .before in
-    let a = l .before .before .args in
-    omega (arith, c .nibble .ensures, hex-known (a .text .now) (a .at) (l .loop .i) (l .before .before .pre .0) (l .before .before .pre .1) (omega arith))
+    let at-loop = c .before .before .before in
+    let begin = at-loop .before .before in
+    let a = begin .args in
+    omega (arith, c .nibble .ensures, hex-known (a .text .now) (a .at) (at-loop .loop .i) (begin .pre .0) (begin .pre .1) (omega arith))
 
 cast-v : tie.Need-cast-v Inv-loop μ-loop
 cast-v c = omega (arith, digit c)
@@ -54,7 +55,9 @@ loop-less : tie.Need-loop-less Inv-loop μ-loop
 loop-less c = omega arith
 
 loop-again : tie.Need-loop-again Inv-loop μ-loop
-loop-again c = (omega arith, known-turn (c .before .before .before .loop .inv .1) (c .nibble .result) (omega arith) (c .nibble .ensures) (omega (arith, digit c)))
+loop-again c =
+    let at-loop = c .before .before .before in
+    (omega arith, known-turn (at-loop .loop .inv .1) (c .nibble .result) (omega arith) (c .nibble .ensures) (omega (arith, digit c)))
 
 returns : tie.Need-returns Inv-loop μ-loop
 returns c =
