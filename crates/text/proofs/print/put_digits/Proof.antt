@@ -9,13 +9,13 @@ use Rattle.text.proofs.print.put_digits.Statement.{statement}
 use Rattle.text.proofs.print.put_digits.Tie as tie
 
 abbrev Inv-loop : tie.InvT-loop
-Inv-loop out₀ at base k n i₀ rest₀ out i rest = (i ≤ k) × ((length out ≡ length out₀) × Digits out₀ at base k n out i rest)
+Inv-loop out₀ at base k n i₀ rest₀ out i rest = (i ≤ k) × (length out ≡ length out₀) × Digits out₀ at base k n out i rest
 
 abbrev μ-loop : tie.MeasureT-loop
 μ-loop out₀ at base k n i₀ rest₀ out i rest = i
 
 loop-holds : tie.Need-loop-holds Inv-loop μ-loop
-loop-holds c = let g = c .before .args in (omega arith, (refl, digits-none (g .out .now) (g .at) (g .base) (g .k) (g .n)))
+loop-holds c = let g = c .before .args in (omega arith, refl, digits-none (g .out .now) (g .at) (g .base) (g .k) (g .n))
 
 sub-i : tie.Need-sub-i Inv-loop μ-loop
 sub-i c = omega arith
@@ -40,21 +40,26 @@ loop-less c = omega arith
 
 loop-again : tie.Need-loop-again Inv-loop μ-loop
 loop-again c =
-    let l = c .before .before .loop in
-    let g = c .before .before .before .before .args in
-    (omega arith, (simp length-set (l .inv .1 .0), digits-turn (g .out .now) (g .at) (g .base) (g .k) (g .n) (l .out) (l .i) (l .rest) _ (omega arith) (omega arith) (c .digit-of .ensures) (l .inv .1 .1)))
+    let at-loop = c .before .before in
+    let l = at-loop .loop in
+    let g = at-loop .before .before .args in (
+      omega arith,
+      simp length-set (l .inv .1),
+      digits-turn (g .out .now) (g .at) (g .base) (g .k) (g .n) (l .out) (l .i) (l .rest) _ (omega arith) (omega arith)
+          (c .digit-of .ensures) (l .inv .2),
+    )
 
 add-result : tie.Need-add-result Inv-loop μ-loop
 add-result c = omega arith
 
 same-length : tie.Need-same-length Inv-loop μ-loop
-same-length c = c .before .loop .inv .1 .0
+same-length c = c .before .loop .inv .1
 
 returns : tie.Need-returns Inv-loop μ-loop
 returns c =
     let l = c .before .loop in
     let g = c .before .before .before .args in
-    digits-done (g .out .now) (g .at) (g .base) (g .k) (g .n) (l .out) (l .i) (l .rest) (omega arith) (l .inv .1 .1)
+    digits-done (g .out .now) (g .at) (g .base) (g .k) (g .n) (l .out) (l .i) (l .rest) (omega arith) (l .inv .2)
 
 pub put-digits-spec : {M : Type 1} → statement M
 put-digits-spec =

@@ -11,13 +11,13 @@ use Rattle.text.proofs.print.put_word.Statement.{statement}
 use Rattle.text.proofs.print.put_word.Tie as tie
 
 abbrev Inv-loop : tie.InvT-loop
-Inv-loop out₀ at w i₀ out i = (i ≤ length w) × ((length out ≡ length out₀) × (out ≡ put out₀ at (tab i (λ j. getD w j 0))))
+Inv-loop out₀ at w i₀ out i = (i ≤ length w) × (length out ≡ length out₀) × (out ≡ put out₀ at (tab i (λ j. getD w j 0)))
 
 abbrev μ-loop : tie.MeasureT-loop
 μ-loop out₀ at w i₀ out i = length w - i
 
 loop-holds : tie.Need-loop-holds Inv-loop μ-loop
-loop-holds c = (omega arith, (refl, sym (put-nil (c .args .out .now) (c .args .at))))
+loop-holds c = (omega arith, refl, sym (put-nil (c .args .out .now) (c .args .at)))
 
 shared-slice-read-out : tie.Need-shared-slice-read-out Inv-loop μ-loop
 shared-slice-read-out c = omega arith
@@ -36,23 +36,28 @@ loop-less c = omega arith
 
 loop-again : tie.Need-loop-again Inv-loop μ-loop
 loop-again c =
-    let l = c .before .before .loop in
-    let g = c .before .before .before .args in
-    (omega arith, (simp length-set (l .inv .1 .0), rw (l .inv .1 .1) (put-tab (g .out .now) (g .at) (l .i) _ (λ j. getD (g .w .now) j 0) refl (omega arith))))
+    let at-loop = c .before .before in
+    let l = at-loop .loop in
+    let g = at-loop .before .args in (
+      omega arith,
+      simp length-set (l .inv .1),
+      rw (l .inv .2) (put-tab (g .out .now) (g .at) (l .i) _ (λ j. getD (g .w .now) j 0) refl (omega arith)),
+    )
 
 add-result : tie.Need-add-result Inv-loop μ-loop
 add-result c = omega arith
 
 same-length : tie.Need-same-length Inv-loop μ-loop
-same-length c = c .before .loop .inv .1 .0
+same-length c = c .before .loop .inv .1
 
 returns : tie.Need-returns Inv-loop μ-loop
 returns c =
     let l = c .before .loop in
     let g = c .before .before .args in
     let e : l .i ≡ length (g .w .now) = omega arith in
+    let whole = ap (λ (m : ℕ). tab m (λ j. getD (g .w .now) j 0)) e ∙ tab-whole (g .w .now) 0 in
     record {
-      memory = l .inv .1 .1 ∙ ap (put (g .out .now) (g .at)) (ap (λ (m : ℕ). tab m (λ j. getD (g .w .now) j 0)) e ∙ tab-whole (g .w .now) 0);
+      memory = l .inv .2 ∙ ap (put (g .out .now) (g .at)) whole;
       end = ap (λ (m : ℕ). g .at + m) e;
     }
 

@@ -1,6 +1,6 @@
 -- `shape` reads the knots, the points and the box, and writes them one behind the other.
 use mathlib.Core.Path.{subst}
-use Prim.Native.Nat.{_+_, _*_}
+use Prim.Native.Nat.{_+_, _*_, _≤_}
 use native.Mathlib.Omega.{arith}
 use Rattle.text.specs.Question.{sizesOf}
 use Rattle.text.specs.Cursor.{ValuesRead}
@@ -9,6 +9,10 @@ use Rattle.text.specs.Bytes.{bytes}
 use borrow.Author.Needs.{needs}
 use Rattle.text.proofs.question.shape.Statement.{statement}
 use Rattle.text.proofs.question.shape.Tie as tie
+
+-- The points have few numbers.
+few : (c : tie.Start) → 2 * (c .args .dim + 1) * c .args .count ≤ 256
+few c = few-numbers (2 * (c .args .dim + 1)) (c .args .count) (omega arith) (omega arith)
 
 add-k : tie.Need-add-k
 add-k c = search needs
@@ -37,7 +41,7 @@ returns c =
     let knots = c .before .before .before .before in
     let a = knots .before .before .before .before .before .args in
     shape-none (a .text .now) _ (sizesOf (a .dim) (a .degree) (a .count)) (a .out .now) (knots .line .last .1 .1 .1 .1 .0)
-    (knots .line .result) (knots .line .ensures) (c .enum-told .given .1)
+    _ (knots .line .ensures) (c .enum-told .given .1)
 
 add-w : tie.Need-add-w
 add-w c = search needs
@@ -55,10 +59,9 @@ lines-requires : tie.Need-lines-requires
 lines-requires c κs =
     let at-knots = c .before .before .before in
     let knots = at-knots .before .before .before .before in
-    let a = knots .before .before .before .before .before .args in
-    let h = few-numbers (2 * (a .dim + 1)) (a .count) (omega arith) (omega arith) in (
+    let begin = knots .before .before .before .before .before in (
       subst (ValuesRead _ _ _ _ _ _) (at-knots .i .given .1) (knots .line .ensures) .inside,
-      omega (arith, knots .line .kept .1 .1 .1 .1 .0),
+      omega (arith, few begin, knots .line .kept .1 .1 .1 .1 .0),
     )
 
 enum-known-j : tie.Need-enum-known-j
@@ -78,8 +81,8 @@ returns-2 c =
     let knots = at-knots .before .before .before .before in
     let a = knots .before .before .before .before .before .args in
     shape-one (a .text .now) _ (sizesOf (a .dim) (a .degree) (a .count)) (a .out .now) (knots .line .last .1 .1 .1 .1 .0)
-    (knots .line .result) (knots .line .ensures) _ _ (at-knots .i .given .1) (omega arith) (points .lines .last .1 .1 .1 .1 .1 .0)
-    (points .lines .result) (points .lines .ensures) (c .enum-told2 .given .1)
+    _ (knots .line .ensures) _ _ (at-knots .i .given .1) (omega arith) (points .lines .last .1 .1 .1 .1 .1 .0)
+    _ (points .lines .ensures) (c .enum-told2 .given .1)
 
 slice-aggregate-line-2 : tie.Need-slice-aggregate-line-2
 slice-aggregate-line-2 c = search needs
@@ -98,26 +101,18 @@ start c =
     knots .before .before .before .before .before
 
 mul-line-2 : tie.Need-mul-line-2
-mul-line-2 c =
-    let a = start c .args in
-    let h = few-numbers (2 * (a .dim + 1)) (a .count) (omega arith) (omega arith) in
-    omega arith
+mul-line-2 c = omega (arith, few (start c))
 
 add-line-2 : tie.Need-add-line-2
-add-line-2 c =
-    let a = start c .args in
-    let h = few-numbers (2 * (a .dim + 1)) (a .count) (omega arith) (omega arith) in
-    omega arith
+add-line-2 c = omega (arith, few (start c))
 
 line-requires-2 : tie.Need-line-requires-2
 line-requires-2 c κs =
     let at-points = c .before .before .before in
     let points = at-points .before .before .before .before in
-    let knots = points .before .before .before .before .before .before .before .before in
-    let a = start c .args in
-    let h = few-numbers (2 * (a .dim + 1)) (a .count) (omega arith) (omega arith) in (
+    let knots = points .before .before .before .before .before .before .before .before in (
       subst (ValuesRead _ _ _ _ _ _) (at-points .j .given .1) (points .lines .ensures) .inside,
-      omega (arith, points .lines .kept .1 .1 .1 .1 .1 .0, knots .line .kept .1 .1 .1 .1 .0),
+      omega (arith, few (start c), points .lines .kept .1 .1 .1 .1 .1 .0, knots .line .kept .1 .1 .1 .1 .0),
     )
 
 same-length-3 : tie.Need-same-length-3
@@ -133,12 +128,11 @@ returns-3 c =
     let knots = at-knots .before .before .before .before in
     let begin = knots .before .before .before .before .before in
     let a = begin .args in
-    let h = few-numbers (2 * (a .dim + 1)) (a .count) (omega (arith, begin .pre .1)) (begin .pre .3) in
     shape-two (a .text .now) _ (sizesOf (a .dim) (a .degree) (a .count)) (a .out .now) (knots .line .last .1 .1 .1 .1 .0)
-    (knots .line .result) (knots .line .ensures) _ _ (at-knots .i .given .1) (omega arith) (points .lines .last .1 .1 .1 .1 .1 .0)
-    (points .lines .result) (points .lines .ensures) _ (at-points .j .given .1) (box .line2 .last .1 .1 .1 .1 .0)
+    _ (knots .line .ensures) _ _ (at-knots .i .given .1) (omega arith) (points .lines .last .1 .1 .1 .1 .1 .0)
+    _ (points .lines .ensures) _ (at-points .j .given .1) (box .line2 .last .1 .1 .1 .1 .0)
     (box .line2 .result) (box .line2 .ensures)
-    (omega (arith, begin .pre .1, begin .pre .2, begin .pre .3, begin .pre .4))
+    (omega (arith, few begin, begin .pre))
 
 pub shape-spec : {M : Type 1} → statement M
 shape-spec =

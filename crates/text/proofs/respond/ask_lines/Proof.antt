@@ -1,6 +1,6 @@
 -- `ask_lines` asks what its numbers say.
 use mathlib.Core.Path.{_≡_, ap, _∙_}
-use Prim.Native.Nat.{ℕ, suc, _+_, _-_, _*_}
+use Prim.Native.Nat.{ℕ, suc, _+_, _-_, _*_, _≤_}
 use native.Mathlib.Omega.{arith}
 use lib.ListN.{getD}
 use lib.Ieee.{nan}
@@ -12,6 +12,10 @@ use Rattle.text.proofs.respond.Lent.{lines-same, printable}
 use borrow.Author.Needs.{needs}
 use Rattle.text.proofs.respond.ask_lines.Statement.{statement}
 use Rattle.text.proofs.respond.ask_lines.Tie as tie
+
+-- The points have few numbers.
+few : (c : tie.Start) → 2 * (c .args .dim + 1) * c .args .count ≤ 256
+few c = few-numbers (2 * (c .args .dim + 1)) (c .args .count) (omega arith) (omega arith)
 
 area-requires : tie.Need-area-requires
 area-requires c κs = search needs
@@ -32,16 +36,16 @@ mul-p : tie.Need-mul-p
 mul-p c = search needs
 
 mul-p-2 : tie.Need-mul-p-2
-mul-p-2 c = let g = c .before .before .args in omega (arith, few-numbers (2 * (g .dim + 1)) (g .count) (omega arith) (omega arith))
+mul-p-2 c = omega (arith, few (c .before .before))
 
 add-p-2 : tie.Need-add-p-2
-add-p-2 c = let g = c .before .before .args in omega (arith, few-numbers (2 * (g .dim + 1)) (g .count) (omega arith) (omega arith))
+add-p-2 c = omega (arith, few (c .before .before))
 
 mul-b : tie.Need-mul-b
 mul-b c = search needs
 
 add-b : tie.Need-add-b
-add-b c = let g = c .before .before .args in omega (arith, few-numbers (2 * (g .dim + 1)) (g .count) (omega arith) (omega arith))
+add-b c = omega (arith, few (c .before .before))
 
 sub-curve-could-contain : tie.Need-sub-curve-could-contain
 sub-curve-could-contain c = search needs
@@ -62,10 +66,10 @@ part-curve-could-contain-start-2 : tie.Need-part-curve-could-contain-start-2
 part-curve-could-contain-start-2 c = search needs
 
 part-curve-could-contain-end-2 : tie.Need-part-curve-could-contain-end-2
-part-curve-could-contain-end-2 c = let g = c .before .before .before .args in omega (arith, few-numbers (2 * (g .dim + 1)) (g .count) (omega arith) (omega arith))
+part-curve-could-contain-end-2 c = omega (arith, few (c .before .before .before))
 
 mul-curve-could-contain-2 : tie.Need-mul-curve-could-contain-2
-mul-curve-could-contain-2 c = let g = c .before .before .before .before .args in omega (arith, few-numbers (2 * (g .dim + 1)) (g .count) (omega arith) (omega arith))
+mul-curve-could-contain-2 c = omega (arith, few (c .before .before .before .before))
 
 sub-curve-could-contain-3 : tie.Need-sub-curve-could-contain-3
 sub-curve-could-contain-3 c = search needs
@@ -74,7 +78,7 @@ part-curve-could-contain-start-3 : tie.Need-part-curve-could-contain-start-3
 part-curve-could-contain-start-3 c = search needs
 
 part-curve-could-contain-end-3 : tie.Need-part-curve-could-contain-end-3
-part-curve-could-contain-end-3 c = let g = c .before .before .before .before .args in omega (arith, few-numbers (2 * (g .dim + 1)) (g .count) (omega arith) (omega arith))
+part-curve-could-contain-end-3 c = omega (arith, few (c .before .before .before .before))
 
 shared-slice-read-curve-could-contain : tie.Need-shared-slice-read-curve-could-contain
 shared-slice-read-curve-could-contain c = search needs
