@@ -22,7 +22,8 @@ known-none {base} = record { number = refl; below = omega (arith, pow-zero base)
 
 module _ {base : ℕ} {value : ℕ → ℕ} {l : List ℕ} {at i v : ℕ} (k : Known base value l at i v) where
   -- one more digit
-  pub known-turn : (d : ℕ) → at + i < length l → d ≡ value (getD l (at + i) 0) → d < base → Known base value l at (i + 1) (base * v + d)
+  pub known-turn : (d : ℕ) → at + i < length l → d ≡ value (getD l (at + i) 0) → d < base
+      → Known base value l at (i + 1) (base * v + d)
   unfolding inBase
   known-turn d g e h =
       let p : base ^ (i + 1) ≡ base * base ^ i = ap (λ (n : ℕ). base ^ n) (add-one i) ∙ pow-suc base i ∙ mul-comm (base ^ i) base in

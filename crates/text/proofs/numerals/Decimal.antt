@@ -33,7 +33,8 @@ high-of a b c e = leb-true b c (both (leb a b) (leb b c) e .1)
 -- ---- how many digits a text begins with
 
 -- one more
-pub digits-turn : (l : List ℕ) (i : ℕ) → i < length l → isDigit (getD l i 0) ≡ true → digits (drop i l) ≡ digits (drop (i + 1) l) + 1
+pub digits-turn : (l : List ℕ) (i : ℕ) → i < length l → isDigit (getD l i 0) ≡ true
+    → digits (drop i l) ≡ digits (drop (i + 1) l) + 1
 unfolding digits
 digits-turn l i h e = rw (drop-cons l i 0 h, add-one i, add-one (digits (drop (suc i) l)), e)
 
@@ -52,7 +53,8 @@ unfolding digits all
 digits-all [] = refl
 digits-all (b ∷ t) = by (isDigit b) refl (digits-all t)
   where
-    by : (p : Bool) → isDigit b ≡ p → all isDigit (take (digits t) t) ≡ true → all isDigit (take (cond p (suc (digits t)) 0) (b ∷ t)) ≡ true
+    by : (p : Bool) → isDigit b ≡ p → all isDigit (take (digits t) t) ≡ true
+        → all isDigit (take (cond p (suc (digits t)) 0) (b ∷ t)) ≡ true
     by true e h = rw (e, h)
     by false e h = refl
 
@@ -63,11 +65,13 @@ digits-known l at n e = ap (λ (k : ℕ). all isDigit (take k (drop at l))) e �
 -- ---- the number that digits are
 
 -- an element of a part whose elements all pass a test
-pub part-all : (p : ℕ → Bool) (l : List ℕ) (at n i : ℕ) → at + n ≤ length l → all p (part l at n) ≡ true → i < n → p (getD l (at + i) 0) ≡ true
+pub part-all : (p : ℕ → Bool) (l : List ℕ) (at n i : ℕ) → at + n ≤ length l → all p (part l at n) ≡ true → i < n
+    → p (getD l (at + i) 0) ≡ true
 part-all p l at n i h e g = sym (ap p (getD-part l at n i 0 g)) ∙ all-getD p (part l at n) i 0 e (rw (length-part l at n h) g)
 
 -- a digit among digits
-pub digit-between : (l : List ℕ) (at n i : ℕ) → at + n ≤ length l → all isDigit (part l at n) ≡ true → i < n → (48 ≤ getD l (at + i) 0) × (getD l (at + i) 0 ≤ 57)
+pub digit-between : (l : List ℕ) (at n i : ℕ) → at + n ≤ length l → all isDigit (part l at n) ≡ true → i < n
+    → (48 ≤ getD l (at + i) 0) × (getD l (at + i) 0 ≤ 57)
 digit-between l at n i h e g = let t = part-all isDigit l at n i h e g in (low-of 48 _ 57 t, high-of 48 _ 57 t)
 
 -- ---- small numbers
@@ -85,7 +89,8 @@ pub small-one : (n : ℕ) (t : List ℕ) → n ≡ 1 → true ≡ isSmall n t
 small-one n t e = rw e
 
 -- from two to nine
-pub small-more : (n : ℕ) (l : List ℕ) (at : ℕ) → 1 ≤ n → n ≤ 9 → (n ≡ 1 → ⊥) → not (eqb (getD l at 0) 48) ≡ isSmall n (drop at l)
+pub small-more : (n : ℕ) (l : List ℕ) (at : ℕ) → 1 ≤ n → n ≤ 9 → (n ≡ 1 → ⊥)
+    → not (eqb (getD l at 0) 48) ≡ isSmall n (drop at l)
 small-more n l at g h e = rw (le-leb 1 n g, le-leb n 9 h, ne-eqb n 1 e, getD-drop at l 0 0, add-zero at)
 
 pub small-nine : (n : ℕ) (t : List ℕ) → isSmall n t ≡ true → n ≤ 9
@@ -95,6 +100,7 @@ pub small-bad : (t : List ℕ) (n : ℕ) → n ≡ digits t → isSmall n t ≡ 
 unfolding small
 small-bad t n e f = rw (← e, f)
 
-pub small-got : (l : List ℕ) (at n v : ℕ) → n ≡ digits (drop at l) → isSmall n (drop at l) ≡ true → v ≡ decimalOf (part l at n) → small (drop at l) ≡ got v (drop (at + n) l)
+pub small-got : (l : List ℕ) (at n v : ℕ) → n ≡ digits (drop at l) → isSmall n (drop at l) ≡ true
+    → v ≡ decimalOf (part l at n) → small (drop at l) ≡ got v (drop (at + n) l)
 unfolding small
 small-got l at n v e f g = rw (← e, f, g, drop-drop n at l)

@@ -24,15 +24,18 @@ pub nibble-lower : (b : ℕ) → isDigit b ≡ false → leb 97 b && leb b 102 �
 unfolding nibble
 nibble-lower b e f = rw (e, f)
 
-pub nibble-upper : (b : ℕ) → isDigit b ≡ false → leb 97 b && leb b 102 ≡ false → leb 65 b && leb b 70 ≡ true → b - 55 ≡ nibble b
+pub nibble-upper : (b : ℕ) → isDigit b ≡ false → leb 97 b && leb b 102 ≡ false → leb 65 b && leb b 70 ≡ true
+    → b - 55 ≡ nibble b
 unfolding nibble
 nibble-upper b e f g = rw (e, f, g)
 
-pub nibble-none : (b : ℕ) → isDigit b ≡ false → leb 97 b && leb b 102 ≡ false → leb 65 b && leb b 70 ≡ false → 16 ≡ nibble b
+pub nibble-none : (b : ℕ) → isDigit b ≡ false → leb 97 b && leb b 102 ≡ false → leb 65 b && leb b 70 ≡ false
+    → 16 ≡ nibble b
 unfolding nibble
 nibble-none b e f g = rw (e, f, g)
 
-pub hex-known : (l : List ℕ) (at i : ℕ) → at + 16 ≤ length l → all isHex (part l at 16) ≡ true → i < 16 → nibble (getD l (at + i) 0) ≤ 15
+pub hex-known : (l : List ℕ) (at i : ℕ) → at + 16 ≤ length l → all isHex (part l at 16) ≡ true → i < 16
+    → nibble (getD l (at + i) 0) ≤ 15
 hex-known l at i h e g = leb-true _ 15 (part-all isHex l at 16 i h e g)
 
 -- ---- sixteen of them
@@ -46,7 +49,8 @@ double-long l at h = let e : leb 16 (length (drop at l)) ≡ true = le-leb 16 (l
 
 -- the walk over them, where those that are left answer for all
 module _ (l : List ℕ) (at i : ℕ) (h : at + 16 ≤ length l) (inv : all isHex (drop i (part l at 16)) ≡ all isHex (part l at 16)) where
-  walk-turn : (r : Bool) → i < 16 → isHex (getD l (at + i) 0) ≡ r → r && all isHex (drop (i + 1) (part l at 16)) ≡ all isHex (part l at 16)
+  walk-turn : (r : Bool) → i < 16 → isHex (getD l (at + i) 0) ≡ r
+      → r && all isHex (drop (i + 1) (part l at 16)) ≡ all isHex (part l at 16)
   walk-turn r g e =
       let t = all-turn isHex (part l at 16) i 0 (rw (length-part l at 16 h) g) in
       let k : isHex (getD (part l at 16) i 0) ≡ r = ap isHex (getD-part l at 16 i 0 g) ∙ e in
@@ -57,7 +61,8 @@ module _ (l : List ℕ) (at i : ℕ) (h : at + 16 ≤ length l) (inv : all isHex
   walk-stop d e g f = walk-turn false g (lt-leb _ 15 (subst (λ (k : ℕ). 15 < k) e f)) ∙ double-long l at h
 
   -- one is
-  pub walk-keep : (d : ℕ) → d ≡ nibble (getD l (at + i) 0) → i < 16 → d ≤ 15 → all isHex (drop (i + 1) (part l at 16)) ≡ all isHex (part l at 16)
+  pub walk-keep : (d : ℕ) → d ≡ nibble (getD l (at + i) 0) → i < 16 → d ≤ 15
+      → all isHex (drop (i + 1) (part l at 16)) ≡ all isHex (part l at 16)
   walk-keep d e g f = walk-turn true g (le-leb _ 15 (subst (λ (k : ℕ). k ≤ 15) e f))
 
   -- none is left

@@ -26,7 +26,8 @@ use Rattle.text.specs.Printable.{Written}
 -- ---- words
 
 -- Two words, one behind the other.
-pub joined : {l m k : List ℕ} {a b c : ℕ} {xs ys : List ℕ} → b ≤ length l → Written l a xs m b → Written m b ys k c → Written l a (xs ++ ys) k c
+pub joined : {l m k : List ℕ} {a b c : ℕ} {xs ys : List ℕ} → b ≤ length l → Written l a xs m b → Written m b ys k c
+    → Written l a (xs ++ ys) k c
 joined {l} {m} {k} {a} {b} {c} {xs} {ys} h w v = record {
   memory = v .memory ∙ ap (λ (x : List ℕ). put x b ys) (w .memory) ∙ ap (λ (x : ℕ). put (put l a xs) x ys) (w .end) ∙ put-put l a xs ys (omega (arith, w .end));
   end = simp length-append (omega (arith, w .end, v .end));
@@ -52,20 +53,23 @@ Digits l at b k n m i rest = (ws : List ℕ) × (i + length ws ≡ k) × (lastDi
 pub digits-none : (l : List ℕ) (at b k n : ℕ) → Digits l at b k n l k n
 digits-none l at b k n = ([], omega arith, append-nil (lastDigits b k n), sym (put-nil l (at + k)))
 
-digits-step : (l : List ℕ) (at b k n : ℕ) (m : List ℕ) (i rest : ℕ) → at + k ≤ length l → Digits l at b k n m (suc i) rest → Digits l at b k n (set m (at + i) (digitOf (rest % b))) i (rest / b)
+digits-step : (l : List ℕ) (at b k n : ℕ) (m : List ℕ) (i rest : ℕ) → at + k ≤ length l
+    → Digits l at b k n m (suc i) rest → Digits l at b k n (set m (at + i) (digitOf (rest % b))) i (rest / b)
 unfolding lastDigits
 digits-step l at b k n m i rest h (ws, p, q, r) =
     let d : ℕ = digitOf (rest % b) in
     (d ∷ ws, omega arith, sym (append-assoc (lastDigits b i (rest / b)) (d ∷ []) ws) ∙ q, ap (λ (x : List ℕ). set x (at + i) d) (r ∙ ap (λ (x : ℕ). put l x ws) (add-suc at i)) ∙ put-cons l (at + i) ws d (omega arith))
 
 -- one turn
-pub digits-turn : (l : List ℕ) (at b k n : ℕ) (m : List ℕ) (i rest d : ℕ) → at + k ≤ length l → 0 < i → d ≡ digitOf (rest % b) → Digits l at b k n m i rest
+pub digits-turn : (l : List ℕ) (at b k n : ℕ) (m : List ℕ) (i rest d : ℕ) → at + k ≤ length l → 0 < i
+    → d ≡ digitOf (rest % b) → Digits l at b k n m i rest
     → Digits l at b k n (set m (at + (i - 1)) d) (i - 1) (rest / b)
 digits-turn l at b k n m zero rest d h g e w = absurd (not-suc-le-zero g)
 digits-turn l at b k n m (suc i) rest d h g e w = rw (sub-one (suc i), e) (digits-step l at b k n m i rest h w)
 
 -- after the last turn
-pub digits-done : (l : List ℕ) (at b k n : ℕ) (m : List ℕ) (i rest : ℕ) → i ≤ 0 → Digits l at b k n m i rest → Written l at (lastDigits b k n) m (at + k)
+pub digits-done : (l : List ℕ) (at b k n : ℕ) (m : List ℕ) (i rest : ℕ) → i ≤ 0 → Digits l at b k n m i rest
+    → Written l at (lastDigits b k n) m (at + k)
 unfolding lastDigits
 digits-done l at b k n m zero rest h (ws, p, q, r) = record {
   memory = r ∙ ap (λ (x : ℕ). put l x ws) (add-zero at) ∙ ap (put l at) q;
@@ -86,7 +90,8 @@ length-last zero n h = refl
 length-last (suc k) n h = rw (le-leb n 9 h)
 
 -- one turn
-pub length-turn : (l rest t : ℕ) → l < 20 → 9 < rest → l + decimalLength (20 - l) rest ≡ t → l + 1 + decimalLength (20 - (l + 1)) (rest / 10) ≡ t
+pub length-turn : (l rest t : ℕ) → l < 20 → 9 < rest → l + decimalLength (20 - l) rest ≡ t
+    → l + 1 + decimalLength (20 - (l + 1)) (rest / 10) ≡ t
 length-turn l rest t h g e =
     let s : 20 - l ≡ suc (20 - (l + 1)) = omega arith in
     let q : decimalLength (20 - l) rest ≡ suc (decimalLength (20 - (l + 1)) (rest / 10)) = rw s (length-more (20 - (l + 1)) rest g) in
@@ -109,23 +114,27 @@ length-full l rest t h e =
 -- ---- numbers
 
 -- The digits that were written are those of n in decimal.
-pub decimal-written : (l : List ℕ) (at k n : ℕ) (m : List ℕ) (r : ℕ) → k ≡ decimalLength 19 n → k ≤ 20 → Written l at (lastDigits 10 k n) m r → Written l at (decimal n) m r × (r ≤ at + 20)
+pub decimal-written : (l : List ℕ) (at k n : ℕ) (m : List ℕ) (r : ℕ) → k ≡ decimalLength 19 n → k ≤ 20
+    → Written l at (lastDigits 10 k n) m r → Written l at (decimal n) m r × (r ≤ at + 20)
 unfolding decimal
 decimal-written l at k n m r e h w = (subst (λ (x : ℕ). Written l at (lastDigits 10 x n) m r) e w, omega (arith, w .end, length-digits 10 k n))
 
 -- The digits that were written are those of x.
-pub double-written : (l : List ℕ) (at : ℕ) (x : Float) (m : List ℕ) (r : ℕ) → Written l at (lastDigits 16 16 (toBits binary64 x)) m r → Written l at (hexadecimal x) m r × (r ≡ at + 16)
+pub double-written : (l : List ℕ) (at : ℕ) (x : Float) (m : List ℕ) (r : ℕ)
+    → Written l at (lastDigits 16 16 (toBits binary64 x)) m r → Written l at (hexadecimal x) m r × (r ≡ at + 16)
 unfolding hexadecimal
 double-written l at x m r w = (w, omega (arith, w .end, length-digits 16 16 (toBits binary64 x)))
 
 -- ---- lines
 
 -- What was written for an answer g was written for f, where they are the same.
-pub written-as : (of : Found → List ℕ) {f g : Found} {l m : List ℕ} {at r n : ℕ} → f ≡ g → Written l at (of g) m r → r ≤ n → Written l at (of f) m r × (r ≤ n)
+pub written-as : (of : Found → List ℕ) {f g : Found} {l m : List ℕ} {at r n : ℕ} → f ≡ g → Written l at (of g) m r
+    → r ≤ n → Written l at (of f) m r × (r ≤ n)
 written-as of {l = l} {m = m} {at = at} {r = r} e w h = (subst (λ (x : Found). Written l at (of x) m r) (sym e) w, h)
 
 -- an answer that is not Enclosed has no bounds
-unbounded : (f : Found) → (tagOf the-type f ≡ 0) ⊎ ((tagOf the-type f ≡ 2) ⊎ (tagOf the-type f ≡ 3)) → paper f .bounds ≡ none
+unbounded : (f : Found) → (tagOf the-type f ≡ 0) ⊎ ((tagOf the-type f ≡ 2) ⊎ (tagOf the-type f ≡ 3))
+    → paper f .bounds ≡ none
 unbounded (Nothing v) h = refl
 unbounded (Enclosed lo hi v) h = absurd (other 1 (omega arith) (omega arith) h)
   where
@@ -135,7 +144,9 @@ unbounded (Spent n v) h = refl
 unbounded (Refused n v) h = refl
 
 -- their lines
-pub dashes-written : (f : Found) {l m : List ℕ} {at r : ℕ} → (tagOf the-type f ≡ 0) ⊎ ((tagOf the-type f ≡ 2) ⊎ (tagOf the-type f ≡ 3)) → Written l at (bytes "lo=-\nhi=-\n") m r
+pub dashes-written : (f : Found) {l m : List ℕ} {at r : ℕ}
+    → (tagOf the-type f ≡ 0) ⊎ ((tagOf the-type f ≡ 2) ⊎ (tagOf the-type f ≡ 3))
+    → Written l at (bytes "lo=-\nhi=-\n") m r
     → r ≤ at + 40 → Written l at (boundLines (paper f .bounds)) m r × (r ≤ at + 40)
 unfolding boundLines
 dashes-written f {l} {m} {at} {r} k w h = (subst (λ (x : Option Scalar). Written l at (boundLines x) m r) (sym (unbounded f k)) w, h)

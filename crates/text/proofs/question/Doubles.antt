@@ -38,7 +38,8 @@ module _ (text : List ℕ) (at b : ℕ) (r : Bool) (d : r ≡ isDouble (drop at 
   reads e = rw (sym d ∙ e, drop-drop 16 at text)
 
   -- there is one, and the byte b behind it or not
-  pub value-is : r ≡ true → at + 16 ≤ length text → (q : Place) → WordRead text (word (b ∷ []) (drop (at + 16) text)) q → ValueRead text at b q
+  pub value-is : r ≡ true → at + 16 ≤ length text → (q : Place)
+      → WordRead text (word (b ∷ []) (drop (at + 16) text)) q → ValueRead text at b q
   value-is e h Bad w = then-got (double (drop at text)) _ _ _ (reads e) ∙ w
   value-is e h (At i) w = record {
     inside = w .0;
@@ -83,11 +84,13 @@ module _ (whole : Read (List Float)) (to : ℕ) (l : List Float) where
   taken-none left e = record { xs = []; long = refl; wrote = sym (put-nil l to); told = e ∙ prepend-nil left }
 
   -- what is left cannot be read
-  pub taken-bad : (left : Read (List Float)) (i : ℕ) (m : List Float) → Taken whole left i to l m → left ≡ bad → whole ≡ bad
+  pub taken-bad : (left : Read (List Float)) (i : ℕ) (m : List Float) → Taken whole left i to l m → left ≡ bad
+      → whole ≡ bad
   taken-bad left i m k e = k .told ∙ ap (prepend (k .xs)) e ∙ prepend-bad (k .xs)
 
   -- nothing is left
-  pub taken-all : (left : Read (List Float)) (i n : ℕ) (m : List Float) (text : List ℕ) (p : ℕ) → Taken whole left i to l m → left ≡ got [] (drop p text) → i ≡ n → p ≤ length text
+  pub taken-all : (left : Read (List Float)) (i n : ℕ) (m : List Float) (text : List ℕ) (p : ℕ)
+      → Taken whole left i to l m → left ≡ got [] (drop p text) → i ≡ n → p ≤ length text
       → ValuesAt text whole n to l m p
   taken-all left i n m text p k e f h = record {
     inside = h;
@@ -98,7 +101,8 @@ module _ (whole : Read (List Float)) (to : ℕ) (l : List Float) where
   }
 
   -- some more are taken
-  pub taken-more : (left rest : Read (List Float)) (i j at : ℕ) (m : List Float) (ys : List Float) → Taken whole left i to l m → left ≡ prepend ys rest → i + length ys ≡ j → at ≡ to + i → to + j ≤ length l
+  pub taken-more : (left rest : Read (List Float)) (i j at : ℕ) (m : List Float) (ys : List Float)
+      → Taken whole left i to l m → left ≡ prepend ys rest → i + length ys ≡ j → at ≡ to + i → to + j ≤ length l
       → Taken whole rest j to l (put m at ys)
   taken-more left rest i j at m ys k e f g h =
       let q : at ≡ to + length (k .xs) = omega (arith, k .long) in
@@ -110,16 +114,19 @@ module _ (whole : Read (List Float)) (to : ℕ) (l : List Float) where
       }
 
 -- where a value cannot be read, neither can the values
-stuck : (d : Read Float) (b : ℕ) (f : Float → Unit {0} → List ℕ → Read (List Float)) → then d (λ x rest. word (b ∷ []) rest) ≡ bad → then d (λ x a. then (word (b ∷ []) a) (f x)) ≡ bad
+stuck : (d : Read Float) (b : ℕ) (f : Float → Unit {0} → List ℕ → Read (List Float))
+    → then d (λ x rest. word (b ∷ []) rest) ≡ bad → then d (λ x a. then (word (b ∷ []) a) (f x)) ≡ bad
 unfolding then
 stuck bad b f e = refl
 stuck (got x t) b f e = ap (λ (q : Read (Unit {0})). then q (f x)) e
 
-values-stuck : (n m : ℕ) (t : List ℕ) (b : ℕ) → n ≡ suc m → b ≡ behind m → then (double t) (λ x rest. word (b ∷ []) rest) ≡ bad → values n t ≡ bad
+values-stuck : (n m : ℕ) (t : List ℕ) (b : ℕ) → n ≡ suc m → b ≡ behind m
+    → then (double t) (λ x rest. word (b ∷ []) rest) ≡ bad → values n t ≡ bad
 unfolding values
 values-stuck n m t b e f h = rw (e, ← f) (stuck (double t) b _ h)
 
-values-one : (n m : ℕ) (t a c : List ℕ) (b : ℕ) (x : Float) → n ≡ suc m → b ≡ behind m → double t ≡ got x a → word (b ∷ []) a ≡ got tt c → values n t ≡ prepend (x ∷ []) (values m c)
+values-one : (n m : ℕ) (t a c : List ℕ) (b : ℕ) (x : Float) → n ≡ suc m → b ≡ behind m → double t ≡ got x a
+    → word (b ∷ []) a ≡ got tt c → values n t ≡ prepend (x ∷ []) (values m c)
 unfolding values prepend
 values-one n m t a c b x e f d w = rw (e, ← f) (then-got (double t) _ x a d ∙ then-got (word (b ∷ []) a) _ tt c w)
 
@@ -137,7 +144,8 @@ module _ (text : List ℕ) (n at to : ℕ) (l : List Float) where
     values-stop e = taken-bad (values n (drop at text)) to l _ i m so (values-stuck (n - i) (n - i - 1) (drop k text) b next sep (subst (ValueRead text k b) e read))
 
     -- one value
-    pub values-turn : (j : ℕ) (x : Float) → r ≡ At j → x ≡ doubleOf (hexOf (part text k 16)) → to + n ≤ length l → Taken (values n (drop at text)) (values (n - (i + 1)) (drop j text)) (i + 1) to l (set m (to + i) x)
+    pub values-turn : (j : ℕ) (x : Float) → r ≡ At j → x ≡ doubleOf (hexOf (part text k 16)) → to + n ≤ length l
+        → Taken (values n (drop at text)) (values (n - (i + 1)) (drop j text)) (i + 1) to l (set m (to + i) x)
     values-turn j x e f h =
         let v = subst (ValueRead text k b) e read in
         let s : n - i - 1 ≡ n - (i + 1) = omega arith in
@@ -146,7 +154,9 @@ module _ (text : List ℕ) (n at to : ℕ) (l : List Float) where
         rw (put-one m (to + i) x (omega arith)) (taken-more (values n (drop at text)) to l _ _ i (i + 1) (to + i) m (x ∷ []) so o refl refl (omega arith))
 
   -- behind the last value
-  pub values-end : (i k : ℕ) (m : List Float) → n ≤ i → i ≤ n → k ≤ length text → Taken (values n (drop at text)) (values (n - i) (drop k text)) i to l m → ValuesAt text (values n (drop at text)) n to l m k
+  pub values-end : (i k : ℕ) (m : List Float) → n ≤ i → i ≤ n → k ≤ length text
+      → Taken (values n (drop at text)) (values (n - i) (drop k text)) i to l m
+      → ValuesAt text (values n (drop at text)) n to l m k
   unfolding values
   values-end i k m g h p so =
       let z : n - i ≡ 0 = omega arith in
@@ -165,14 +175,16 @@ module _ (text key t : List ℕ) (n : ℕ) (r : Place) (w : WordRead text (word 
   line-is i e = then-got (word key t) _ tt (drop i text) (subst (WordRead text (word key t)) e w .1)
 
   -- the values behind the key
-  pub line-rest : (i : ℕ) → r ≡ At i → (to : ℕ) (l m : List Float) (q : Place) → ValuesRead text (values n (drop i text)) n to l m q → ValuesRead text (line key n t) n to l m q
+  pub line-rest : (i : ℕ) → r ≡ At i → (to : ℕ) (l m : List Float) (q : Place)
+      → ValuesRead text (values n (drop i text)) n to l m q → ValuesRead text (line key n t) n to l m q
   line-rest i e to l m q h = subst (λ (spec : Read (List Float)). ValuesRead text spec n to l m q) (sym (line-is i e)) h
 
 lines-stuck : (key : List ℕ) (n k m : ℕ) (t : List ℕ) → k ≡ suc m → line key n t ≡ bad → lines key n k t ≡ bad
 unfolding lines
 lines-stuck key n k m t e h = rw e (then-bad (line key n t) _ h)
 
-lines-one : (key : List ℕ) (n k m : ℕ) (t a : List ℕ) (ys : List Float) → k ≡ suc m → line key n t ≡ got ys a → lines key n k t ≡ prepend ys (lines key n m a)
+lines-one : (key : List ℕ) (n k m : ℕ) (t a : List ℕ) (ys : List Float) → k ≡ suc m → line key n t ≡ got ys a
+    → lines key n k t ≡ prepend ys (lines key n m a)
 unfolding lines prepend
 lines-one key n k m t a ys e h = rw e (then-got (line key n t) _ ys a h)
 
@@ -198,7 +210,8 @@ module _ (text key : List ℕ) (n k at to : ℕ) (l : List Float) where
         taken-bad (lines key n k (drop at text)) to l _ (n * i) m so (lines-stuck key n (k - i) (k - (i + 1)) (drop p text) left (subst (ValuesRead text (line key n (drop p text)) n (to + n * i) m w) e read))
 
     -- one line
-    pub lines-turn : (j : ℕ) → r ≡ At j → to + n * k ≤ length l → (j ≤ length text) × Taken (lines key n k (drop at text)) (lines key n (k - (i + 1)) (drop j text)) (n * (i + 1)) to l w
+    pub lines-turn : (j : ℕ) → r ≡ At j → to + n * k ≤ length l
+        → (j ≤ length text) × Taken (lines key n k (drop at text)) (lines key n (k - (i + 1)) (drop j text)) (n * (i + 1)) to l w
     lines-turn j e h =
         let v = subst (ValuesRead text (line key n (drop p text)) n (to + n * i) m w) e read in
         let f : n * i + length (v .xs) ≡ n * (i + 1) = rw (v .long, add-one i, mul-suc n i) in
@@ -209,7 +222,8 @@ module _ (text key : List ℕ) (n k at to : ℕ) (l : List Float) where
         )
 
   -- behind the last line
-  pub lines-end : (i p : ℕ) (m : List Float) → k ≤ i → i ≤ k → p ≤ length text → Taken (lines key n k (drop at text)) (lines key n (k - i) (drop p text)) (n * i) to l m
+  pub lines-end : (i p : ℕ) (m : List Float) → k ≤ i → i ≤ k → p ≤ length text
+      → Taken (lines key n k (drop at text)) (lines key n (k - i) (drop p text)) (n * i) to l m
       → ValuesAt text (lines key n k (drop at text)) (n * k) to l m p
   unfolding lines
   lines-end i p m g h q so =

@@ -140,12 +140,14 @@ module _ (text t : List ℕ) (s : Sizes) (l m₁ : List Float) (r : Place)
 -- ---- both
 
 -- where a first part cannot be read, neither can more
-part-bad : {A B C : Type 0} (r : Read A) (g : A → List ℕ → Read B) (f : A → B → List ℕ → Read C) → then r g ≡ bad → then r (λ x a. then (g x a) (f x)) ≡ bad
+part-bad : {A B C : Type 0} (r : Read A) (g : A → List ℕ → Read B) (f : A → B → List ℕ → Read C) → then r g ≡ bad
+    → then r (λ x a. then (g x a) (f x)) ≡ bad
 unfolding then
 part-bad bad g f e = refl
 part-bad (got x t) g f e = ap (λ (q : Read _). then q (f x)) e
 
-last-bad : {A B C : Type 0} (r : Read A) (f : A → B) (g : A → C) → then r (λ x t. got (f x) t) ≡ bad → then r (λ x t. got (g x) t) ≡ bad
+last-bad : {A B C : Type 0} (r : Read A) (f : A → B) (g : A → C) → then r (λ x t. got (f x) t) ≡ bad
+    → then r (λ x t. got (g x) t) ≡ bad
 unfolding then
 last-bad bad f g e = refl
 last-bad (got x t) f g e = absurd (never e)
@@ -153,13 +155,16 @@ last-bad (got x t) f g e = absurd (never e)
     never : got (f x) t ≡ bad → ⊥
     never q = let z : _≡_ {A = ℕ} 0 1 = cc in omega arith
 
-two-bad : {A B C D : Type 0} (r : Read A) (h : List ℕ → Read B) (f : A → B → C) (g : A → B → D) → then r (λ x a. then (h a) (λ y t. got (f x y) t)) ≡ bad → then r (λ x a. then (h a) (λ y t. got (g x y) t)) ≡ bad
+two-bad : {A B C D : Type 0} (r : Read A) (h : List ℕ → Read B) (f : A → B → C) (g : A → B → D)
+    → then r (λ x a. then (h a) (λ y t. got (f x y) t)) ≡ bad
+    → then r (λ x a. then (h a) (λ y t. got (g x y) t)) ≡ bad
 unfolding then
 two-bad bad h f g e = refl
 two-bad (got x t) h f g e = last-bad (h t) (f x) (g x) e
 
 three-bad : {A B C D E : Type 0} (r : Read A) (h : List ℕ → Read B) (k : List ℕ → Read C) (f : A → B → C → D) (g : A → B → C → E)
-    → then r (λ x a. then (h a) (λ y b. then (k b) (λ z t. got (f x y z) t))) ≡ bad → then r (λ x a. then (h a) (λ y b. then (k b) (λ z t. got (g x y z) t))) ≡ bad
+    → then r (λ x a. then (h a) (λ y b. then (k b) (λ z t. got (f x y z) t))) ≡ bad
+    → then r (λ x a. then (h a) (λ y b. then (k b) (λ z t. got (g x y z) t))) ≡ bad
 unfolding then
 three-bad bad h k f g e = refl
 three-bad (got x t) h k f g e = two-bad (h t) k (f x) (g x) e

@@ -56,17 +56,20 @@ pub word-begins : (text w : List ℕ) (a : ℕ) → word w (drop a text) ≡ wor
 word-begins text w a = rw add-zero
 
 -- byte i is the same
-pub word-turn : (text w : List ℕ) (a i : ℕ) → a + i < length text → i < length w → getD text (a + i) 0 ≡ getD w i 0 → word (drop i w) (drop (a + i) text) ≡ word (drop (i + 1) w) (drop (a + (i + 1)) text)
+pub word-turn : (text w : List ℕ) (a i : ℕ) → a + i < length text → i < length w → getD text (a + i) 0 ≡ getD w i 0
+    → word (drop i w) (drop (a + i) text) ≡ word (drop (i + 1) w) (drop (a + (i + 1)) text)
 word-turn text w a i h k e =
     let s : a + (i + 1) ≡ suc (a + i) = omega arith in
     rw (drop-cons w i 0 k, drop-cons text (a + i) 0 h, s, add-one i) (word-step (getD w i 0) (getD text (a + i) 0) (drop (suc i) w) (drop (suc (a + i)) text) e)
 
 -- it is another
-pub word-off : (text w : List ℕ) (a i : ℕ) → a + i < length text → i < length w → (getD text (a + i) 0 ≡ getD w i 0 → ⊥) → word (drop i w) (drop (a + i) text) ≡ bad
+pub word-off : (text w : List ℕ) (a i : ℕ) → a + i < length text → i < length w
+    → (getD text (a + i) 0 ≡ getD w i 0 → ⊥) → word (drop i w) (drop (a + i) text) ≡ bad
 word-off text w a i h k e = rw (drop-cons w i 0 k, drop-cons text (a + i) 0 h) (word-stop (getD w i 0) (getD text (a + i) 0) (drop (suc i) w) (drop (suc (a + i)) text) e)
 
 -- behind the last byte
-pub word-done : (text w : List ℕ) (a i : ℕ) → i ≡ length w → word (drop i w) (drop (a + i) text) ≡ got tt (drop (a + length w) text)
+pub word-done : (text w : List ℕ) (a i : ℕ) → i ≡ length w
+    → word (drop i w) (drop (a + i) text) ≡ got tt (drop (a + length w) text)
 unfolding word
 word-done text w a i e = rw (drop-of-length-le w {i = i} (omega arith), e)
 
@@ -78,7 +81,8 @@ byte-none text a b h = rw (drop-of-length-le text {i = a} h)
 pub byte-off : (text : List ℕ) (a b : ℕ) → a < length text → (getD text a 0 ≡ b → ⊥) → word (b ∷ []) (drop a text) ≡ bad
 byte-off text a b h e = rw (drop-cons text a 0 h) (word-stop b (getD text a 0) [] (drop (suc a) text) e)
 
-pub byte-there : (text : List ℕ) (a b : ℕ) → a < length text → getD text a 0 ≡ b → word (b ∷ []) (drop a text) ≡ got tt (drop (a + 1) text)
+pub byte-there : (text : List ℕ) (a b : ℕ) → a < length text → getD text a 0 ≡ b
+    → word (b ∷ []) (drop a text) ≡ got tt (drop (a + 1) text)
 unfolding word
 byte-there text a b h e = rw (drop-cons text a 0 h, add-one a) (word-step b (getD text a 0) [] (drop (suc a) text) e)
 

@@ -55,7 +55,8 @@ module _ (s : Sizes) (text : List ℕ) (spec : Read Numbers) where
         turned-down _ (ap (λ (x : Bool). x && eqb (length (drop i text)) 0) (le-leb (length text) 65536 h) ∙ ne-eqb (length (drop i text)) 0 (λ z. omega (arith, z, length-drop i text)))
         ∙ after
 
-    asked-all : (r : Found) → length text ≤ 65536 → length text ≤ i → r ≡ searched geop (callOf s q) → r ≡ answeredBy (completeBy s (length text) spec)
+    asked-all : (r : Found) → length text ≤ 65536 → length text ≤ i → r ≡ searched geop (callOf s q)
+        → r ≡ answeredBy (completeBy s (length text) spec)
     unfolding completeBy answeredBy
     asked-all r h k R =
         R
@@ -75,10 +76,12 @@ module _ (s : Sizes) (text : List ℕ) (spec : Read Numbers) (l m : List Float) 
     pub numbers-long : 65536 < length text → Refused 12 0 ≡ answeredBy (completeBy s (length text) spec)
     numbers-long = asked-long s text spec (seen .says) i (seen .reads)
 
-    pub numbers-more : length text ≤ 65536 → i < length text → Refused 12 0 ≡ answeredBy (completeBy s (length text) spec)
+    pub numbers-more : length text ≤ 65536 → i < length text
+        → Refused 12 0 ≡ answeredBy (completeBy s (length text) spec)
     numbers-more = asked-more s text spec (seen .says) i (seen .reads)
 
-    pub numbers-all : (f : Found) → length text ≤ 65536 → length text ≤ i → f ≡ searched geop (callOf s (numbersIn s nodes m))
+    pub numbers-all : (f : Found) → length text ≤ 65536 → length text ≤ i
+        → f ≡ searched geop (callOf s (numbersIn s nodes m))
         → f ≡ answeredBy (completeBy s (length text) spec)
     numbers-all f a b F =
         let z = seen in
@@ -120,7 +123,8 @@ module _ (text : List ℕ) (r : Head) (h : HeadRead text (sizes text) r) where
     pub head-inside : i ≤ length text
     head-inside = head-seen .0
 
-    opened : (k : ℕ) → k ≡ sizesRefused these → answeredBy (openedBy these (length text) (drop i text) k) ≡ answered text
+    opened : (k : ℕ) → k ≡ sizesRefused these
+        → answeredBy (openedBy these (length text) (drop i text) k) ≡ answered text
     unfolding answered reading readBy
     opened k K = ap (λ (x : ℕ). answeredBy (openedBy these (length text) (drop i text) x)) K ∙ sym (ap (λ (x : Read Sizes). answeredBy (readBy (length text) x)) (head-seen .1))
 
@@ -131,7 +135,8 @@ module _ (text : List ℕ) (r : Head) (h : HeadRead text (sizes text) r) where
         one : Refused (suc k) 0 ≡ answeredBy (openedBy these (length text) (drop i text) (suc k))
         one = unfold answeredBy openedBy in refl
 
-    pub head-asked : (k : ℕ) (f : Found) → k ≡ sizesRefused these → k ≡ 0 → f ≡ answeredBy (completeBy these (length text) (numbers these (drop i text))) → f ≡ answered text
+    pub head-asked : (k : ℕ) (f : Found) → k ≡ sizesRefused these → k ≡ 0
+        → f ≡ answeredBy (completeBy these (length text) (numbers these (drop i text))) → f ≡ answered text
     head-asked k f K z F = F ∙ one ∙ opened 0 (sym z ∙ K)
       where
         one : answeredBy (completeBy these (length text) (numbers these (drop i text))) ≡ answeredBy (openedBy these (length text) (drop i text) 0)
@@ -140,7 +145,8 @@ module _ (text : List ℕ) (r : Head) (h : HeadRead text (sizes text) r) where
 -- ---- what is written
 
 -- All of it, where there is room.
-pub responds : (text : List ℕ) {l m : List ℕ} {f : Found} {r : ℕ} → f ≡ answered text → 160 ≤ length l → length m ≡ length l → r ≤ 160
+pub responds : (text : List ℕ) {l m : List ℕ} {f : Found} {r : ℕ} → f ≡ answered text → 160 ≤ length l
+    → length m ≡ length l → r ≤ 160
     → Written l 0 (printed (paper f)) m r → Written l 0 (fitting (length l) text) m r × Counts r m
 responds text {l} {m} {f} {r} F room long few w =
     let whole : printed (paper f) ≡ fitting (length l) text =

@@ -115,7 +115,8 @@ module _ (s : Sizes) (q : Numbers) (l m : List Float) (long : Long s (q .knots) 
   resolution-back : getD m 0 nan ≡ q .resolution
   resolution-back = ap (λ (x : List Float). getD x 0 nan) M ∙ getD-put l 0 (laid q) 0 nan (omega (arith, all-long)) (omega arith)
 
-  pub lines-back : (nodes : ℕ) (r : Found) → q .nodes ≡ nodes → r ≡ searched geop (callOf s (numbersIn s nodes m)) → r ≡ searched geop (callOf s q)
+  pub lines-back : (nodes : ℕ) (r : Found) → q .nodes ≡ nodes → r ≡ searched geop (callOf s (numbersIn s nodes m))
+      → r ≡ searched geop (callOf s q)
   lines-back nodes r N R =
       R
       ∙ (λ i. searched geop (callOf s (record {

@@ -31,7 +31,8 @@ sub-result : tie.Need-sub-result Inv-loop μ-loop
 sub-result c = omega arith
 
 -- What is known at the end: no digit follows those that were passed.
-counted : (t : List ℕ) (at i : ℕ) → at ≤ i → i ≤ length t → i - at + digits (drop i t) ≡ digits (drop at t) → digits (drop i t) ≡ 0
+counted : (t : List ℕ) (at i : ℕ) → at ≤ i → i ≤ length t → i - at + digits (drop i t) ≡ digits (drop at t)
+    → digits (drop i t) ≡ 0
     → (i - at ≡ digits (drop at t)) × (at + (i - at) ≤ length t) × (all isDigit (part t at (i - at)) ≡ true)
 counted t at i h g inv none =
     let e : i - at ≡ digits (drop at t) = omega arith in

@@ -24,7 +24,8 @@ abbrev begin : tie.At-loop Inv-loop μ-loop → tie.Start Inv-loop μ-loop
 begin c = c .before .before .before .before
 
 -- One more line has room.
-in-room : (c : tie.In-loop Inv-loop μ-loop) → let a = begin (c .before) .args in a .n * c .before .loop .i + a .n ≤ a .n * a .k
+in-room : (c : tie.In-loop Inv-loop μ-loop)
+    → let a = begin (c .before) .args in a .n * c .before .loop .i + a .n ≤ a .n * a .k
 in-room c = let a = begin (c .before) .args in row-in (a .n) (c .before .loop .i) (a .k) (omega arith)
 
 loop-holds : tie.Need-loop-holds Inv-loop μ-loop
