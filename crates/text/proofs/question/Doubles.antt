@@ -71,28 +71,27 @@ unfolding prepend then
 prepend-more xs ys bad = refl
 prepend-more xs ys (got zs t) = rw (append-assoc xs ys zs)
 
--- Of what is read as `whole`, the first i doubles were written to the memory l from `to` on, which became m; the others are read as `left`.
+-- Of what is read as `whole`, the first i doubles were written to the memory l from `to` on, which became m;
+-- the others are read as `left`.
 pub record Taken (whole left : Read (List Float)) (i to : ℕ) (l m : List Float) : Type 0 where
   pub xs : List Float
   pub long : length xs ≡ i
   pub wrote : m ≡ put l to xs
   pub told : whole ≡ prepend xs left
 
-module _ (whole : Read (List Float)) (to : ℕ) (l : List Float) where
-  -- nothing was taken yet
-  pub taken-none : (left : Read (List Float)) → whole ≡ left → Taken whole left 0 to l l
-  taken-none left e = record { xs = []; long = refl; wrote = sym (put-nil l to); told = e ∙ prepend-nil left }
+-- nothing was taken yet
+taken-none : {whole left : Read (List Float)} (to : ℕ) (l : List Float) → whole ≡ left → Taken whole left 0 to l l
+taken-none {left = left} to l e =
+    record { xs = []; long = refl; wrote = sym (put-nil l to); told = e ∙ prepend-nil left }
 
+module _ {whole left : Read (List Float)} {i to : ℕ} {l m : List Float} (k : Taken whole left i to l m) where
   -- what is left cannot be read
-  pub taken-bad : (left : Read (List Float)) (i : ℕ) (m : List Float) → Taken whole left i to l m → left ≡ bad
-      → whole ≡ bad
-  taken-bad left i m k e = k .told ∙ ap (prepend (k .xs)) e ∙ prepend-bad (k .xs)
+  taken-bad : left ≡ bad → whole ≡ bad
+  taken-bad e = k .told ∙ ap (prepend (k .xs)) e ∙ prepend-bad (k .xs)
 
   -- nothing is left
-  pub taken-all : (left : Read (List Float)) (i n : ℕ) (m : List Float) (text : List ℕ) (p : ℕ)
-      → Taken whole left i to l m → left ≡ got [] (drop p text) → i ≡ n → p ≤ length text
-      → ValuesAt text whole n to l m p
-  taken-all left i n m text p k e f h = record {
+  taken-all : {n : ℕ} (text : List ℕ) (p : ℕ) → left ≡ got [] (drop p text) → i ≡ n → p ≤ length text → ValuesAt text whole n to l m p
+  taken-all text p e f h = record {
     inside = h;
     xs = k .xs;
     reads = k .told ∙ ap (prepend (k .xs)) e ∙ prepend-end (k .xs) (drop p text);
@@ -101,17 +100,18 @@ module _ (whole : Read (List Float)) (to : ℕ) (l : List Float) where
   }
 
   -- some more are taken
-  pub taken-more : (left rest : Read (List Float)) (i j at : ℕ) (m : List Float) (ys : List Float)
-      → Taken whole left i to l m → left ≡ prepend ys rest → i + length ys ≡ j → at ≡ to + i → to + j ≤ length l
-      → Taken whole rest j to l (put m at ys)
-  taken-more left rest i j at m ys k e f g h =
-      let q : at ≡ to + length (k .xs) = omega (arith, k .long) in
+  taken-more : {rest : Read (List Float)} {j : ℕ} (ys : List Float) → left ≡ prepend ys rest → i + length ys ≡ j → to + j ≤ length l
+      → Taken whole rest j to l (put m (to + i) ys)
+  taken-more {rest} ys e f h =
+      let q : to + i ≡ to + length (k .xs) = omega (arith, k .long) in
       record {
         xs = k .xs ++ ys;
         long = length-append (k .xs) ys ∙ ap (λ (n : ℕ). n + length ys) (k .long) ∙ f;
         wrote = (λ a. put (k .wrote a) (q a) ys) ∙ put-put l to (k .xs) ys (omega (arith, k .long));
         told = k .told ∙ ap (prepend (k .xs)) e ∙ prepend-more (k .xs) ys rest;
       }
+
+-- ---- several doubles
 
 -- where a value cannot be read, neither can the values
 stuck : (d : Read Float) (b : ℕ) (f : Float → Unit {0} → List ℕ → Read (List Float))
@@ -131,36 +131,42 @@ unfolding values prepend
 values-one n m t a c b x e f d w = rw (e, ← f) (then-got (double t) _ x a d ∙ then-got (word (b ∷ []) a) _ tt c w)
 
 module _ (text : List ℕ) (n at to : ℕ) (l : List Float) where
-  -- before the first value
-  pub values-begin : Taken (values n (drop at text)) (values (n - 0) (drop at text)) 0 to l l
-  values-begin = let z : n ≡ n - 0 = omega arith in taken-none (values n (drop at text)) to l (values (n - 0) (drop at text)) (ap (λ (q : ℕ). values q (drop at text)) z)
+  -- The first i values are taken, the others are read from k on.
+  abbrev pub Values : ℕ → ℕ → List Float → Type 0
+  Values i k m = Taken (values n (drop at text)) (values (n - i) (drop k text)) i to l m
 
-  module _ (i k b : ℕ) (m : List Float) (r : Place) (less : i < n) (sep : b ≡ behind (n - i - 1)) (read : ValueRead text k b r) (so : Taken (values n (drop at text)) (values (n - i) (drop k text)) i to l m) where
+  -- before the first value
+  pub values-begin : Values 0 at l
+  values-begin = let z : n ≡ n - 0 = omega arith in taken-none to l (ap (λ (q : ℕ). values q (drop at text)) z)
+
+  module _ (i k b : ℕ) (m : List Float) (r : Place) (less : i < n) (sep : b ≡ behind (n - i - 1))
+      (read : ValueRead text k b r) (so : Values i k m) where
     next : n - i ≡ suc (n - i - 1)
     next = omega arith
 
     -- a value that cannot be read
     pub values-stop : r ≡ Bad → values n (drop at text) ≡ bad
-    values-stop e = taken-bad (values n (drop at text)) to l _ i m so (values-stuck (n - i) (n - i - 1) (drop k text) b next sep (subst (ValueRead text k b) e read))
+    values-stop e =
+        taken-bad so (values-stuck (n - i) (n - i - 1) (drop k text) b next sep (subst (ValueRead text k b) e read))
 
     -- one value
     pub values-turn : (j : ℕ) (x : Float) → r ≡ At j → x ≡ doubleOf (hexOf (part text k 16)) → to + n ≤ length l
-        → Taken (values n (drop at text)) (values (n - (i + 1)) (drop j text)) (i + 1) to l (set m (to + i) x)
+        → Values (i + 1) j (set m (to + i) x)
     values-turn j x e f h =
         let v = subst (ValueRead text k b) e read in
         let s : n - i - 1 ≡ n - (i + 1) = omega arith in
         let w : length m ≡ length l = rw (so .wrote) (length-put l to (so .xs) (omega (arith, so .long))) in
-        let o : values (n - i) (drop k text) ≡ prepend (x ∷ []) (values (n - (i + 1)) (drop j text)) = rw (f, ← s) (values-one (n - i) (n - i - 1) (drop k text) (drop (k + 16) text) (drop j text) b _ next sep (v .reads) (v .goes-on)) in
-        rw (put-one m (to + i) x (omega arith)) (taken-more (values n (drop at text)) to l _ _ i (i + 1) (to + i) m (x ∷ []) so o refl refl (omega arith))
+        let o : values (n - i) (drop k text) ≡ prepend (x ∷ []) (values (n - (i + 1)) (drop j text)) =
+        rw (f, ← s) (values-one (n - i) (n - i - 1) _ (drop (k + 16) text) (drop j text) b _ next sep (v .reads) (v .goes-on)) in
+        rw (put-one m (to + i) x (omega arith)) (taken-more so (x ∷ []) o refl (omega arith))
 
   -- behind the last value
-  pub values-end : (i k : ℕ) (m : List Float) → n ≤ i → i ≤ n → k ≤ length text
-      → Taken (values n (drop at text)) (values (n - i) (drop k text)) i to l m
+  pub values-end : (i k : ℕ) (m : List Float) → n ≤ i → i ≤ n → k ≤ length text → Values i k m
       → ValuesAt text (values n (drop at text)) n to l m k
   unfolding values
   values-end i k m g h p so =
       let z : n - i ≡ 0 = omega arith in
-      taken-all (values n (drop at text)) to l _ i n m text k so (ap (λ (q : ℕ). values q (drop k text)) z) (omega arith) p
+      taken-all so text k (ap (λ (q : ℕ). values q (drop k text)) z) (omega arith) p
 
 -- ---- lines of doubles
 
@@ -168,11 +174,11 @@ module _ (text key t : List ℕ) (n : ℕ) (r : Place) (w : WordRead text (word 
   -- the key is missing
   pub line-keyless : r ≡ Bad → line key n t ≡ bad
   unfolding line
-  line-keyless e = then-bad (word key t) _ (subst (WordRead text (word key t)) e w)
+  line-keyless e = then-bad (word key t) _ (subst (WordRead text _) e w)
 
   line-is : (i : ℕ) → r ≡ At i → line key n t ≡ values n (drop i text)
   unfolding line
-  line-is i e = then-got (word key t) _ tt (drop i text) (subst (WordRead text (word key t)) e w .1)
+  line-is i e = then-got (word key t) _ tt (drop i text) (subst (WordRead text _) e w .1)
 
   -- the values behind the key
   pub line-rest : (i : ℕ) → r ≡ At i → (to : ℕ) (l m : List Float) (q : Place)
@@ -193,40 +199,40 @@ pub row-in : (n i k : ℕ) → i < k → n * i + n ≤ n * k
 row-in n i k h = rw (← mul-suc n i) (mul-le-mul-left n h)
 
 module _ (text key : List ℕ) (n k at to : ℕ) (l : List Float) where
+  -- The first i lines are taken, the others are read from p on.
+  abbrev pub Lines : ℕ → ℕ → List Float → Type 0
+  Lines i p m = Taken (lines key n k (drop at text)) (lines key n (k - i) (drop p text)) (n * i) to l m
+
   -- before the first line
-  pub lines-begin : Taken (lines key n k (drop at text)) (lines key n (k - 0) (drop at text)) (n * 0) to l l
+  pub lines-begin : Lines 0 at l
   lines-begin =
       let z : k ≡ k - 0 = omega arith in
-      rw (mul-zero n) (taken-none (lines key n k (drop at text)) to l (lines key n (k - 0) (drop at text)) (ap (λ (q : ℕ). lines key n q (drop at text)) z))
+      rw (mul-zero n) (taken-none to l (ap (λ (q : ℕ). lines key n q (drop at text)) z))
 
-  module _ (i p : ℕ) (m w : List Float) (r : Place) (less : i < k) (read : ValuesRead text (line key n (drop p text)) n (to + n * i) m w r)
-      (so : Taken (lines key n k (drop at text)) (lines key n (k - i) (drop p text)) (n * i) to l m) where
+  module _ (i p : ℕ) (m w : List Float) (r : Place) (less : i < k)
+      (read : ValuesRead text (line key n (drop p text)) n (to + n * i) m w r) (so : Lines i p m) where
     left : k - i ≡ suc (k - (i + 1))
     left = omega arith
 
     -- a line that cannot be read
     pub lines-stop : r ≡ Bad → lines key n k (drop at text) ≡ bad
     lines-stop e =
-        taken-bad (lines key n k (drop at text)) to l _ (n * i) m so (lines-stuck key n (k - i) (k - (i + 1)) (drop p text) left (subst (ValuesRead text (line key n (drop p text)) n (to + n * i) m w) e read))
+        taken-bad so (lines-stuck key n (k - i) (k - (i + 1)) (drop p text) left (subst (ValuesRead text _ n _ m w) e read))
 
     -- one line
-    pub lines-turn : (j : ℕ) → r ≡ At j → to + n * k ≤ length l
-        → (j ≤ length text) × Taken (lines key n k (drop at text)) (lines key n (k - (i + 1)) (drop j text)) (n * (i + 1)) to l w
+    pub lines-turn : (j : ℕ) → r ≡ At j → to + n * k ≤ length l → (j ≤ length text) × Lines (i + 1) j w
     lines-turn j e h =
         let v = subst (ValuesRead text (line key n (drop p text)) n (to + n * i) m w) e read in
         let f : n * i + length (v .xs) ≡ n * (i + 1) = rw (v .long, add-one i, mul-suc n i) in
-        let g : n * (i + 1) ≤ n * k = rw (add-one i) (mul-le-mul-left n less) in (
-          v .inside,
-          rw (v .wrote)
-              (taken-more (lines key n k (drop at text)) to l _ _ (n * i) (n * (i + 1)) (to + n * i) m (v .xs) so (lines-one key n (k - i) (k - (i + 1)) (drop p text) (drop j text) (v .xs) left (v .reads)) f refl (omega arith)),
-        )
+        let g : n * (i + 1) ≤ n * k = rw (add-one i) (mul-le-mul-left n less) in
+        let o = lines-one key n (k - i) (k - (i + 1)) (drop p text) (drop j text) (v .xs) left (v .reads) in
+        (v .inside, rw (v .wrote) (taken-more so (v .xs) o f (omega arith)))
 
   -- behind the last line
-  pub lines-end : (i p : ℕ) (m : List Float) → k ≤ i → i ≤ k → p ≤ length text
-      → Taken (lines key n k (drop at text)) (lines key n (k - i) (drop p text)) (n * i) to l m
+  pub lines-end : (i p : ℕ) (m : List Float) → k ≤ i → i ≤ k → p ≤ length text → Lines i p m
       → ValuesAt text (lines key n k (drop at text)) (n * k) to l m p
   unfolding lines
   lines-end i p m g h q so =
       let z : k - i ≡ 0 = omega arith in
       let y : i ≡ k = omega arith in
-      taken-all (lines key n k (drop at text)) to l _ (n * i) (n * k) m text p so (ap (λ (q : ℕ). lines key n q (drop p text)) z) (ap (λ (q : ℕ). n * q) y) q
+      taken-all so text p (ap (λ (q : ℕ). lines key n q (drop p text)) z) (ap (λ (q : ℕ). n * q) y) q

@@ -2,9 +2,8 @@
 use mathlib.Core.Path.{_≡_, refl, _∙_}
 use Prim.Native.Nat.{_+_, _*_, _-_, _≤_}
 use native.Mathlib.Omega.{arith}
-use lib.ListN.{length, drop}
-use Rattle.text.specs.Question.{lines}
-use Rattle.text.proofs.question.Doubles.{Taken, row-in, lines-begin, lines-stop, lines-turn, lines-end}
+use lib.ListN.{length}
+use Rattle.text.proofs.question.Doubles.{Lines, row-in, lines-begin, lines-stop, lines-turn, lines-end}
 use borrow.Author.Needs.{needs}
 use Rattle.text.proofs.question.lines.Statement.{statement}
 use Rattle.text.proofs.question.lines.Tie as tie
@@ -14,7 +13,7 @@ Inv-loop text at key n k out₀ to i₀ p₀ out i p =
     (i ≤ k)
     × (p ≤ length text)
     × (length out ≡ length out₀)
-    × Taken (lines key n k (drop at text)) (lines key n (k - i) (drop p text)) (n * i) to out₀ out
+    × Lines text key n k at to out₀ i p out
 
 abbrev μ-loop : tie.MeasureT-loop
 μ-loop text at key n k out₀ to i₀ p₀ out i p = k - i

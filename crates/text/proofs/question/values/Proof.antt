@@ -2,10 +2,9 @@
 use mathlib.Core.Path.{_≡_, refl, subst}
 use Prim.Native.Nat.{_-_, _≤_}
 use native.Mathlib.Omega.{arith}
-use lib.ListN.{length, drop, length-set}
-use Rattle.text.specs.Question.{values}
+use lib.ListN.{length, length-set}
 use Rattle.text.specs.Cursor.{ValueRead}
-use Rattle.text.proofs.question.Doubles.{Taken, values-begin, values-stop, values-turn, values-end}
+use Rattle.text.proofs.question.Doubles.{Values, values-begin, values-stop, values-turn, values-end}
 use borrow.Author.Needs.{needs}
 use Rattle.text.proofs.question.values.Statement.{statement}
 use Rattle.text.proofs.question.values.Tie as tie
@@ -15,7 +14,7 @@ Inv-loop text at n out₀ to i₀ k₀ out i k =
     (i ≤ n)
     × (k ≤ length text)
     × (length out ≡ length out₀)
-    × Taken (values n (drop at text)) (values (n - i) (drop k text)) i to out₀ out
+    × Values text n at to out₀ i k out
 
 abbrev μ-loop : tie.MeasureT-loop
 μ-loop text at n out₀ to i₀ k₀ out i k = n - i
