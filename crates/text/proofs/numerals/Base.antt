@@ -1,4 +1,5 @@
--- Laws of the number that some digits are, in any base and with any value of a digit: what a loop over them knows. Assumes nothing.
+-- Laws of the number that some digits are, in any base and with any value of a digit: what a loop over them knows.
+-- Assumes nothing.
 use mathlib.Core.Path.{_≡_, refl, ap, _∙_}
 use mathlib.Core.List.{List}
 use Prim.Native.Nat.{ℕ, suc, _+_, _*_, _^_, _≤_, _<_}
@@ -26,7 +27,8 @@ module _ {base : ℕ} {value : ℕ → ℕ} {l : List ℕ} {at i v : ℕ} (k : K
       → Known base value l at (i + 1) (base * v + d)
   unfolding inBase
   known-turn d g e h =
-      let p : base ^ (i + 1) ≡ base * base ^ i = ap (λ (n : ℕ). base ^ n) (add-one i) ∙ pow-suc base i ∙ mul-comm (base ^ i) base in
+      let p : base ^ (i + 1) ≡ base * base ^ i =
+      ap (λ (n : ℕ). base ^ n) (add-one i) ∙ pow-suc base i ∙ mul-comm (base ^ i) base in
       let m : base * suc v ≤ base * base ^ i = mul-le-mul-left base (k .below) in
       record {
         number = rw (k .number, e) (foldl-part (λ n b. base * n + value b) 0 l at i 0 g);

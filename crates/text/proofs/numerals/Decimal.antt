@@ -1,4 +1,5 @@
--- Laws of small numbers in a text: of the digits that it begins with, and of the number that digits are. Assumes nothing.
+-- Laws of small numbers in a text: of the digits that it begins with, and of the number that they are.
+-- Assumes nothing.
 use mathlib.Core.Path.{_≡_, refl, sym, ap, _∙_, subst}
 use mathlib.Core.Bool.{Bool, true, false, not, cond, _&&_, _||_}
 use mathlib.Core.List.{List, [], _∷_}
@@ -67,7 +68,8 @@ digits-known l at n e = ap (λ (k : ℕ). all isDigit (take k (drop at l))) e �
 -- an element of a part whose elements all pass a test
 pub part-all : (p : ℕ → Bool) (l : List ℕ) (at n i : ℕ) → at + n ≤ length l → all p (part l at n) ≡ true → i < n
     → p (getD l (at + i) 0) ≡ true
-part-all p l at n i h e g = sym (ap p (getD-part l at n i 0 g)) ∙ all-getD p (part l at n) i 0 e (rw (length-part l at n h) g)
+part-all p l at n i h e g =
+    sym (ap p (getD-part l at n i 0 g)) ∙ all-getD p (part l at n) i 0 e (rw (length-part l at n h) g)
 
 -- a digit among digits
 pub digit-between : (l : List ℕ) (at n i : ℕ) → at + n ≤ length l → all isDigit (part l at n) ≡ true → i < n
@@ -94,7 +96,9 @@ pub small-more : (n : ℕ) (l : List ℕ) (at : ℕ) → 1 ≤ n → n ≤ 9 →
 small-more n l at g h e = rw (le-leb 1 n g, le-leb n 9 h, ne-eqb n 1 e, getD-drop at l 0 0, add-zero at)
 
 pub small-nine : (n : ℕ) (t : List ℕ) → isSmall n t ≡ true → n ≤ 9
-small-nine n t e = leb-true n 9 (both (leb 1 n) (leb n 9) (both (leb 1 n && leb n 9) (eqb n 1 || not (eqb (getD t 0 0) 48)) e .0) .1)
+small-nine n t e =
+    let some = both (leb 1 n && leb n 9) (eqb n 1 || not (eqb (getD t 0 0) 48)) e .0 in
+    leb-true n 9 (both (leb 1 n) (leb n 9) some .1)
 
 pub small-bad : (t : List ℕ) (n : ℕ) → n ≡ digits t → isSmall n t ≡ false → small t ≡ bad
 unfolding small

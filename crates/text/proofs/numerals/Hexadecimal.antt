@@ -42,13 +42,18 @@ hex-known l at i h e g = leb-true _ 15 (part-all isHex l at 16 i h e g)
 
 -- it is too short
 pub double-short : (l : List ℕ) (at : ℕ) → length l - at < 16 → false ≡ isDouble (drop at l)
-double-short l at h = let e : leb 16 (length (drop at l)) ≡ false = lt-leb 16 (length (drop at l)) (simp length-drop h) in rw e
+double-short l at h =
+    let e : leb 16 (length (drop at l)) ≡ false = lt-leb 16 (length (drop at l)) (simp length-drop h) in
+    rw e
 
 double-long : (l : List ℕ) (at : ℕ) → at + 16 ≤ length l → all isHex (part l at 16) ≡ isDouble (drop at l)
-double-long l at h = let e : leb 16 (length (drop at l)) ≡ true = le-leb 16 (length (drop at l)) (simp length-drop (omega arith)) in rw e
+double-long l at h =
+    let e : leb 16 (length (drop at l)) ≡ true = le-leb 16 (length (drop at l)) (simp length-drop (omega arith)) in
+    rw e
 
 -- the walk over them, where those that are left answer for all
-module _ (l : List ℕ) (at i : ℕ) (h : at + 16 ≤ length l) (inv : all isHex (drop i (part l at 16)) ≡ all isHex (part l at 16)) where
+module _ (l : List ℕ) (at i : ℕ) (h : at + 16 ≤ length l)
+    (inv : all isHex (drop i (part l at 16)) ≡ all isHex (part l at 16)) where
   walk-turn : (r : Bool) → i < 16 → isHex (getD l (at + i) 0) ≡ r
       → r && all isHex (drop (i + 1) (part l at 16)) ≡ all isHex (part l at 16)
   walk-turn r g e =
@@ -88,7 +93,8 @@ pub no-nan-bits : (b : ℕ) → b % 9223372036854775808 ≤ 9218868437227405312 
 unfolding nanBits
 no-nan-bits b h =
     let last : b % 9223372036854775808 / 4503599627370496 ≡ 2047 → b % 4503599627370496 ≡ 0 = λ e. omega arith in
-    one-fails _ _ (λ e. eq-eqb (b % 4503599627370496) 0 (last (eqb-true (b % 9223372036854775808 / 4503599627370496) 2047 e)))
+    one-fails _ _
+    (λ e. eq-eqb (b % 4503599627370496) 0 (last (eqb-true (b % 9223372036854775808 / 4503599627370496) 2047 e)))
 
 pub double-nan : (b : ℕ) → nanBits binary64 b ≡ true → nan ≡ doubleOf b
 unfolding doubleOf

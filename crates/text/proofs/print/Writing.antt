@@ -1,4 +1,5 @@
--- What is written to a text: words one behind the other, the digits of a number from the last on, and how many digits there are.
+-- What is written to a text: words one behind the other, the digits of a number from the last on,
+-- and how many digits there are.
 use mathlib.Core.Path.{_≡_, refl, sym, ap, _∙_, subst}
 use mathlib.Core.Logic.{_⊎_, ⊎-elim}
 use mathlib.Core.Option.{Option, none}
@@ -29,7 +30,10 @@ use Rattle.text.specs.Printable.{Written}
 pub joined : {l m k : List ℕ} {a b c : ℕ} {xs ys : List ℕ} → b ≤ length l → Written l a xs m b → Written m b ys k c
     → Written l a (xs ++ ys) k c
 joined {l} {m} {k} {a} {b} {c} {xs} {ys} h w v = record {
-  memory = v .memory ∙ ap (λ (x : List ℕ). put x b ys) (w .memory) ∙ ap (λ (x : ℕ). put (put l a xs) x ys) (w .end) ∙ put-put l a xs ys (omega (arith, w .end));
+  memory =
+      v .memory
+      ∙ (λ i. put (w .memory i) (w .end i) ys)
+      ∙ put-put l a xs ys (omega (arith, w .end));
   end = simp length-append (omega (arith, w .end, v .end));
 }
 
@@ -46,9 +50,14 @@ unfolding lastDigits
 length-digits b zero n = refl
 length-digits b (suc k) n = simp (length-append, length-digits b k (n / b), add-one)
 
--- The digits from place i on were written to l from `at` on, which became m; those in front of them are the last i of `rest`.
+-- The digits from place i on were written to l from `at` on, which became m;
+-- those in front of them are the last i of `rest`.
 abbrev pub Digits : List ℕ → ℕ → ℕ → ℕ → ℕ → List ℕ → ℕ → ℕ → Type 0
-Digits l at b k n m i rest = (ws : List ℕ) × (i + length ws ≡ k) × (lastDigits b i rest ++ ws ≡ lastDigits b k n) × (m ≡ put l (at + i) ws)
+Digits l at b k n m i rest =
+    (ws : List ℕ)
+    × (i + length ws ≡ k)
+    × (lastDigits b i rest ++ ws ≡ lastDigits b k n)
+    × (m ≡ put l (at + i) ws)
 
 pub digits-none : (l : List ℕ) (at b k n : ℕ) → Digits l at b k n l k n
 digits-none l at b k n = ([], omega arith, append-nil (lastDigits b k n), sym (put-nil l (at + k)))
@@ -58,7 +67,12 @@ digits-step : (l : List ℕ) (at b k n : ℕ) (m : List ℕ) (i rest : ℕ) → 
 unfolding lastDigits
 digits-step l at b k n m i rest h (ws, p, q, r) =
     let d : ℕ = digitOf (rest % b) in
-    (d ∷ ws, omega arith, sym (append-assoc (lastDigits b i (rest / b)) (d ∷ []) ws) ∙ q, ap (λ (x : List ℕ). set x (at + i) d) (r ∙ ap (λ (x : ℕ). put l x ws) (add-suc at i)) ∙ put-cons l (at + i) ws d (omega arith))
+    let before : m ≡ put l (suc (at + i)) ws = r ∙ ap (λ (x : ℕ). put l x ws) (add-suc at i) in (
+      d ∷ ws,
+      omega arith,
+      sym (append-assoc (lastDigits b i (rest / b)) (d ∷ []) ws) ∙ q,
+      ap (λ (x : List ℕ). set x (at + i) d) before ∙ put-cons l (at + i) ws d (omega arith),
+    )
 
 -- one turn
 pub digits-turn : (l : List ℕ) (at b k n : ℕ) (m : List ℕ) (i rest d : ℕ) → at + k ≤ length l → 0 < i
@@ -94,7 +108,8 @@ pub length-turn : (l rest t : ℕ) → l < 20 → 9 < rest → l + decimalLength
     → l + 1 + decimalLength (20 - (l + 1)) (rest / 10) ≡ t
 length-turn l rest t h g e =
     let s : 20 - l ≡ suc (20 - (l + 1)) = omega arith in
-    let q : decimalLength (20 - l) rest ≡ suc (decimalLength (20 - (l + 1)) (rest / 10)) = rw s (length-more (20 - (l + 1)) rest g) in
+    let q : decimalLength (20 - l) rest ≡ suc (decimalLength (20 - (l + 1)) (rest / 10)) =
+    rw s (length-more (20 - (l + 1)) rest g) in
     omega arith
 
 -- the rest is the first digit
@@ -117,7 +132,8 @@ length-full l rest t h e =
 pub decimal-written : (l : List ℕ) (at k n : ℕ) (m : List ℕ) (r : ℕ) → k ≡ decimalLength 19 n → k ≤ 20
     → Written l at (lastDigits 10 k n) m r → Written l at (decimal n) m r × (r ≤ at + 20)
 unfolding decimal
-decimal-written l at k n m r e h w = (subst (λ (x : ℕ). Written l at (lastDigits 10 x n) m r) e w, omega (arith, w .end, length-digits 10 k n))
+decimal-written l at k n m r e h w =
+    (subst (λ (x : ℕ). Written l at (lastDigits 10 x n) m r) e w, omega (arith, w .end, length-digits 10 k n))
 
 -- The digits that were written are those of x.
 pub double-written : (l : List ℕ) (at : ℕ) (x : Float) (m : List ℕ) (r : ℕ)
@@ -139,7 +155,9 @@ unbounded (Nothing v) h = refl
 unbounded (Enclosed lo hi v) h = absurd (other 1 (omega arith) (omega arith) h)
   where
     other : (k : ℕ) → 0 < k → k < 2 → (k ≡ 0) ⊎ ((k ≡ 2) ⊎ (k ≡ 3)) → ⊥
-    other k a b h = ⊎-elim (λ (e : k ≡ 0). omega arith) (λ (g : (k ≡ 2) ⊎ (k ≡ 3)). ⊎-elim (λ (e : k ≡ 2). omega arith) (λ (e : k ≡ 3). omega arith) g) h
+    other k a b h =
+        ⊎-elim (λ (e : k ≡ 0). omega arith)
+        (λ (g : (k ≡ 2) ⊎ (k ≡ 3)). ⊎-elim (λ (e : k ≡ 2). omega arith) (λ (e : k ≡ 3). omega arith) g) h
 unbounded (Spent n v) h = refl
 unbounded (Refused n v) h = refl
 
@@ -149,15 +167,18 @@ pub dashes-written : (f : Found) {l m : List ℕ} {at r : ℕ}
     → Written l at (bytes "lo=-\nhi=-\n") m r
     → r ≤ at + 40 → Written l at (boundLines (paper f .bounds)) m r × (r ≤ at + 40)
 unfolding boundLines
-dashes-written f {l} {m} {at} {r} k w h = (subst (λ (x : Option Scalar). Written l at (boundLines x) m r) (sym (unbounded f k)) w, h)
+dashes-written f {l} {m} {at} {r} k w h =
+    (subst (λ (x : Option Scalar). Written l at (boundLines x) m r) (sym (unbounded f k)) w, h)
 
 -- Five words, one behind the other.
 pub five-joined : {l m₁ m₂ m₃ m₄ m₅ : List ℕ} {at p q r s t : ℕ} {a b c d e : List ℕ} → t ≤ length l
     → Written l at a m₁ p → Written m₁ p b m₂ q → Written m₂ q c m₃ r → Written m₃ r d m₄ s → Written m₄ s e m₅ t
     → Written l at (a ++ b ++ c ++ d ++ e) m₅ t
-five-joined h u v w x y = joined (omega arith) (joined (omega arith) (joined (omega arith) (joined (omega arith) u v) w) x) y
+five-joined h u v w x y =
+    joined (omega arith) (joined (omega arith) (joined (omega arith) (joined (omega arith) u v) w) x) y
 
--- The five lines: the word of the result behind its key, the two counts, the end of their line, and the lines of the bounds.
+-- The five lines: the word of the result behind its key, the two counts, the end of their line,
+-- and the lines of the bounds.
 pub printed-written : (f : Found) (v n : ℕ) {l m₁ m₂ m₃ m₄ m₅ m₆ : List ℕ} {p q r s t o : ℕ}
     → v ≡ paper f .visited → n ≡ paper f .pending → o ≤ length l → o ≤ 160
     → Written l 0 (bytes "result=") m₁ p → Written m₁ p (resultWord (paper f .result)) m₂ q

@@ -60,12 +60,15 @@ pub word-turn : (text w : List ℕ) (a i : ℕ) → a + i < length text → i < 
     → word (drop i w) (drop (a + i) text) ≡ word (drop (i + 1) w) (drop (a + (i + 1)) text)
 word-turn text w a i h k e =
     let s : a + (i + 1) ≡ suc (a + i) = omega arith in
-    rw (drop-cons w i 0 k, drop-cons text (a + i) 0 h, s, add-one i) (word-step (getD w i 0) (getD text (a + i) 0) (drop (suc i) w) (drop (suc (a + i)) text) e)
+    rw (drop-cons w i 0 k, drop-cons text (a + i) 0 h, s, add-one i)
+    (word-step (getD w i 0) (getD text (a + i) 0) (drop (suc i) w) (drop (suc (a + i)) text) e)
 
 -- it is another
 pub word-off : (text w : List ℕ) (a i : ℕ) → a + i < length text → i < length w
     → (getD text (a + i) 0 ≡ getD w i 0 → ⊥) → word (drop i w) (drop (a + i) text) ≡ bad
-word-off text w a i h k e = rw (drop-cons w i 0 k, drop-cons text (a + i) 0 h) (word-stop (getD w i 0) (getD text (a + i) 0) (drop (suc i) w) (drop (suc (a + i)) text) e)
+word-off text w a i h k e =
+    rw (drop-cons w i 0 k, drop-cons text (a + i) 0 h)
+    (word-stop (getD w i 0) (getD text (a + i) 0) (drop (suc i) w) (drop (suc (a + i)) text) e)
 
 -- behind the last byte
 pub word-done : (text w : List ℕ) (a i : ℕ) → i ≡ length w
@@ -92,27 +95,30 @@ module _ (text key t : List ℕ) (r : Place) (w : WordRead text (word key t) r) 
   -- the key is missing
   pub small-line-keyless : r ≡ Bad → smallLine key t ≡ bad
   unfolding smallLine
-  small-line-keyless e = then-bad (word key t) _ (subst (WordRead text (word key t)) e w)
+  small-line-keyless e = then-bad (word key t) _ (subst (WordRead text _) e w)
 
   module _ (i : ℕ) (e : r ≡ At i) (s : Small) (n : SmallRead text (small (drop i text)) s) where
     behind-key : smallLine key t ≡ then (small (drop i text)) (λ n b. then (word (10 ∷ []) b) (λ _ rest. got n rest))
     unfolding smallLine
-    behind-key = then-got (word key t) _ tt (drop i text) (subst (WordRead text (word key t)) e w .1)
+    behind-key = then-got (word key t) _ tt (drop i text) (subst (WordRead text _) e w .1)
 
     -- no number follows
     pub small-line-none : s ≡ NoNumber → smallLine key t ≡ bad
-    small-line-none f = behind-key ∙ then-bad (small (drop i text)) _ (subst (SmallRead text (small (drop i text))) f n)
+    small-line-none f = behind-key ∙ then-bad (small (drop i text)) _ (subst (SmallRead text _) f n)
 
     module _ (x j : ℕ) (f : s ≡ Number x j) (q : Place) (b : WordRead text (word (10 ∷ []) (drop j text)) q) where
       behind-number : smallLine key t ≡ then (word (10 ∷ []) (drop j text)) (λ _ rest. got x rest)
-      behind-number = behind-key ∙ then-got (small (drop i text)) _ x (drop j text) (subst (SmallRead text (small (drop i text))) f n .2)
+      behind-number = behind-key ∙ then-got (small (drop i text)) _ x (drop j text) (subst (SmallRead text _) f n .2)
 
       -- the line does not end
       pub small-line-endless : q ≡ Bad → smallLine key t ≡ bad
-      small-line-endless g = behind-number ∙ then-bad (word (10 ∷ []) (drop j text)) _ (subst (WordRead text (word (10 ∷ []) (drop j text))) g b)
+      small-line-endless g = behind-number ∙ then-bad (word (10 ∷ []) (drop j text)) _ (subst (WordRead text _) g b)
 
       -- the whole line is there
       pub small-line-whole : (k : ℕ) → q ≡ At k → SmallRead text (smallLine key t) (Number x k)
       small-line-whole k g =
-          let p = subst (WordRead text (word (10 ∷ []) (drop j text))) g b in
-          (subst (SmallRead text (small (drop i text))) f n .0, p .0, behind-number ∙ then-got (word (10 ∷ []) (drop j text)) _ tt (drop k text) (p .1))
+          let p = subst (WordRead text _) g b in (
+            subst (SmallRead text _) f n .0,
+            p .0,
+            behind-number ∙ then-got (word (10 ∷ []) (drop j text)) _ tt (drop k text) (p .1),
+          )

@@ -1,4 +1,5 @@
--- The numbers of a question: read back from the memory that they were written to, and lent to the search. Leans on the contract of the search.
+-- The numbers of a question: read back from the memory that they were written to, and lent to the search.
+-- Leans on the contract of the search.
 use mathlib.Core.Path.{_≡_, refl, sym, ap, _∙_}
 use mathlib.Core.List.{List, [], _∷_, _++_, append-assoc, append-nil}
 use Prim.Native.Nat.{ℕ, _+_, _*_, _≤_}
@@ -62,14 +63,18 @@ module _ {A : Type 0} where
   drop-front (x ∷ xs) ys = drop-front xs ys
 
   part-middle : (xs ys zs l : List A) (a w : ℕ) → l ≡ xs ++ (ys ++ zs) → length xs ≡ a → length ys ≡ w → part l a w ≡ ys
-  part-middle xs ys zs l a w e f g = (λ i. part (e i) (sym f i) (sym g i)) ∙ ap (take (length ys)) (drop-front xs (ys ++ zs)) ∙ take-front ys zs
+  part-middle xs ys zs l a w e f g =
+      (λ i. part (e i) (sym f i) (sym g i)) ∙ ap (take (length ys)) (drop-front xs (ys ++ zs)) ∙ take-front ys zs
 
   part-written : (l vs : List A) (a w : ℕ) → a + w ≤ length vs → part (put l 0 vs) a w ≡ part vs a w
-  part-written l vs a w h = let z : a ≡ 0 + a = omega arith in ap (λ (k : ℕ). part (put l 0 vs) k w) z ∙ part-put-in l 0 vs a w h (omega arith)
+  part-written l vs a w h =
+      let z : a ≡ 0 + a = omega arith in
+      ap (λ (k : ℕ). part (put l 0 vs) k w) z ∙ part-put-in l 0 vs a w h (omega arith)
 
 -- ---- the numbers of a question, read back from the memory that they were written to
 
-module _ (s : Sizes) (q : Numbers) (l m : List Float) (long : Long s (q .knots) (q .points) (q .box)) (M : m ≡ put l 0 (laid q)) where
+module _ (s : Sizes) (q : Numbers) (l m : List Float) (long : Long s (q .knots) (q .points) (q .box))
+    (M : m ≡ put l 0 (laid q)) where
   -- Where the points begin, and where the box does.
   abbrev at-points : ℕ
   at-points = 1 + knotDoubles s
@@ -102,7 +107,8 @@ module _ (s : Sizes) (q : Numbers) (l m : List Float) (long : Long s (q .knots) 
   points-back : part m at-points (pointDoubles s * s .count) ≡ q .points
   points-back =
       cut at-points (pointDoubles s * s .count) (omega (arith, all-long))
-      ∙ part-middle (q .resolution ∷ q .knots) (q .points) (q .box) (laid q) at-points _ joined (omega (arith, long .knots-long)) (long .points-long)
+      ∙ part-middle (q .resolution ∷ q .knots) (q .points) (q .box) (laid q) at-points _ joined
+      (omega (arith, long .knots-long)) (long .points-long)
 
   box-back : part m at-box (boxDoubles s) ≡ q .box
   box-back =
@@ -113,7 +119,8 @@ module _ (s : Sizes) (q : Numbers) (l m : List Float) (long : Long s (q .knots) 
       (omega (arith, length-append (q .knots) (q .points), long .knots-long, long .points-long)) (long .box-long)
 
   resolution-back : getD m 0 nan ≡ q .resolution
-  resolution-back = ap (λ (x : List Float). getD x 0 nan) M ∙ getD-put l 0 (laid q) 0 nan (omega (arith, all-long)) (omega arith)
+  resolution-back =
+      ap (λ (x : List Float). getD x 0 nan) M ∙ getD-put l 0 (laid q) 0 nan (omega (arith, all-long)) (omega arith)
 
   pub lines-back : (nodes : ℕ) (r : Found) → q .nodes ≡ nodes → r ≡ searched geop (callOf s (numbersIn s nodes m))
       → r ≡ searched geop (callOf s q)

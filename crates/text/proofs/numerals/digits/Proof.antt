@@ -59,7 +59,8 @@ loop-again c =
     let at-loop = test .before .before .before in
     let l = at-loop .loop in
     let a = at-loop .before .before .args in
-    let s = digits-turn (a .text .now) (l .i) (omega arith) (sym (test .is-digit .ensures) ∙ not-false _ (c .if1 .left)) in
+    let is-one = sym (test .is-digit .ensures) ∙ not-false _ (c .if1 .left) in
+    let s = digits-turn (a .text .now) (l .i) (omega arith) is-one in
     (omega arith, omega arith, omega (arith, s, l .inv .2))
 
 sub-result-2 : tie.Need-sub-result-2 Inv-loop μ-loop
@@ -69,7 +70,8 @@ returns-2 : tie.Need-returns-2 Inv-loop μ-loop
 returns-2 c =
     let l = c .before .loop in
     let a = c .before .before .before .args in
-    counted (a .text .now) (a .at) (l .i) (l .inv .0) (l .inv .1) (l .inv .2) (digits-done (a .text .now) (l .i) (omega arith))
+    counted (a .text .now) (a .at) (l .i) (l .inv .0) (l .inv .1) (l .inv .2)
+    (digits-done (a .text .now) (l .i) (omega arith))
 
 pub digits-spec : {M : Type 1} → statement M
 digits-spec =

@@ -40,7 +40,8 @@ digit c =
     let at-loop = c .before .before .before in
     let begin = at-loop .before .before in
     let a = begin .args in
-    omega (arith, c .nibble .ensures, hex-known (a .text .now) (a .at) (at-loop .loop .i) (begin .pre .0) (begin .pre .1) (omega arith))
+    let h = hex-known (a .text .now) (a .at) (at-loop .loop .i) (begin .pre .0) (begin .pre .1) (omega arith) in
+    omega (arith, c .nibble .ensures, h)
 
 cast-v : tie.Need-cast-v Inv-loop μ-loop
 cast-v c = omega (arith, digit c)
@@ -57,7 +58,7 @@ loop-less c = omega arith
 loop-again : tie.Need-loop-again Inv-loop μ-loop
 loop-again c =
     let at-loop = c .before .before .before in
-    (omega arith, known-turn (at-loop .loop .inv .1) (c .nibble .result) (omega arith) (c .nibble .ensures) (omega (arith, digit c)))
+    (omega arith, known-turn (at-loop .loop .inv .1) _ (omega arith) (c .nibble .ensures) (omega (arith, digit c)))
 
 returns : tie.Need-returns Inv-loop μ-loop
 returns c =

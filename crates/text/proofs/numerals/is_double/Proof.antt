@@ -48,7 +48,8 @@ returns-2 c =
     let at-loop = digit .before .before .before in
     let l = at-loop .loop in
     let a = begin at-loop .args in (
-      walk-stop (a .text .now) (a .at) (l .i) (l .inv .1) (l .inv .2) _ (digit .nibble .ensures) (omega arith) (c .if2 .taken),
+      walk-stop (a .text .now) (a .at) (l .i) (l .inv .1) (l .inv .2) _ (digit .nibble .ensures) (omega arith)
+          (c .if2 .taken),
       λ e. absurd (yes false e),
     )
 
@@ -66,7 +67,8 @@ loop-again c =
     let a = begin at-loop .args in (
       omega arith,
       l .inv .1,
-      walk-keep (a .text .now) (a .at) (l .i) (l .inv .1) (l .inv .2) _ (digit .nibble .ensures) (omega arith) (c .if2 .left),
+      walk-keep (a .text .now) (a .at) (l .i) (l .inv .1) (l .inv .2) _ (digit .nibble .ensures) (omega arith)
+          (c .if2 .left),
     )
 
 returns-3 : tie.Need-returns-3 Inv-loop μ-loop

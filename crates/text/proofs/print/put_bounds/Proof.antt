@@ -46,7 +46,9 @@ abbrev at-lo : tie.After-put-double-arg2 → tie.After-put-double-arg
 at-lo c = let second = c .before .before .before in second .before .before .before .before .before .before
 
 put-double-requires : tie.Need-put-double-requires
-put-double-requires c κs = let k = known c in (omega arith, subst Printable (k .f .given .1) (k .before .before .before .pre .1) .0)
+put-double-requires c κs =
+    let k = known c in
+    (omega arith, subst Printable (k .f .given .1) (k .before .before .before .pre .1) .0)
 
 slice-aggregate-put-word-3 : tie.Need-slice-aggregate-put-word-3
 slice-aggregate-put-word-3 c = search needs

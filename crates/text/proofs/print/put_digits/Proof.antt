@@ -1,4 +1,5 @@
--- `put_digits` writes the digits from the last on. Invariant: those from place i on stand there, and the others are the last i of the rest.
+-- `put_digits` writes the digits from the last on.
+-- Invariant: those from place i on stand there, and the others are the last i of the rest.
 use mathlib.Core.Path.{_≡_, refl}
 use Prim.Native.Nat.{_≤_}
 use native.Mathlib.Nat.{mod-lt}

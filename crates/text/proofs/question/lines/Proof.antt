@@ -1,4 +1,5 @@
--- `lines` reads k lines of n doubles each. Invariant: the first i lines were read and written, the others are read from p on.
+-- `lines` reads k lines of n doubles each.
+-- Invariant: the first i lines were read and written, the others are read from p on.
 use mathlib.Core.Path.{_≡_, refl, _∙_}
 use Prim.Native.Nat.{_+_, _*_, _-_, _≤_}
 use native.Mathlib.Omega.{arith}
@@ -52,7 +53,9 @@ abbrev head : tie.After-line Inv-loop μ-loop → tie.At-loop Inv-loop μ-loop
 head c = c .before .before .before
 
 same-length : tie.Need-same-length Inv-loop μ-loop
-same-length c = let read = c .before .before .before .before in read .line .kept .1 .1 .1 .1 .0 ∙ head read .loop .inv .2
+same-length c =
+    let read = c .before .before .before .before in
+    read .line .kept .1 .1 .1 .1 .0 ∙ head read .loop .inv .2
 
 returns : tie.Need-returns Inv-loop μ-loop
 returns c =

@@ -34,7 +34,8 @@ returns : tie.Need-returns
 returns c =
     let limits = c .before .before .before .before in
     let a = limits .before .before .before .before .args in
-    numbers-none (a .text .now) _ (these limits) (a .out .now) (memory limits) _ (limits .limits .ensures) (c .enum-told .given .1)
+    numbers-none (a .text .now) _ (these limits) (a .out .now) (memory limits) _ (limits .limits .ensures)
+    (c .enum-told .given .1)
 
 shape-requires : tie.Need-shape-requires
 shape-requires c κs =
@@ -42,8 +43,8 @@ shape-requires c κs =
     let limits = at-limits .before .before .before .before in
     let begin = limits .before .before .before .before in
     let a = begin .args in
-    let inside = subst (LimitsRead (a .text .now) _ (a .out .now) (memory limits)) (at-limits .n .given .1) (limits .limits .ensures) .inside in
-    (inside, begin .pre .1, begin .pre .2, begin .pre .3, omega (arith, begin .pre .4, limits .limits .kept .1 .1 .0))
+    let read = subst (LimitsRead (a .text .now) _ (a .out .now) (memory limits)) (at-limits .n .given .1) (limits .limits .ensures) in
+    (read .inside, begin .pre .1, begin .pre .2, begin .pre .3, omega (arith, begin .pre .4, limits .limits .kept .1 .1 .0))
 
 enum-known-j : tie.Need-enum-known-j
 enum-known-j c = search needs
@@ -60,8 +61,8 @@ returns-2 c =
     let at-limits = shape .before .before .before in
     let limits = at-limits .before .before .before .before in
     let a = limits .before .before .before .before .args in
-    numbers-one (a .text .now) _ (these limits) (a .out .now) (memory limits) _ (limits .limits .ensures) _ _ (at-limits .n .given .1)
-    (shape .shape .last .1 .1 .1 .1 .1 .0) _ (shape .shape .ensures) (c .enum-told2 .given .1)
+    numbers-one (a .text .now) _ (these limits) (a .out .now) (memory limits) _ (limits .limits .ensures)
+    _ _ (at-limits .n .given .1) (shape .shape .last .1 .1 .1 .1 .1 .0) _ (shape .shape .ensures) (c .enum-told2 .given .1)
 
 same-length-3 : tie.Need-same-length-3
 same-length-3 c = search needs
@@ -74,8 +75,9 @@ returns-3 c =
     let limits = at-limits .before .before .before .before in
     let begin = limits .before .before .before .before in
     let a = begin .args in
-    numbers-two (a .text .now) _ (these limits) (a .out .now) (memory limits) _ (limits .limits .ensures) _ _ (at-limits .n .given .1)
-    (shape .shape .last .1 .1 .1 .1 .1 .0) _ (shape .shape .ensures) _ (at-shape .j .given .1) (omega (arith, begin .pre .4))
+    numbers-two (a .text .now) _ (these limits) (a .out .now) (memory limits) _ (limits .limits .ensures)
+    _ _ (at-limits .n .given .1) (shape .shape .last .1 .1 .1 .1 .1 .0) _ (shape .shape .ensures)
+    _ (at-shape .j .given .1) (omega (arith, begin .pre .4))
 
 pub numbers-spec : {M : Type 1} → statement M
 numbers-spec =

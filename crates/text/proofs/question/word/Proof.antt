@@ -21,7 +21,9 @@ sub-if1 : tie.Need-sub-if1 Inv-loop μ-loop
 sub-if1 c = omega arith
 
 returns : tie.Need-returns Inv-loop μ-loop
-returns c = let a = c .before .args in word-short (a .w .now) (drop (a .at) (a .text .now)) (simp length-drop (omega arith))
+returns c =
+    let a = c .before .args in
+    word-short (a .w .now) (drop (a .at) (a .text .now)) (simp length-drop (omega arith))
 
 loop-holds : tie.Need-loop-holds Inv-loop μ-loop
 loop-holds c = let a = c .before .args in (omega arith, omega arith, word-begins (a .text .now) (a .w .now) (a .at))

@@ -14,7 +14,7 @@ enum-told : tie.Need-enum-told
 enum-told c = search needs
 
 returns : tie.Need-returns
-returns c = let head = c .before .before .sizes in (head-bad _ (head .result) (head .ensures) (c .enum-told .given .1), tt)
+returns c = let head = c .before .before .sizes in (head-bad _ _ (head .ensures) (c .enum-told .given .1), tt)
 
 sizes-refused-requires : tie.Need-sizes-refused-requires
 sizes-refused-requires c κs = search needs
@@ -24,7 +24,7 @@ returns-2 c =
     let refused = c .before in
     let at-sizes = refused .before .before in
     let head = at-sizes .before .before .sizes in (
-      head-refused _ (head .result) (head .ensures) _ _ _ _ (at-sizes .dim .given .1) _ (refused .sizes-refused .ensures)
+      head-refused _ _ (head .ensures) _ _ _ _ (at-sizes .dim .given .1) _ (refused .sizes-refused .ensures)
           (c .if1 .taken),
       tt,
     )
@@ -35,7 +35,7 @@ asked-requires c κs =
     let at-sizes = refused .before .before in
     let head = at-sizes .before .before .sizes in
     let small = sizes-fit _ _ _ _ (refused .sizes-refused .ensures) (c .if1 .left) in
-    (head-inside _ (head .result) (head .ensures) _ _ _ _ (at-sizes .dim .given .1), small .0, small .1, small .2)
+    (head-inside _ _ (head .ensures) _ _ _ _ (at-sizes .dim .given .1), small .0, small .1, small .2)
 
 returns-3 : tie.Need-returns-3
 returns-3 c =
@@ -43,7 +43,7 @@ returns-3 c =
     let at-sizes = refused .before .before in
     let head = at-sizes .before .before .sizes in
     let answer = c .asked .ensures in (
-      head-asked _ (head .result) (head .ensures) _ _ _ _ (at-sizes .dim .given .1) _ _ (refused .sizes-refused .ensures)
+      head-asked _ _ (head .ensures) _ _ _ _ (at-sizes .dim .given .1) _ _ (refused .sizes-refused .ensures)
           (c .before .if1 .left) (answer .0),
       answer .1,
     )

@@ -1,4 +1,5 @@
--- `asked` equals its definition: the other lines are bad, the text is too long, something stands behind the last line, or the search answers.
+-- `asked` equals its definition: the other lines are bad, the text is too long, something stands behind the last line,
+-- or the search answers.
 use lib.ListN.{drop}
 use Rattle.text.specs.Bytes.{Read}
 use Rattle.text.specs.Question.{sizesOf, Numbers, numbers}
@@ -24,25 +25,30 @@ enum-told c = search needs
 
 -- The other lines, as the text has them.
 abbrev others : tie.After-numbers → Read Numbers
-others c = let g = c .before .before .before .before .args in numbers (sizesOf (g .dim) (g .degree) (g .count)) (drop (g .at) (g .text .now))
+others c =
+    let g = c .before .before .before .before .args in
+    numbers (sizesOf (g .dim) (g .degree) (g .count)) (drop (g .at) (g .text .now))
 
 returns : tie.Need-returns
 returns c =
     let read = c .before .before .before in
-    (numbers-bad _ _ (others read) _ _ (read .numbers .result) (read .numbers .ensures) (c .enum-told .given .1), tt)
+    (numbers-bad _ _ (others read) _ _ _ (read .numbers .ensures) (c .enum-told .given .1), tt)
 
 returns-2 : tie.Need-returns-2
 returns-2 c =
     let at-nodes = c .before .before in
-    let read = at-nodes .before .before .before in
-    (numbers-long _ _ (others read) _ _ (read .numbers .result) (read .numbers .ensures) _ _ (at-nodes .nodes .given .1) (c .if1 .taken), tt)
+    let read = at-nodes .before .before .before in (
+      numbers-long _ _ (others read) _ _ _ (read .numbers .ensures) _ _ (at-nodes .nodes .given .1) (c .if1 .taken),
+      tt,
+    )
 
 returns-3 : tie.Need-returns-3
 returns-3 c =
     let at-length = c .before in
     let at-nodes = at-length .before .before in
     let read = at-nodes .before .before .before in (
-      numbers-more _ _ (others read) _ _ (read .numbers .result) (read .numbers .ensures) _ _ (at-nodes .nodes .given .1) (at-length .if1 .left) (c .if2 .taken),
+      numbers-more _ _ (others read) _ _ _ (read .numbers .ensures) _ _ (at-nodes .nodes .given .1)
+          (at-length .if1 .left) (c .if2 .taken),
       tt,
     )
 
@@ -59,8 +65,8 @@ returns-4 c =
     let at-nodes = at-length .before .before in
     let read = at-nodes .before .before .before in
     let answer = c .ask-lines in (
-      numbers-all _ _ (others read) _ _ (read .numbers .result) (read .numbers .ensures) _ _ (at-nodes .nodes .given .1) (answer .result)
-          (at-length .if1 .left) (at-end .if2 .left) (answer .ensures .0),
+      numbers-all _ _ (others read) _ _ _ (read .numbers .ensures) _ _ (at-nodes .nodes .given .1)
+          (answer .result) (at-length .if1 .left) (at-end .if2 .left) (answer .ensures .0),
       answer .ensures .1,
     )
 

@@ -20,7 +20,8 @@ returns-2 : tie.Need-returns-2
 returns-2 c =
     let at-answer = c .before .before .before .before in
     let w = c .before .before .write in
-    responds (at-answer .before .before .before .before .args .text .now) (at-answer .answered .ensures .0) (at-answer .before .if1 .left) (w .kept .1 .0) (w .ensures .1) (w .ensures .0)
+    responds (at-answer .before .before .before .before .args .text .now) (at-answer .answered .ensures .0)
+    (at-answer .before .if1 .left) (w .kept .1 .0) (w .ensures .1) (w .ensures .0)
 
 pub respond-spec : {M : Type 1} → statement M
 respond-spec = tie.close (tie.spec returns answered-requires write-requires same-length returns-2)
