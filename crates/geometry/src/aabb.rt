@@ -18,7 +18,7 @@ ghost use Rattle.math.specs.Picks.{minF, maxF};
 ghost use Rattle.math.specs.Scalars.{geop, ZERO, ONE, unionS, inverseS};
 ghost use Rattle.model.specs.Vector.{coordinate};
 ghost use Rattle.model.specs.Layout.{scalarsOf, pointAt, pointsOf};
-ghost use Rattle.geometry.specs.Boxes.{corners, rawPlace};
+ghost use Rattle.geometry.specs.Aabb.{corners, rawPlace};
 ghost use Rattle.model.specs.Aabb.{unions, place, aabb, couldOverlap, along, meets, couldMeet};
 
 // Coordinate k of point i over its weight.

@@ -3,10 +3,10 @@ use Prim.Native.Nat.{ℕ, zero, suc}
 use mathlib.Core.Bool.{Bool, cond, _&&_, _||_}
 use mathlib.Core.List.{List, [], _∷_, map, zipWith}
 use mathlib.Core.Option.{Option, none, some}
-use lib.ListN.{getD, replicate}
+use lib.ListN.{getD}
 use lib.IntN.{pos}
 use lib.Ieee.{Float, binary64, add, sub, mul, div, lt, ofInt}
-use Rattle.lists.specs.Lists.{part, put, tab, lastD, foldl}
+use Rattle.lists.specs.Lists.{part, tab, lastD, foldl}
 use Rattle.math.specs.declared.scalars.Scalar.{Scalar}
 use Rattle.math.specs.declared.scalars.Divided.{Divided}
 use Rattle.math.specs.declared.scalars.Divided.the-variants.{Value, Failed}
@@ -16,7 +16,6 @@ use Rattle.math.specs.Scalars.{Arithmetic, zeroF, sharp, absent, ZERO, ENTIRE, 
 use Rattle.model.specs.Vector.{Vector, coordinate}
 use Rattle.model.specs.NurbCurve.{domain, inDomain}
 use Rattle.model.specs.Aabb.{unions}
-use Rattle.model.specs.Layout.{flat}
 use Rattle.model.specs.declared.fat_line.Hat.{Hat}
 use Rattle.model.specs.declared.fat_line.Hat.the-variants.{Over, Missing}
 

@@ -8,7 +8,7 @@ use Prim.Native.Nat.{ℕ}
 use lib.IntN.{ℤ}
 use lib.Dec.{T, not-T}
 use lib.Ieee.{Float, nan, inf, fin, neg, lt, le, eq, isNan}
-use Rattle.exact.specs.Ring.{by-rep, read}
+use Rattle.ring.proofs.Ring.{by-rep, read}
 use Rattle.exact.specs.Rational.{ℚ, -ℚ_, _-ℚ_, 0ℚ, 1ℚ, _≤ℚ_, _<ℚ_, nn-of, lt→not-le}
 use Rattle.exact.proofs.Field.{ℚring}
 use Rattle.exact.proofs.Order.{le-by, le-refl, le-trans as ≤-trans, le-or-lt, lt→le, 0<1, neg-mono}

@@ -2,7 +2,7 @@
 use mathlib.Core.Path.{refl}
 use lib.Ieee.{nanBits, ofBits, neg, isNan}
 use Rattle.math.proofs.Picks.{least-of, most-of}
-use Rattle.geometry.specs.Boxes.{corners}
+use Rattle.geometry.specs.Aabb.{corners}
 use borrow.Author.Needs.{needs}
 use Rattle.geometry.proofs.aabb.corners.Statement.{statement}
 use Rattle.geometry.proofs.aabb.corners.Tie as tie

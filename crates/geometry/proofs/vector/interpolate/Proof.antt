@@ -6,7 +6,7 @@ use Rattle.lists.proofs.Put.{put-nil}
 use Rattle.math.specs.declared.scalars.Fraction.{Fraction}
 use Rattle.math.proofs.Intervals.Factors.{fraction-own}
 use Rattle.model.specs.Layout.{flat}
-use Rattle.geometry.proofs.Memory.Between.{after, turn, done}
+use Rattle.geometry.proofs.vector.Between.{after, turn, done}
 use borrow.Author.Needs.{needs}
 use native.Mathlib.Omega.{arith}
 use Rattle.geometry.proofs.vector.interpolate.Statement.{statement}
