@@ -3,12 +3,11 @@ use Prim.Native.Nat.{ℕ, _+_}
 use mathlib.Core.Path.{_≡_}
 use mathlib.Core.Bool.{not}
 use mathlib.Core.List.{List}
-use mathlib.Core.Option.{Option, none, some}
 use lib.ListN.{length}
 use lib.Dec.{T}
 use lib.Ieee.{isNan}
 use Rattle.lists.specs.Lists.{put}
-use Rattle.math.specs.declared.scalars.Scalar.{Scalar}
+use Rattle.model.specs.Enclosure.{OfBounds}
 use Rattle.model.specs.Paper.{paper}
 use Rattle.model.specs.declared.contains.Found.{Found}
 
@@ -17,11 +16,6 @@ pub record Written (l : List ℕ) (at : ℕ) (ws m : List ℕ) (r : ℕ) : Type 
   pub memory : m ≡ put l at ws
   pub end : r ≡ at + length ws
 
--- Neither bound is a NaN, which has no bits of its own to print.
-abbrev pub NoNan : Option Scalar → Type 0
-NoNan none = Unit {0}
-NoNan (some x) = T (not (isNan (x .lo))) × T (not (isNan (x .hi)))
-
--- The bounds of an answer can be printed.
+-- Neither bound of an answer is a NaN, which has no bits of its own to print.
 abbrev pub Printable : Found → Type 0
-Printable r = NoNan (paper r .bounds)
+Printable r = OfBounds (λ x. T (not (isNan (x .lo))) × T (not (isNan (x .hi)))) (paper r .bounds)

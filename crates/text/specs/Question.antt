@@ -6,7 +6,7 @@ use mathlib.Core.List.{List, [], _∷_, _++_}
 use lib.ListN.{length, getD}
 use lib.Dec.{leb, eqb}
 use lib.Ieee.{Float, nan}
-use Rattle.model.specs.Call.{Call, dimFits, degreeFits, countFits}
+use Rattle.model.specs.Call.{Call, lent, sizesRefusal}
 use Rattle.text.specs.Bytes.{bytes, Read, bad, got, then, word}
 use Rattle.text.specs.Numerals.{small, double}
 
@@ -116,23 +116,8 @@ pub data Reading : Type 0 where
 
 -- The call that is made of a question. The program "lends 8,192 numbers".
 abbrev pub callOf : Sizes → Numbers → Call
-callOf s q = record {
-  dim = s .dim;
-  degree = s .degree;
-  count = s .count;
-  knots = q .knots;
-  points = q .points;
-  box = q .box;
-  resolution = q .resolution;
-  nodes = q .nodes;
-  room = 8192;
-}
-
--- The refusal of sizes by 1, 2 or 3, or 0.
-unfoldable pub sizesRefused : Sizes → ℕ
-sizesRefused s =
-    let c = callOf s (record { nodes = 0; resolution = nan; knots = []; points = []; box = [] }) in
-    cond (dimFits c) (cond (degreeFits c) (cond (countFits c) 0 3) 2) 1
+callOf s q =
+    lent (s .dim) (s .degree) (s .count) (q .knots) (q .points) (q .box) (q .resolution) (q .nodes) 8192
 
 -- The other lines, of a text of n bytes: "12: the text is not of the form below, or is over 65,536 bytes."
 unfoldable pub completeBy : Sizes → ℕ → Read Numbers → Reading
@@ -148,7 +133,7 @@ openedBy s n rest (suc r) = refusedBy (suc r)
 -- After the first three lines.
 unfoldable pub readBy : ℕ → Read Sizes → Reading
 readBy n bad = refusedBy 12
-readBy n (got s rest) = openedBy s n rest (sizesRefused s)
+readBy n (got s rest) = openedBy s n rest (sizesRefusal (s .dim) (s .degree) (s .count))
 
 -- What a text comes to.
 unfoldable pub reading : List ℕ → Reading

@@ -6,14 +6,12 @@ use crate::numerals::double;
 use crate::numerals::is_double;
 use crate::numerals::small;
 ghost use mathlib.Core.Path.{_≡_};
-ghost use mathlib.Core.Bool.{_&&_, _||_};
 ghost use mathlib.Core.List.{[], _∷_};
 ghost use Prim.Native.Nat.{_+_, _*_, _≤_};
 ghost use lib.ListN.{length, drop};
-ghost use lib.Dec.{leb, eqb};
 ghost use Rattle.text.specs.Bytes.{word};
 ghost use Rattle.text.specs.Question.{behind, smallLine, values, line, lines};
-ghost use Rattle.text.specs.Question.{sizesOf, sizes, sizesRefused, numbers};
+ghost use Rattle.text.specs.Question.{sizesOf, sizes, numbers};
 ghost use Rattle.text.specs.Cursor.{WordRead, SmallRead, HeadRead, ValueRead, ValuesRead};
 ghost use Rattle.text.specs.Cursor.{LimitsRead, ShapeRead, NumbersRead};
 
@@ -161,37 +159,6 @@ pub(crate) fn sizes(text: &[u8]) -> Head
         return Head::NoHead;
     };
     Head::Heads(d, p, n, k)
-}
-
-// dim is 2 or 3.
-fn dim_fits(dim: usize) -> bool
-    ensures { λ r. ⌜ r ≡ (eqb dim 2 || eqb dim 3) ⌝ }
-{
-    dim == 2 || dim == 3
-}
-
-// count is from degree + 1 to 32.
-fn count_fits(degree: usize, count: usize) -> bool
-    requires { ⌜ degree ≤ 7 ⌝ }
-    ensures { λ r. ⌜ r ≡ (leb (degree + 1) count && leb count 32) ⌝ }
-{
-    degree + 1 <= count && count <= 32
-}
-
-// The refusal of sizes by 1, 2 or 3, or 0.
-pub(crate) fn sizes_refused(dim: usize, degree: usize, count: usize) -> usize
-    ensures { λ r. ⌜ r ≡ sizesRefused (sizesOf dim degree count) ⌝ }
-{
-    if !dim_fits(dim) {
-        return 1;
-    }
-    if 7 < degree {
-        return 2;
-    }
-    if !count_fits(degree, count) {
-        return 3;
-    }
-    0
 }
 
 // The line of the nodes and that of the resolution, which is written to the front of `out`.

@@ -4,7 +4,7 @@ use crate::cursor::Small;
 use crate::print::write;
 use crate::question::numbers;
 use crate::question::sizes;
-use crate::question::sizes_refused;
+use geometry::call::sizes_refusal;
 use geometry::contains::curve_could_contain;
 use model::contains::Found;
 ghost use mathlib.Core.Path.{_≡_};
@@ -87,7 +87,7 @@ fn answered(text: &[u8]) -> Found
     let Head::Heads(dim, degree, count, at) = sizes(text) else {
         return Found::Refused(12, 0);
     };
-    let number = sizes_refused(dim, degree, count);
+    let number = sizes_refusal(dim, degree, count);
     if number != 0 {
         return Found::Refused(number as u64, 0);
     }

@@ -90,7 +90,8 @@ module _ {whole left : Read (List Float)} {i to : ℕ} {l m : List Float} (k : T
   taken-bad e = k .told ∙ ap (prepend (k .xs)) e ∙ prepend-bad (k .xs)
 
   -- nothing is left
-  taken-all : {n : ℕ} (text : List ℕ) (p : ℕ) → left ≡ got [] (drop p text) → i ≡ n → p ≤ length text → ValuesAt text whole n to l m p
+  taken-all : {n : ℕ} (text : List ℕ) (p : ℕ) → left ≡ got [] (drop p text) → i ≡ n → p ≤ length text
+      → ValuesAt text whole n to l m p
   taken-all text p e f h = record {
     inside = h;
     xs = k .xs;
@@ -100,7 +101,8 @@ module _ {whole left : Read (List Float)} {i to : ℕ} {l m : List Float} (k : T
   }
 
   -- some more are taken
-  taken-more : {rest : Read (List Float)} {j : ℕ} (ys : List Float) → left ≡ prepend ys rest → i + length ys ≡ j → to + j ≤ length l
+  taken-more : {rest : Read (List Float)} {j : ℕ} (ys : List Float) → left ≡ prepend ys rest → i + length ys ≡ j
+      → to + j ≤ length l
       → Taken whole rest j to l (put m (to + i) ys)
   taken-more {rest} ys e f h =
       let q : to + i ≡ to + length (k .xs) = omega (arith, k .long) in
@@ -157,7 +159,7 @@ module _ (text : List ℕ) (n at to : ℕ) (l : List Float) where
         let s : n - i - 1 ≡ n - (i + 1) = omega arith in
         let w : length m ≡ length l = rw (so .wrote) (length-put l to (so .xs) (omega (arith, so .long))) in
         let o : values (n - i) (drop k text) ≡ prepend (x ∷ []) (values (n - (i + 1)) (drop j text)) =
-        rw (f, ← s) (values-one (n - i) (n - i - 1) _ (drop (k + 16) text) (drop j text) b _ next sep (v .reads) (v .goes-on)) in
+        rw (f, ← s) (values-one (n - i) (n - i - 1) _ _ (drop j text) b _ next sep (v .reads) (v .goes-on)) in
         rw (put-one m (to + i) x (omega arith)) (taken-more so (x ∷ []) o refl (omega arith))
 
   -- behind the last value
@@ -217,7 +219,8 @@ module _ (text key : List ℕ) (n k at to : ℕ) (l : List Float) where
     -- a line that cannot be read
     pub lines-stop : r ≡ Bad → lines key n k (drop at text) ≡ bad
     lines-stop e =
-        taken-bad so (lines-stuck key n (k - i) (k - (i + 1)) (drop p text) left (subst (ValuesRead text _ n _ m w) e read))
+        taken-bad so
+        (lines-stuck key n (k - i) (k - (i + 1)) (drop p text) left (subst (ValuesRead text _ n _ m w) e read))
 
     -- one line
     pub lines-turn : (j : ℕ) → r ≡ At j → to + n * k ≤ length l → (j ≤ length text) × Lines (i + 1) j w

@@ -1,13 +1,10 @@
--- Laws of the first three lines: which of them are there, and when the sizes are refused.
-use mathlib.Core.Path.{_≡_, sym, subst, _∙_}
-use mathlib.Core.Bool.{Bool, true, false, _&&_, _||_}
+-- Laws of the first three lines: which of them are there.
+use mathlib.Core.Path.{_≡_, subst, _∙_}
 use mathlib.Core.List.{List}
-use Prim.Native.Nat.{ℕ, _+_}
+use Prim.Native.Nat.{ℕ}
 use lib.ListN.{drop}
-use lib.Dec.{eqb, leb}
-use Rattle.model.specs.Call.{dimFits, degreeFits, countFits}
 use Rattle.text.specs.Bytes.{bytes, bad, got, then}
-use Rattle.text.specs.Question.{smallLine, sizesOf, sizes, sizesRefused}
+use Rattle.text.specs.Question.{smallLine, sizesOf, sizes}
 use Rattle.text.specs.Cursor.{SmallRead, HeadRead}
 use Rattle.text.specs.declared.cursor.Small.{Small}
 use Rattle.text.specs.declared.cursor.Small.the-variants.{NoNumber, Number}
@@ -48,29 +45,3 @@ module _ (text : List ℕ) (r : Small) (one : SmallRead text (smallLine (bytes "
       sizes-three n k g =
           let s = subst (SmallRead text _) g three in
           (s .1, sizes-last ∙ then-got (smallLine (bytes "count=") (drop j text)) _ n (drop k text) (s .2))
-
--- ---- the refusal of sizes: the arms of a test with ||, then the three tests
-
-pub or-yes : (a b : Bool) → a ≡ true → a ≡ (a || b)
-or-yes a b e = rw e
-
-pub or-no : (a b : Bool) → a ≡ false → b ≡ (a || b)
-or-no a b e = rw e
-
-module _ (dim degree count : ℕ) (d : Bool) (fits : d ≡ (eqb dim 2 || eqb dim 3)) where
-  pub refused-dim : d ≡ false → 1 ≡ sizesRefused (sizesOf dim degree count)
-  unfolding sizesRefused dimFits
-  refused-dim e = rw (sym fits ∙ e)
-
-  pub refused-degree : d ≡ true → leb degree 7 ≡ false → 2 ≡ sizesRefused (sizesOf dim degree count)
-  unfolding sizesRefused dimFits degreeFits
-  refused-degree e f = rw (sym fits ∙ e, f)
-
-  module _ (e : d ≡ true) (f : leb degree 7 ≡ true) (n : Bool) (many : n ≡ (leb (degree + 1) count && leb count 32)) where
-    pub refused-count : n ≡ false → 3 ≡ sizesRefused (sizesOf dim degree count)
-    unfolding sizesRefused dimFits degreeFits countFits
-    refused-count g = rw (sym fits ∙ e, f, sym many ∙ g)
-
-    pub refused-not : n ≡ true → 0 ≡ sizesRefused (sizesOf dim degree count)
-    unfolding sizesRefused dimFits degreeFits countFits
-    refused-not g = rw (sym fits ∙ e, f, sym many ∙ g)

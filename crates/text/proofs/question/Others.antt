@@ -9,7 +9,8 @@ use lib.Ieee.{Float}
 use Rattle.lists.specs.Lists.{put}
 use Rattle.lists.proofs.Put.{put-put}
 use Rattle.text.specs.Bytes.{bytes, Read, bad, got, then}
-use Rattle.text.specs.Question.{smallLine, line, lines, Sizes, knotDoubles, pointDoubles, boxDoubles, Numbers, numbers}
+use Rattle.text.specs.Question.{smallLine, line, lines, Sizes, knotDoubles, pointDoubles, boxDoubles}
+use Rattle.text.specs.Question.{Numbers, numbers}
 use Rattle.text.specs.Cursor.{SmallRead, ValuesAt, ValuesRead, LimitsAt, LimitsRead, shape, ShapeRead, NumbersAt}
 use Rattle.text.specs.declared.cursor.Place.{Place}
 use Rattle.text.specs.declared.cursor.Place.the-variants.{Bad, At}
@@ -43,7 +44,9 @@ module _ (text t : List ℕ) (r : Small) (one : SmallRead text (smallLine (bytes
         ∙ subst (ValuesRead text _ 1 0 l m) f two
 
     pub limits-two : (j : ℕ) → q ≡ At j → LimitsAt text t l m n j
-    limits-two j f = let v = subst (ValuesRead text _ 1 0 l m) f two in by (v .xs) (v .inside) (v .reads) (v .long) (v .wrote)
+    limits-two j f =
+        let v = subst (ValuesRead text _ 1 0 l m) f two in
+        by (v .xs) (v .inside) (v .reads) (v .long) (v .wrote)
       where
         by : (xs : List Float) → j ≤ length text → line (bytes "resolution=") 1 (drop i text) ≡ got xs (drop j text)
             → length xs ≡ 1 → m ≡ put l 0 xs → LimitsAt text t l m n j
@@ -73,7 +76,8 @@ module _ (text t : List ℕ) (s : Sizes) (l m₁ : List Float) (r : Place)
 
   -- the code counts the numbers of a point as w
   module _ (w i : ℕ) (e : r ≡ At i) (wide : w ≡ pointDoubles s) (m₂ : List Float) (q : Place)
-      (two : ValuesRead text (lines (bytes "point=") w (s .count) (drop i text)) (w * s .count) (1 + knotDoubles s) m₁ m₂ q) where
+      (two : ValuesRead text (lines (bytes "point=") w (s .count) (drop i text)) (w * s .count) (1 + knotDoubles s)
+      m₁ m₂ q) where
     knots-there : ValuesAt text (line (bytes "knots=") (knotDoubles s) t) (knotDoubles s) 1 l m₁ i
     knots-there = subst (ValuesRead text _ _ 1 l m₁) e one
 
@@ -96,11 +100,13 @@ module _ (text t : List ℕ) (s : Sizes) (l m₁ : List Float) (r : Place)
     shape-one f = shape-next ∙ then-bad points-line _ (same ∙ subst (ValuesRead text _ _ _ m₁ m₂) f two)
 
     module _ (j : ℕ) (f : q ≡ At j) where
-      points-there : ValuesAt text (lines (bytes "point=") w (s .count) (drop i text)) (w * s .count) (1 + knotDoubles s) m₁ m₂ j
+      points-there :
+          ValuesAt text (lines (bytes "point=") w (s .count) (drop i text)) (w * s .count) (1 + knotDoubles s) m₁ m₂ j
       points-there = subst (ValuesRead text _ _ _ m₁ m₂) f two
 
       pub shape-two : (m₃ : List Float) (z : Place)
-          → ValuesRead text (line (bytes "box=") (boxDoubles s) (drop j text)) (boxDoubles s) (1 + knotDoubles s + w * s .count) m₂ m₃ z
+          → ValuesRead text (line (bytes "box=") (boxDoubles s) (drop j text)) (boxDoubles s)
+          (1 + knotDoubles s + w * s .count) m₂ m₃ z
           → 1 + knotDoubles s + w * s .count + boxDoubles s ≤ length l → ShapeRead text t s l m₃ z
       shape-two m₃ Bad three h =
           shape-next
@@ -162,7 +168,8 @@ unfolding then
 two-bad bad h f g e = refl
 two-bad (got x t) h f g e = last-bad (h t) (f x) (g x) e
 
-three-bad : {A B C D E : Type 0} (r : Read A) (h : List ℕ → Read B) (k : List ℕ → Read C) (f : A → B → C → D) (g : A → B → C → E)
+three-bad : {A B C D E : Type 0} (r : Read A) (h : List ℕ → Read B) (k : List ℕ → Read C)
+    (f : A → B → C → D) (g : A → B → C → E)
     → then r (λ x a. then (h a) (λ y b. then (k b) (λ z t. got (f x y z) t))) ≡ bad
     → then r (λ x a. then (h a) (λ y b. then (k b) (λ z t. got (g x y z) t))) ≡ bad
 unfolding then
@@ -173,9 +180,11 @@ module _ (text t : List ℕ) (s : Sizes) (l m₁ : List Float) (r : Small) (one 
   pub numbers-none : r ≡ NoNumber → numbers s t ≡ bad
   unfolding numbers
   numbers-none e =
-      part-bad (smallLine (bytes "nodes=") t) (λ _ a. line (bytes "resolution=") 1 a) _ (subst (LimitsRead text t l m₁) e one)
+      part-bad (smallLine (bytes "nodes=") t) (λ _ a. line (bytes "resolution=") 1 a) _
+      (subst (LimitsRead text t l m₁) e one)
 
-  module _ (n i : ℕ) (e : r ≡ Number n i) (m₂ : List Float) (q : Place) (two : ShapeRead text (drop i text) s m₁ m₂ q) where
+  module _ (n i : ℕ) (e : r ≡ Number n i) (m₂ : List Float) (q : Place)
+      (two : ShapeRead text (drop i text) s m₁ m₂ q) where
     front : LimitsAt text t l m₁ n i
     front = subst (LimitsRead text t l m₁) e one
 
@@ -192,13 +201,15 @@ module _ (text t : List ℕ) (s : Sizes) (l m₁ : List Float) (r : Small) (one 
     unfolding numbers
     numbers-next =
         then-got (smallLine (bytes "nodes=") t) _ n (front .rest) (front .nodes-read)
-        ∙ then-got (line (bytes "resolution=") 1 (front .rest)) _ (front .resolution ∷ []) (drop i text) (front .resolution-read)
+        ∙ then-got (line (bytes "resolution=") 1 (front .rest)) _ (front .resolution ∷ []) (drop i text)
+        (front .resolution-read)
 
     pub numbers-one : q ≡ Bad → numbers s t ≡ bad
     unfolding shape
     numbers-one f =
         numbers-next
-        ∙ three-bad (line (bytes "knots=") (knotDoubles s) (drop i text)) (λ c. lines (bytes "point=") (pointDoubles s) (s .count) c)
+        ∙ three-bad (line (bytes "knots=") (knotDoubles s) (drop i text))
+        (λ c. lines (bytes "point=") (pointDoubles s) (s .count) c)
         (λ d. line (bytes "box=") (boxDoubles s) d) (λ knots points box. knots ++ points ++ box) _
         (subst (ShapeRead text (drop i text) s m₁ m₂) f two)
 
@@ -210,8 +221,8 @@ module _ (text t : List ℕ) (s : Sizes) (l m₁ : List Float) (r : Small) (one 
           says = saying (v .knots) (v .points) (v .box);
           reads =
               numbers-next
-              ∙ then-got (line (bytes "knots=") (knotDoubles s) (drop i text)) _ (v .knots) (v .behind-knots) (v .knots-read)
-              ∙ then-got (lines (bytes "point=") (pointDoubles s) (s .count) (v .behind-knots)) _ (v .points) (v .behind-points) (v .points-read)
+              ∙ then-got (line (bytes "knots=") (knotDoubles s) (drop i text)) _ (v .knots) _ (v .knots-read)
+              ∙ then-got (lines (bytes "point=") (pointDoubles s) (s .count) (v .behind-knots)) _ (v .points) _ (v .points-read)
               ∙ then-got (line (bytes "box=") (boxDoubles s) (v .behind-points)) _ (v .box) (drop j text) (v .box-read);
           nodes-same = refl;
           few = front .few;

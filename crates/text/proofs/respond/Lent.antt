@@ -13,11 +13,13 @@ use Rattle.lists.proofs.Read.{part-put-in, getD-put}
 use Rattle.math.specs.Scalars.{geop}
 use Rattle.math.proofs.Bools.{and-l}
 use Rattle.math.proofs.Doubles.Order.{le-number-r}
-use Rattle.model.specs.NurbCurve.{Piece, start, end}
-use Rattle.model.specs.Call.{lent, searched}
-use Rattle.model.specs.Enclosure.{BoundsInDomain}
+use Rattle.model.specs.NurbCurve.{start, end}
+use Rattle.model.specs.Call.{Curve, lent, asPiece, searched}
+use Rattle.model.specs.Enclosure.{OfBounds, BoundsInDomain}
+use Rattle.model.specs.Paper.{paper}
+use Rattle.math.specs.declared.scalars.Scalar.{Scalar}
+use mathlib.Core.Option.{Option, none, some}
 use Rattle.model.specs.declared.contains.Found.{Found}
-use Rattle.model.specs.declared.contains.Found.the-variants.{Nothing, Enclosed, Spent, Refused}
 use Rattle.text.specs.Question.{Sizes, knotDoubles, pointDoubles, boxDoubles, Numbers, callOf}
 use Rattle.text.specs.Cursor.{Long, laid, numbersIn}
 use Rattle.text.specs.Printable.{Printable}
@@ -25,31 +27,29 @@ use Rattle.text.specs.Printable.{Printable}
 -- the numbers that the code cuts out of the memory and lends are those of the question
 pub lines-same : (r : Found) (s : Sizes) (nodes : ℕ) (l work ks ps bs : List Float) → ks ≡ numbersIn s nodes l .knots
     → ps ≡ numbersIn s nodes l .points → bs ≡ numbersIn s nodes l .box → 8192 ≡ length work
-    → r ≡ searched geop (lent (s .dim) (s .degree) (s .count) ks ps bs (getD l 0 nan) nodes work)
+    → r ≡ searched geop (lent (s .dim) (s .degree) (s .count) ks ps bs (getD l 0 nan) nodes (length work))
     → r ≡ searched geop (callOf s (numbersIn s nodes l))
 lines-same r s nodes l work ks ps bs K P B W R =
     R
-    ∙ ap (searched geop) (λ i. record {
-      dim = s .dim;
-      degree = s .degree;
-      count = s .count;
-      knots = K i;
-      points = P i;
-      box = B i;
-      resolution = getD l 0 nan;
-      nodes = nodes;
-      room = sym W i;
-    })
+    ∙ ap (searched geop) (λ i. lent (s .dim) (s .degree) (s .count) (K i) (P i) (B i) (getD l 0 nan) nodes (sym W i))
 
 -- a bound that lies in a domain is no NaN
-pub printable : (c : Piece) (p : ℕ) (r : Found) → BoundsInDomain c p r → Printable r
-printable c p (Nothing v) h = tt
-printable c p (Enclosed lo hi v) h = (number lo (h .0), number hi (h .1))
+pub printable : (v : Curve) (r : Found) → BoundsInDomain v r → Printable r
+printable v r = by (paper r .bounds)
   where
-    number : (x : Float) → T (le (start p c) x && le x (end c)) → T (not (isNan x))
-    number x k = le-number-r (start p c) x (and-l (le (start p c) x) (le x (end c)) k)
-printable c p (Spent n v) h = tt
-printable c p (Refused n v) h = tt
+    a : Float
+    a = start (v .degree) (asPiece v)
+
+    b : Float
+    b = end (asPiece v)
+
+    number : (x : Float) → T (le a x && le x b) → T (not (isNan x))
+    number x k = le-number-r a x (and-l (le a x) (le x b) k)
+
+    by : (x : Option Scalar) → OfBounds (λ y. T (le a (y .lo) && le (y .lo) b) × T (le a (y .hi) && le (y .hi) b)) x
+        → OfBounds (λ y. T (not (isNan (y .lo))) × T (not (isNan (y .hi)))) x
+    by none h = tt
+    by (some x) h = (number (x .lo) (h .0), number (x .hi) (h .1))
 
 -- ---- parts of a list that was put together
 

@@ -78,7 +78,8 @@ loop-again c =
     let l = head read .loop in
     let a = begin (head read) .args in
     let t = lines-turn (a .text .now) (a .key .now) (a .n) (a .k) (a .at) (a .to) (a .out .now) (l .i) (l .p) (l .out)
-    (read .line .last .1 .1 .1 .1 .0) _ (omega arith) (read .line .ensures) (l .inv .3) _ (at-line .j .given .1) (omega arith) in
+    (read .line .last .1 .1 .1 .1 .0) _ (omega arith) (read .line .ensures) (l .inv .3)
+    _ (at-line .j .given .1) (omega arith) in
     (omega arith, t .0, read .line .kept .1 .1 .1 .1 .0 ∙ l .inv .2, t .1)
 
 same-length-2 : tie.Need-same-length-2 Inv-loop μ-loop

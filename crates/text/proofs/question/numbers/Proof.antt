@@ -43,7 +43,8 @@ shape-requires c κs =
     let limits = at-limits .before .before .before .before in
     let begin = limits .before .before .before .before in
     let a = begin .args in
-    let read = subst (LimitsRead (a .text .now) _ (a .out .now) (memory limits)) (at-limits .n .given .1) (limits .limits .ensures) in
+    let read = subst (LimitsRead (a .text .now) _ (a .out .now) (memory limits)) (at-limits .n .given .1)
+    (limits .limits .ensures) in
     (read .inside, begin .pre .1, begin .pre .2, begin .pre .3, omega (arith, begin .pre .4, limits .limits .kept .1 .1 .0))
 
 enum-known-j : tie.Need-enum-known-j

@@ -1,5 +1,7 @@
 -- `answered` equals its definition: the first three lines are bad, or refused, or the rest answers.
-use Rattle.text.proofs.respond.Cases.{sizes-fit, head-bad, head-inside, head-refused, head-asked}
+use mathlib.Core.Path.{sym, _∙_}
+use Rattle.model.proofs.Checks.{small-sizes}
+use Rattle.text.proofs.respond.Cases.{head-bad, head-inside, head-refused, head-asked}
 use borrow.Author.Needs.{needs}
 use Rattle.text.proofs.respond.answered.Statement.{statement}
 use Rattle.text.proofs.respond.answered.Tie as tie
@@ -16,15 +18,15 @@ enum-told c = search needs
 returns : tie.Need-returns
 returns c = let head = c .before .before .sizes in (head-bad _ _ (head .ensures) (c .enum-told .given .1), tt)
 
-sizes-refused-requires : tie.Need-sizes-refused-requires
-sizes-refused-requires c κs = search needs
+sizes-refusal-requires : tie.Need-sizes-refusal-requires
+sizes-refusal-requires c κs = search needs
 
 returns-2 : tie.Need-returns-2
 returns-2 c =
     let refused = c .before in
     let at-sizes = refused .before .before in
     let head = at-sizes .before .before .sizes in (
-      head-refused _ _ (head .ensures) _ _ _ _ (at-sizes .dim .given .1) _ (refused .sizes-refused .ensures)
+      head-refused _ _ (head .ensures) _ _ _ _ (at-sizes .dim .given .1) _ (refused .sizes-refusal .ensures)
           (c .if1 .taken),
       tt,
     )
@@ -34,8 +36,8 @@ asked-requires c κs =
     let refused = c .before in
     let at-sizes = refused .before .before in
     let head = at-sizes .before .before .sizes in
-    let small = sizes-fit _ _ _ _ (refused .sizes-refused .ensures) (c .if1 .left) in
-    (head-inside _ _ (head .ensures) _ _ _ _ (at-sizes .dim .given .1), small .0, small .1, small .2)
+    let small = small-sizes _ _ _ (sym (refused .sizes-refusal .ensures) ∙ c .if1 .left) in
+    (head-inside _ _ (head .ensures) _ _ _ _ (at-sizes .dim .given .1), small .dim, small .degree, small .count)
 
 returns-3 : tie.Need-returns-3
 returns-3 c =
@@ -43,7 +45,7 @@ returns-3 c =
     let at-sizes = refused .before .before in
     let head = at-sizes .before .before .sizes in
     let answer = c .asked .ensures in (
-      head-asked _ _ (head .ensures) _ _ _ _ (at-sizes .dim .given .1) _ _ (refused .sizes-refused .ensures)
+      head-asked _ _ (head .ensures) _ _ _ _ (at-sizes .dim .given .1) _ _ (refused .sizes-refusal .ensures)
           (c .before .if1 .left) (answer .0),
       answer .1,
     )
@@ -56,7 +58,7 @@ answered-spec =
     enum-known-dim
     enum-told
     returns
-    sizes-refused-requires
+    sizes-refusal-requires
     returns-2
     asked-requires
     returns-3)

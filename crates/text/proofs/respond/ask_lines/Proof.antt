@@ -2,10 +2,8 @@
 use mathlib.Core.Path.{_≡_, ap, _∙_}
 use Prim.Native.Nat.{ℕ, suc, _+_, _-_, _*_, _≤_}
 use native.Mathlib.Omega.{arith}
-use lib.ListN.{getD}
-use lib.Ieee.{nan}
 use Rattle.lists.specs.Lists.{part}
-use Rattle.model.specs.Call.{curve, lent}
+use Rattle.model.specs.Call.{curveOf}
 use Rattle.text.specs.Question.{sizesOf}
 use Rattle.text.proofs.question.Others.{few-numbers}
 use Rattle.text.proofs.respond.Lent.{lines-same, printable}
@@ -111,9 +109,9 @@ returns c =
           (ap (part l (1 + K)) (long-points ∙ e))
           (λ i. part l (1 + K + e i) (long-box i))
           (at-area .area .ensures)
-          (asked .curve-could-contain .ensures .0),
-      printable (curve (lent (g .dim) (g .degree) (g .count) ks ps bs (getD l 0 nan) (g .nodes) work)) (g .degree)
-          (asked .curve-could-contain .result) (asked .curve-could-contain .ensures .1 .1 .1 .1 .0 .0),
+          (asked .curve-could-contain .ensures .result),
+      printable (curveOf (g .dim) (g .degree) (g .count) ks ps) (asked .curve-could-contain .result)
+          (asked .curve-could-contain .ensures .within),
     )
 
 pub ask-lines-spec : {M : Type 1} → statement M
