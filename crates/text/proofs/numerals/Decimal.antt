@@ -49,7 +49,7 @@ unfolding digits
 digits-done l i h = rw (drop-of-length-le l {i = i} h)
 
 -- they are digits
-pub digits-all : (t : List ℕ) → all isDigit (take (digits t) t) ≡ true
+digits-all : (t : List ℕ) → all isDigit (take (digits t) t) ≡ true
 unfolding digits all
 digits-all [] = refl
 digits-all (b ∷ t) = by (isDigit b) refl (digits-all t)

@@ -45,7 +45,7 @@ digit-low n h = rw (le-leb n 9 h)
 pub digit-high : (n : ℕ) → 9 < n → 87 + n ≡ digitOf n
 digit-high n h = rw (lt-leb n 9 h)
 
-pub length-digits : (b k n : ℕ) → length (lastDigits b k n) ≡ k
+length-digits : (b k n : ℕ) → length (lastDigits b k n) ≡ k
 unfolding lastDigits
 length-digits b zero n = refl
 length-digits b (suc k) n = simp (length-append, length-digits b k (n / b), add-one)
