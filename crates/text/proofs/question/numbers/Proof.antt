@@ -1,6 +1,11 @@
 -- `numbers` reads the limits and the shape, and writes their doubles one behind the other.
+use mathlib.Core.Path.{subst}
+use mathlib.Core.List.{List}
+use lib.Ieee.{Float}
 use native.Mathlib.Omega.{arith}
-use Rattle.text.proofs.Lines.{limits-in, numbers-none, numbers-one, numbers-two}
+use Rattle.text.specs.Cursor.{LimitsRead}
+use Rattle.text.proofs.question.Others.{numbers-none, numbers-one, numbers-two}
+use Rattle.text.specs.Question.{Sizes, sizesOf}
 use borrow.Author.Needs.{needs}
 use Rattle.text.proofs.question.numbers.Statement.{statement}
 use Rattle.text.proofs.question.numbers.Tie as tie
@@ -17,19 +22,30 @@ enum-told c = search needs
 same-length : tie.Need-same-length
 same-length c = search needs
 
+-- The sizes, from where the limits are read.
+abbrev these : tie.After-limits → Sizes
+these c = let a = c .before .before .before .before .args in sizesOf (a .dim) (a .degree) (a .count)
+
+-- The memory with the limits in it.
+abbrev memory : tie.After-limits → List Float
+memory c = c .limits .last .1 .1 .0
+
 returns : tie.Need-returns
 returns c =
-    let u = c .before .before .before .before in
-    let a = u .before .before .before .before .args in
-    numbers-none (a .text .now) _ (record { dim = a .dim; degree = a .degree; count = a .count }) (a .out .now) (u .limits .last .1 .1 .0) (u .limits .result) (u .limits .ensures) (c .enum-told .given .1)
+    let limits = c .before .before .before .before in
+    let a = limits .before .before .before .before .args in
+    numbers-none (a .text .now) _ (these limits) (a .out .now) (memory limits) _ (limits .limits .ensures)
+    (c .enum-told .given .1)
 
 shape-requires : tie.Need-shape-requires
 shape-requires c κs =
-    let n = c .before .before in
-    let u = n .before .before .before .before in
-    let k = u .before .before .before .before in
-    let a = k .args in
-    (limits-in (a .text .now) _ (a .out .now) (u .limits .last .1 .1 .0) (u .limits .result) _ _ (u .limits .ensures) (n .n .given .1), k .pre .1, k .pre .2, k .pre .3, omega (arith, k .pre .4, u .limits .kept .1 .1 .0))
+    let at-limits = c .before .before in
+    let limits = at-limits .before .before .before .before in
+    let begin = limits .before .before .before .before in
+    let a = begin .args in
+    let read = subst (LimitsRead (a .text .now) _ (a .out .now) (memory limits)) (at-limits .n .given .1)
+    (limits .limits .ensures) in
+    (read .inside, begin .pre .1, begin .pre .2, begin .pre .3, omega (arith, begin .pre .4, limits .limits .kept .1 .1 .0))
 
 enum-known-j : tie.Need-enum-known-j
 enum-known-j c = search needs
@@ -42,24 +58,27 @@ same-length-2 c = search needs
 
 returns-2 : tie.Need-returns-2
 returns-2 c =
-    let v = c .before .before .before .before in
-    let n = v .before .before .before in
-    let u = n .before .before .before .before in
-    let a = u .before .before .before .before .args in
-    numbers-one (a .text .now) _ (record { dim = a .dim; degree = a .degree; count = a .count }) (a .out .now) (u .limits .last .1 .1 .0) (u .limits .result) (u .limits .ensures) _ _ (n .n .given .1) (v .shape .last .1 .1 .1 .1 .1 .0) (v .shape .result) (v .shape .ensures) (c .enum-told2 .given .1)
+    let shape = c .before .before .before .before in
+    let at-limits = shape .before .before .before in
+    let limits = at-limits .before .before .before .before in
+    let a = limits .before .before .before .before .args in
+    numbers-one (a .text .now) _ (these limits) (a .out .now) (memory limits) _ (limits .limits .ensures)
+    _ _ (at-limits .n .given .1) (shape .shape .last .1 .1 .1 .1 .1 .0) _ (shape .shape .ensures) (c .enum-told2 .given .1)
 
 same-length-3 : tie.Need-same-length-3
 same-length-3 c = search needs
 
 returns-3 : tie.Need-returns-3
 returns-3 c =
-    let j = c .before in
-    let v = j .before .before .before .before in
-    let n = v .before .before .before in
-    let u = n .before .before .before .before in
-    let k = u .before .before .before .before in
-    let a = k .args in
-    numbers-two (a .text .now) _ (record { dim = a .dim; degree = a .degree; count = a .count }) (a .out .now) (u .limits .last .1 .1 .0) (u .limits .result) (u .limits .ensures) _ _ (n .n .given .1) (v .shape .last .1 .1 .1 .1 .1 .0) (v .shape .result) (v .shape .ensures) _ (j .j .given .1) (omega (arith, k .pre .4))
+    let at-shape = c .before in
+    let shape = at-shape .before .before .before .before in
+    let at-limits = shape .before .before .before in
+    let limits = at-limits .before .before .before .before in
+    let begin = limits .before .before .before .before in
+    let a = begin .args in
+    numbers-two (a .text .now) _ (these limits) (a .out .now) (memory limits) _ (limits .limits .ensures)
+    _ _ (at-limits .n .given .1) (shape .shape .last .1 .1 .1 .1 .1 .0) _ (shape .shape .ensures)
+    _ (at-shape .j .given .1) (omega (arith, begin .pre .4))
 
 pub numbers-spec : {M : Type 1} → statement M
 numbers-spec =
