@@ -5,7 +5,8 @@ ghost use mathlib.Core.Bool.{true, false};
 ghost use lib.Ieee.{isNan};
 ghost use Rattle.math.specs.Neighbours.{nextUp, nextDown};
 ghost use Rattle.math.specs.Picks.{minF, maxF};
-ghost use Rattle.math.specs.Scalars.{geop, ENTIRE, sharp, middle, widthS, fromRatio, addS, subS, mulS, divS, inverseS, hasZero, couldBeEqual, couldBeGreater, definitelyGreater, couldBeLess, definitelyLess, isSharp, isSubsetOf, isExactly, inUnit, isSteady, unionS, intersectS, interpolateS};
+ghost use Rattle.math.specs.Scalars.{geop, ENTIRE, sharp, middle, widthS, addS, subS, mulS, inverseS, hasZero, couldBeEqual, couldBeGreater, definitelyGreater, couldBeLess, definitelyLess, isSharp, isSubsetOf, isExactly, inUnit, isSteady, unionS, intersectS, interpolateS};
+ghost use Rattle.math.specs.Paper.{Divides, IsRatio};
 ghost use Rattle.math.specs.Factors.{isFactor, inOrder, fractionOf, isTame};
 
 // The neighbouring f64 above a number: 2^-1074 from either zero; the positive infinity stays. The bits go one up from zero on, and one down below it.
@@ -166,7 +167,7 @@ impl Scalar {
 
     // num / den, widened. Fails where den is 0.
     pub fn from_ratio(num: u32, den: u32) -> Divided
-        ensures { λ r. ⌜ r ≡ fromRatio num den ⌝ }
+        ensures { λ r. ⌜ IsRatio num den r ⌝ }
     {
         if den == 0 {
             return Divided::Failed;
@@ -238,7 +239,7 @@ impl Scalar {
 
     // Fails where the divisor holds zero.
     pub fn div(self, other: Scalar) -> Divided
-        ensures { λ r. ⌜ r ≡ divS self other ⌝ }
+        ensures { λ r. ⌜ Divides self other r ⌝ }
     {
         if other.has_zero() {
             return Divided::Failed;
