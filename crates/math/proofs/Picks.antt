@@ -3,8 +3,10 @@ use mathlib.Core.Path.{_≡_, refl, sym, ap, _∙_}
 use mathlib.Core.Bool.{Bool, true, false, false≢true}
 use lib.Ieee.{Float, nan, inf, fin, binary64, isNan, lt, le, sub}
 use Rattle.math.specs.Picks.{minF, maxF}
-use Rattle.math.specs.Scalars.{geop, ONE, least4, most4, addS, subS, mulS, intersectS, isSteady, viaDelta, viaWeights, interpolateS}
+use Rattle.math.specs.Scalars.{least4, most4, addS, subS, mulS, intersectS, isSteady}
+use Rattle.math.specs.Factors.{betweenS}
 use Rattle.math.specs.declared.scalars.Scalar.{Scalar}
+use Rattle.math.specs.declared.scalars.Fraction.{Fraction}
 use Rattle.math.proofs.Bools.{pick-yes, pick-no}
 
 -- ---- the lesser and the greater of a number and another, which is a number too
@@ -71,12 +73,12 @@ pub sums-meet : (a m p q x y r : Scalar) → x ≡ addS a m → y ≡ addS p q �
 sums-meet a m p q x y r X Y R = R ∙ (λ i. intersectS (X i) (Y i))
 
 -- ---- the two answers of `between`: its first operand, or its calls one after the other
-pub kept : (a b t : Scalar) → isSteady a b t ≡ true → a ≡ interpolateS geop a b t
-unfolding interpolateS
-kept a b t e = pick-yes (isSteady a b t) a (intersectS (viaDelta geop a b t) (viaWeights geop a b t)) e
+module _ (a b : Scalar) (f : Fraction) where
+  pub kept : isSteady a b (f .alpha) ≡ true → a ≡ betweenS a b f
+  unfolding betweenS
+  kept e = pick-yes _ _ _ e
 
-pub blended : (a b t u d m p q r : Scalar) → u ≡ subS ONE t → d ≡ subS b a → m ≡ mulS t d → p ≡ mulS u a → q ≡ mulS t b → r ≡ intersectS (addS a m) (addS p q) → isSteady a b t ≡ false → r ≡ interpolateS geop a b t
-unfolding interpolateS
-blended a b t u d m p q r e1 e2 e3 e4 e5 e6 e =
-    let k : r ≡ intersectS (viaDelta geop a b t) (viaWeights geop a b t) = simp (e6, e5, e4, e3, e2, e1) in
-    k ∙ pick-no (isSteady a b t) a (intersectS (viaDelta geop a b t) (viaWeights geop a b t)) e
+  pub blended : (d m p q r : Scalar) → d ≡ subS b a → m ≡ mulS (f .alpha) d → p ≡ mulS (f .beta) a → q ≡ mulS (f .alpha) b → r ≡ intersectS (addS a m) (addS p q)
+      → isSteady a b (f .alpha) ≡ false → r ≡ betweenS a b f
+  unfolding betweenS
+  blended d m p q r D M P Q R e = R ∙ (λ i. intersectS (addS a ((M ∙ ap (mulS (f .alpha)) D) i)) (addS (P i) (Q i))) ∙ pick-no _ _ _ e

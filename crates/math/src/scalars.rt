@@ -7,7 +7,7 @@ ghost use Rattle.math.specs.Neighbours.{nextUp, nextDown};
 ghost use Rattle.math.specs.Picks.{minF, maxF};
 ghost use Rattle.math.specs.Scalars.{geop, ENTIRE, sharp, middle, widthS, addS, subS, mulS, inverseS, hasZero, couldBeEqual, couldBeGreater, definitelyGreater, couldBeLess, definitelyLess, isSharp, isSubsetOf, isExactly, inUnit, isSteady, unionS, intersectS, interpolateS};
 ghost use Rattle.math.specs.Paper.{Divides, IsRatio};
-ghost use Rattle.math.specs.Factors.{isFactor, inOrder, fractionOf, isTame};
+ghost use Rattle.math.specs.Factors.{isFactor, inOrder, allInOrder, fractionOf, betweenS};
 
 // The neighbouring f64 above a number: 2^-1074 from either zero; the positive infinity stays. The bits go one up from zero on, and one down below it.
 fn up(x: f64) -> f64
@@ -133,8 +133,6 @@ pub struct Fraction {
     pub alpha: Scalar,
     // 1 - alpha.
     pub beta: Scalar,
-    // Products by alpha and beta keep the order of what they multiply.
-    pub gentle: bool,
 }
 
 // What a division gives: an interval, or nothing, where the divisor holds zero.
@@ -417,25 +415,19 @@ impl Scalar {
         ensures { λ r. ⌜ r ≡ fractionOf alpha ⌝ }
     {
         let beta = Scalar::ONE.sub(alpha);
-        let gentle = alpha.is_factor() && beta.is_factor();
-        Fraction {
-            alpha,
-            beta,
-            gentle,
-        }
+        Fraction { alpha, beta }
     }
 
-    // The fraction is gentle, and what `between` multiplies by it is in order: diff is b - a before it is widened.
-    fn tame(gentle: bool, a: Scalar, b: Scalar, diff: Scalar) -> bool
-        ensures { λ r. ⌜ r ≡ isTame gentle a b diff ⌝ }
+    // Alpha and beta are factors, and what `between` multiplies by them is in order: diff is b - a before it is widened.
+    fn all_in_order(alpha: Scalar, beta: Scalar, a: Scalar, b: Scalar, diff: Scalar) -> bool
+        ensures { λ r. ⌜ r ≡ allInOrder alpha beta a b diff ⌝ }
     {
-        gentle && a.in_order() && b.in_order() && diff.in_order()
+        alpha.is_factor() && beta.is_factor() && a.in_order() && b.in_order() && diff.in_order()
     }
 
-    // `interpolate`, for a caller that has the fraction at hand. Where `tame` says so it goes the short way, with products by factors.
+    // `interpolate`, for a caller that has the fraction at hand. Where `all_in_order` says so it goes the short way, with products by factors.
     pub fn between(a: Scalar, b: Scalar, f: Fraction) -> Scalar
-        requires { ⌜ f ≡ fractionOf (f .alpha) ⌝ }
-        ensures { λ r. ⌜ r ≡ interpolateS geop a b (f .alpha) ⌝ }
+        ensures { λ r. ⌜ r ≡ betweenS a b f ⌝ }
     {
         let alpha = f.alpha;
         let beta = f.beta;
@@ -444,7 +436,7 @@ impl Scalar {
         }
         let lo = b.lo - a.hi;
         let hi = b.hi - a.lo;
-        if Scalar::tame(f.gentle, a, b, Scalar { lo, hi }) {
+        if Scalar::all_in_order(alpha, beta, a, b, Scalar { lo, hi }) {
             let delta = Scalar {
                 lo: down(lo),
                 hi: up(hi),

@@ -11,8 +11,8 @@ use lib.Ieee.Bits.{is-true, is-false}
 use lib.Ieee.Positive.{positive}
 use Rattle.math.specs.Neighbours.{nextUp, nextDown}
 use Rattle.math.specs.Picks.{minF, maxF}
-use Rattle.math.specs.Scalars.{zeroF, ONE, least4, most4, addS, subS, mulS, intersectS, widened}
-use Rattle.math.specs.Factors.{isFactor, inOrder, fractionOf, isTame}
+use Rattle.math.specs.Scalars.{zeroF, geop, least4, most4, addS, subS, mulS, intersectS, interpolateS, widened}
+use Rattle.math.specs.Factors.{isFactor, inOrder, allInOrder, fractionOf, betweenS}
 use Rattle.math.specs.declared.scalars.Scalar.{Scalar}
 use Rattle.math.specs.declared.scalars.Fraction.{Fraction}
 use Rattle.math.proofs.Bools.{yes, and-l, and-r}
@@ -200,45 +200,39 @@ module _ (a b : Scalar) (lo hi : Float) (LO : lo ≡ nextDown (sub binary64 (b .
 
 -- ---- the fraction of alpha
 
--- what makes one
-pub fraction-is : (alpha beta : Scalar) (gentle : Bool) → beta ≡ subS ONE alpha → gentle ≡ (isFactor alpha && isFactor beta) → record { alpha = alpha; beta = beta; gentle = gentle } ≡ fractionOf alpha
+-- it has its alpha, and to go it is to interpolate
+pub fraction-own : (f : Fraction) (alpha : Scalar) → f ≡ fractionOf alpha → f .alpha ≡ alpha
 unfolding fractionOf
-fraction-is alpha beta gentle B G = λ i. record { alpha = alpha; beta = B i; gentle = (G ∙ ap (λ (s : Scalar). isFactor alpha && isFactor s) B) i }
+fraction-own f alpha e = ap (λ (g : Fraction). g .alpha) e
 
--- it has its alpha, and is the fraction of that
-pub fraction-own : (f : Fraction) (alpha : Scalar) → f ≡ fractionOf alpha → (f .alpha ≡ alpha) × (f ≡ fractionOf (f .alpha))
-unfolding fractionOf
-fraction-own f alpha e = let a = ap (λ (g : Fraction). g .alpha) e in (a, e ∙ ap fractionOf (sym a))
+pub between-is : (a b alpha : Scalar) → betweenS a b (fractionOf alpha) ≡ interpolateS geop a b alpha
+unfolding betweenS fractionOf interpolateS
+between-is a b alpha = refl
 
-module _ (f : Fraction) (F : f ≡ fractionOf (f .alpha)) where
-  pub fraction-beta : f .beta ≡ subS ONE (f .alpha)
-  unfolding fractionOf
-  fraction-beta = ap (λ (g : Fraction). g .beta) F
+pub between-own : (a b : Scalar) (f : Fraction) (alpha : Scalar) → f ≡ fractionOf alpha → betweenS a b f ≡ interpolateS geop a b (f .alpha)
+between-own a b f alpha e = ap (betweenS a b) e ∙ between-is a b alpha ∙ ap (interpolateS geop a b) (sym (fraction-own f alpha e))
 
-  both-factors : f .gentle ≡ (isFactor (f .alpha) && isFactor (f .beta))
-  unfolding fractionOf
-  both-factors = ap (λ (g : Fraction). g .gentle) F ∙ ap (λ (s : Scalar). isFactor (f .alpha) && isFactor s) (sym fraction-beta)
-
--- ---- what `tame` says, test by test
-pub record Tame (f : Fraction) (a b d : Scalar) : Type 0 where
-  pub alpha : isFactor (f .alpha) ≡ true
-  pub beta : isFactor (f .beta) ≡ true
+-- ---- what `all_in_order` says, test by test
+pub record AllInOrder (t u a b d : Scalar) : Type 0 where
+  pub alpha : isFactor t ≡ true
+  pub beta : isFactor u ≡ true
   pub first : inOrder a ≡ true
   pub second : inOrder b ≡ true
   pub diff : inOrder d ≡ true
 
-pub tame-is : (f : Fraction) (a b d : Scalar) → f ≡ fractionOf (f .alpha) → isTame (f .gentle) a b d ≡ true → Tame f a b d
-tame-is f a b d F e =
-    let t2 = f .gentle && inOrder a in
-    let t3 = t2 && inOrder b in
-    let h3 : T (t3 && inOrder d) = yes (t3 && inOrder d) e in
-    let h2 : T t3 = and-l t3 (inOrder d) h3 in
-    let h1 : T t2 = and-l t2 (inOrder b) h2 in
-    let g : T (isFactor (f .alpha) && isFactor (f .beta)) = subst T (both-factors f F) (and-l (f .gentle) (inOrder a) h1) in
+pub all-in-order : (t u a b d : Scalar) → allInOrder t u a b d ≡ true → AllInOrder t u a b d
+all-in-order t u a b d e =
+    let f2 = isFactor t && isFactor u in
+    let f3 = f2 && inOrder a in
+    let f4 = f3 && inOrder b in
+    let h5 : T (f4 && inOrder d) = yes (f4 && inOrder d) e in
+    let h4 : T f4 = and-l f4 (inOrder d) h5 in
+    let h3 : T f3 = and-l f3 (inOrder b) h4 in
+    let h2 : T f2 = and-l f2 (inOrder a) h3 in
     record {
-      alpha = is-true (isFactor (f .alpha)) (and-l (isFactor (f .alpha)) (isFactor (f .beta)) g);
-      beta = is-true (isFactor (f .beta)) (and-r (isFactor (f .alpha)) (isFactor (f .beta)) g);
-      first = is-true (inOrder a) (and-r (f .gentle) (inOrder a) h1);
-      second = is-true (inOrder b) (and-r t2 (inOrder b) h2);
-      diff = is-true (inOrder d) (and-r t3 (inOrder d) h3);
+      alpha = is-true (isFactor t) (and-l (isFactor t) (isFactor u) h2);
+      beta = is-true (isFactor u) (and-r (isFactor t) (isFactor u) h2);
+      first = is-true (inOrder a) (and-r f2 (inOrder a) h3);
+      second = is-true (inOrder b) (and-r f3 (inOrder b) h4);
+      diff = is-true (inOrder d) (and-r f4 (inOrder d) h5);
     }
