@@ -136,13 +136,17 @@ least4 a b c d = minF (minF (minF (minF (inf false) a) b) c) d
 abbrev pub most4 : Float → Float → Float → Float → Float
 most4 a b c d = maxF (maxF (maxF (maxF (inf true) a) b) c) d
 
-unfoldable pub mulS : Scalar → Scalar → Scalar
-mulS x y =
+-- the least and the greatest of the four products of two intervals' bounds: their product before it is widened
+unfoldable pub corners : Scalar → Scalar → Scalar
+corners x y =
     let a = mul binary64 (x .lo) (y .lo) in
     let b = mul binary64 (x .lo) (y .hi) in
     let c = mul binary64 (x .hi) (y .lo) in
     let d = mul binary64 (x .hi) (y .hi) in
-    widened (least4 a b c d) (most4 a b c d)
+    record { lo = least4 a b c d; hi = most4 a b c d }
+
+unfoldable pub mulS : Scalar → Scalar → Scalar
+mulS x y = let c = corners x y in widened (c .lo) (c .hi)
 
 -- the widened reciprocal
 unfoldable pub inverseS : Scalar → Scalar

@@ -4,8 +4,8 @@ ghost use mathlib.Core.Path.{_≡_};
 ghost use mathlib.Core.Bool.{true, false};
 ghost use lib.Ieee.{isNan};
 ghost use Rattle.math.specs.Neighbours.{nextUp, nextDown};
-ghost use Rattle.math.specs.Picks.{minF, maxF};
-ghost use Rattle.math.specs.Scalars.{geop, ENTIRE, sharp, middle, widthS, addS, subS, mulS, inverseS, hasZero, couldBeEqual, couldBeGreater, definitelyGreater, couldBeLess, definitelyLess, isSharp, isSubsetOf, isExactly, inUnit, isSteady, unionS, intersectS, interpolateS};
+ghost use Rattle.math.specs.Picks.{lesserF, greaterF, minF, maxF};
+ghost use Rattle.math.specs.Scalars.{geop, ENTIRE, sharp, middle, widthS, addS, subS, corners, mulS, inverseS, hasZero, couldBeEqual, couldBeGreater, definitelyGreater, couldBeLess, definitelyLess, isSharp, isSubsetOf, isExactly, inUnit, isSteady, unionS, intersectS, interpolateS};
 ghost use Rattle.math.specs.Paper.{Divides, IsRatio};
 ghost use Rattle.math.specs.Factors.{isFactor, inOrder, allInOrder, fractionOf, betweenS};
 
@@ -71,6 +71,20 @@ pub fn is_nan(x: f64) -> bool
     x != x
 }
 
+// The lesser of two by one comparison, which is one machine instruction: the first where a NaN is compared.
+pub fn lesser(a: f64, b: f64) -> f64
+    ensures { λ r. ⌜ r ≡ lesserF a b ⌝ }
+{
+    if b < a { b } else { a }
+}
+
+// The greater of two, by the same rule.
+pub fn greater(a: f64, b: f64) -> f64
+    ensures { λ r. ⌜ r ≡ greaterF a b ⌝ }
+{
+    if a < b { b } else { a }
+}
+
 // The lesser of two: a NaN is passed over where the other is a number, and of two equal ones it is the first.
 pub fn min(a: f64, b: f64) -> f64
     ensures { λ r. ⌜ r ≡ minF a b ⌝ }
@@ -78,7 +92,7 @@ pub fn min(a: f64, b: f64) -> f64
     if a != a {
         return b;
     }
-    if b < a { b } else { a }
+    lesser(a, b)
 }
 
 // The greater of two, by the same rules.
@@ -88,37 +102,7 @@ pub fn max(a: f64, b: f64) -> f64
     if a != a {
         return b;
     }
-    if a < b { b } else { a }
-}
-
-// `min` with a first operand that is a number: one machine instruction.
-fn lesser(a: f64, b: f64) -> f64
-    requires { ⌜ isNan a ≡ false ⌝ }
-    ensures { λ r. ⌜ (r ≡ minF a b) × (isNan r ≡ false) ⌝ }
-{
-    if b < a { b } else { a }
-}
-
-// `max` with a first operand that is a number.
-fn greater(a: f64, b: f64) -> f64
-    requires { ⌜ isNan a ≡ false ⌝ }
-    ensures { λ r. ⌜ (r ≡ maxF a b) × (isNan r ≡ false) ⌝ }
-{
-    if a < b { b } else { a }
-}
-
-// The same instruction for any two operands: a number that it gives is their `min`.
-fn below(a: f64, b: f64) -> f64
-    ensures { λ r. ⌜ (isNan r ≡ false → r ≡ minF a b) ⌝ }
-{
-    if b < a { b } else { a }
-}
-
-// And so for `max`.
-fn above(a: f64, b: f64) -> f64
-    ensures { λ r. ⌜ (isNan r ≡ false → r ≡ maxF a b) ⌝ }
-{
-    if a < b { b } else { a }
+    greater(a, b)
 }
 
 // An interval from lo to hi.
@@ -202,8 +186,9 @@ impl Scalar {
         }
     }
 
-    pub fn mul(self, other: Scalar) -> Scalar
-        ensures { λ r. ⌜ r ≡ mulS self other ⌝ }
+    // The least and the greatest of the four products of the bounds: the product before it is widened.
+    pub fn corners(self, other: Scalar) -> Scalar
+        ensures { λ r. ⌜ r ≡ corners self other ⌝ }
     {
         let a = self.lo * other.lo;
         let b = self.lo * other.hi;
@@ -212,9 +197,16 @@ impl Scalar {
         let inf = f64::from_bits(0x7ff0_0000_0000_0000);
         let lo = lesser(lesser(lesser(lesser(inf, a), b), c), d);
         let hi = greater(greater(greater(greater(-inf, a), b), c), d);
+        Scalar { lo, hi }
+    }
+
+    pub fn mul(self, other: Scalar) -> Scalar
+        ensures { λ r. ⌜ r ≡ mulS self other ⌝ }
+    {
+        let c = self.corners(other);
         Scalar {
-            lo: down(lo),
-            hi: up(hi),
+            lo: down(c.lo),
+            hi: up(c.hi),
         }
     }
 
@@ -399,8 +391,8 @@ impl Scalar {
     fn common(a: Scalar, m: Scalar, p: Scalar, q: Scalar) -> Scalar
         ensures { λ r. ⌜ r ≡ intersectS (addS a m) (addS p q) ⌝ }
     {
-        let lo = above(a.lo + m.lo, p.lo + q.lo);
-        let hi = below(a.hi + m.hi, p.hi + q.hi);
+        let lo = greater(a.lo + m.lo, p.lo + q.lo);
+        let hi = lesser(a.hi + m.hi, p.hi + q.hi);
         if lo <= hi {
             return Scalar {
                 lo: down(lo),

@@ -10,12 +10,13 @@ use lib.Ieee.Fits.{add-fits, sub-fits, mul-fits, neg-fits}
 use lib.Ieee.Bits.{is-true, is-false}
 use lib.Ieee.Positive.{positive}
 use Rattle.math.specs.Neighbours.{nextUp, nextDown}
-use Rattle.math.specs.Picks.{minF, maxF}
-use Rattle.math.specs.Scalars.{zeroF, geop, least4, most4, addS, subS, mulS, intersectS, interpolateS, widened}
+use Rattle.math.specs.Picks.{lesserF, greaterF, minF, maxF}
+use Rattle.math.specs.Scalars.{zeroF, geop, least4, most4, addS, subS, corners, mulS, intersectS, interpolateS, widened}
 use Rattle.math.specs.Factors.{isFactor, inOrder, allInOrder, fractionOf, betweenS}
 use Rattle.math.specs.declared.scalars.Scalar.{Scalar}
 use Rattle.math.specs.declared.scalars.Fraction.{Fraction}
 use Rattle.math.proofs.Bools.{yes, and-l, and-r}
+use Rattle.math.proofs.Picks.{lesser-is, greater-is}
 use Rattle.math.proofs.Doubles.Order.{le-number-l, le-number-r, le-trans, lt-le, le-lt, neg-le}
 use Rattle.math.proofs.Doubles.Mirror.{neg-neg}
 use Rattle.math.proofs.Doubles.Same.{down-same}
@@ -100,7 +101,7 @@ module _ (t x : Scalar) (P : isFactor t ≡ true) (O : inOrder x ≡ true) where
 
   pub scale-is : (l h lo hi : Float) → l ≡ minF (mul binary64 (t .lo) (x .lo)) (mul binary64 (t .hi) (x .lo)) → h ≡ maxF (mul binary64 (t .lo) (x .hi)) (mul binary64 (t .hi) (x .hi)) → lo ≡ nextDown l → hi ≡ nextUp h
       → record { lo = lo; hi = hi } ≡ mulS t x
-  unfolding mulS
+  unfolding mulS corners
   scale-is l h lo hi L H LO HI =
       let a = mul binary64 (t .lo) (x .lo) in
       let b = mul binary64 (t .lo) (x .hi) in
@@ -149,7 +150,7 @@ mul-swap (fin s m e) (inf t) = ap (λ (b : Bool). cond (eqb m 0) nan (inf b)) (u
 mul-swap (fin s m e) (fin t n d) = λ i. round binary64 (unlike-swap s t i) (mul-comm (m * up e) (n * up d) i) (mul-comm (down e) (down d) i)
 
 pub swapped : (x y : Scalar) → mulS x y ≡ mulS y x
-unfolding mulS
+unfolding mulS corners
 swapped x y =
     let a = mul binary64 (x .lo) (y .lo) in
     let b = mul binary64 (x .lo) (y .hi) in
@@ -176,7 +177,7 @@ upper-number a b e = is-false (isNan b) (le-number-r a b (yes (le a b) e))
 
 -- what two sums have in common, where the sums meet before they are widened
 module _ (a m p q : Scalar) where
-  pub common-is : (u w lo hi : Float) → (isNan u ≡ false → u ≡ maxF (add binary64 (a .lo) (m .lo)) (add binary64 (p .lo) (q .lo))) → (isNan w ≡ false → w ≡ minF (add binary64 (a .hi) (m .hi)) (add binary64 (p .hi) (q .hi)))
+  pub common-is : (u w lo hi : Float) → u ≡ greaterF (add binary64 (a .lo) (m .lo)) (add binary64 (p .lo) (q .lo)) → w ≡ lesserF (add binary64 (a .hi) (m .hi)) (add binary64 (p .hi) (q .hi))
       → le u w ≡ true → lo ≡ nextDown u → hi ≡ nextUp w → record { lo = lo; hi = hi } ≡ intersectS (addS a m) (addS p q)
   unfolding addS
   common-is u w lo hi L0 H0 e LO HI =
@@ -184,8 +185,8 @@ module _ (a m p q : Scalar) where
       let y = add binary64 (a .hi) (m .hi) in
       let z = add binary64 (p .lo) (q .lo) in
       let k = add binary64 (p .hi) (q .hi) in
-      let L : u ≡ maxF x z = L0 (lower-number u w e) in
-      let H : w ≡ minF y k = H0 (upper-number u w e) in
+      let L : u ≡ maxF x z = L0 ∙ greater-is x z (ap isNan (sym L0) ∙ lower-number u w e) in
+      let H : w ≡ minF y k = H0 ∙ lesser-is y k (ap isNan (sym H0) ∙ upper-number u w e) in
       (λ i. record { lo = (LO ∙ ap nextDown L) i; hi = (HI ∙ ap nextUp H) i })
       ∙ widened-meet x y z k (add-fits binary64 (a .lo) (m .lo)) (add-fits binary64 (a .hi) (m .hi)) (add-fits binary64 (p .lo) (q .lo)) (add-fits binary64 (p .hi) (q .hi)) (sym (λ i. le (L i) (H i)) ∙ e)
 

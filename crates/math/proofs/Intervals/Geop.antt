@@ -18,7 +18,7 @@ use Rattle.math.specs.Neighbours.{nextUp, nextDown}
 use Rattle.math.specs.declared.scalars.Scalar.{Scalar}
 use Rattle.math.specs.declared.scalars.Divided.{Divided}
 use Rattle.math.specs.declared.scalars.Divided.the-variants.{Value, Failed}
-use Rattle.math.specs.Scalars.{addS, subS, mulS, divS, inverseS, fourFifthsS, ratioOf, zeroF, hasZero, isSame, ZERO, ENTIRE}
+use Rattle.math.specs.Scalars.{addS, subS, corners, mulS, divS, inverseS, fourFifthsS, ratioOf, zeroF, hasZero, isSame, ZERO, ENTIRE}
 use Rattle.math.specs.Values.{value, Below, Above, Holds}
 use Rattle.math.specs.Encloses.{isClash}
 use Rattle.math.proofs.Bools.{and-i, and-l, and-r, or-l, or-r}
@@ -51,7 +51,7 @@ sub-holds a b x y h k = strict-holds (subS a b) (x -ℚ y) (sub-strict a b x y h
 
 -- ---- the product
 product-strict : (a b : Scalar) (x y : ℚ) → Clear (a .lo) (a .hi) (b .lo) (b .hi) → Holds a x → Holds b y → Strict (mulS a b) (x *ℚ y)
-unfolding mulS
+unfolding mulS corners
 product-strict a b x y u h k = record {
   low = mul-below x y (a .lo) (a .hi) (b .lo) (b .hi) (h .low) (h .high) (k .low) (k .high) u;
   high = mul-above x y (a .lo) (a .hi) (b .lo) (b .hi) (h .low) (h .high) (k .low) (k .high) u;

@@ -18,7 +18,7 @@ use Rattle.exact.proofs.Order.{le-by, cone}
 use Rattle.exact.proofs.Embed.{÷-eq, ÷-add, ÷-one}
 use Rattle.math.specs.Neighbours.{nextUp, nextDown}
 use Rattle.math.specs.declared.scalars.Scalar.{Scalar}
-use Rattle.math.specs.Scalars.{zeroF, mulS, least4}
+use Rattle.math.specs.Scalars.{zeroF, corners, mulS, least4}
 use Rattle.math.specs.Values.{value}
 use Rattle.math.specs.Encloses.{isModerate, Between}
 use Rattle.math.proofs.Bools.{and-i, and-l, and-r}
@@ -163,7 +163,7 @@ product-low (fin s m e) (fin t n d) h k l _ = rounds-ge (mul binary64 (fin s m e
 
 -- so the lower bound of such a product of intervals is at least -2^103
 pub mul-bounded : (p q : Scalar) → T (le zeroF (p .lo)) → T (le (p .lo) (big 102)) → T (le zeroF (p .hi)) → T (le (p .hi) (big 102)) → T (le minusOne (q .lo)) → T (le minusOne (q .hi)) → T (le (small 103) (mulS p q .lo))
-unfolding mulS
+unfolding mulS corners
 mul-bounded p q a b c d e f =
     let w = mul binary64 (p .lo) (q .lo) in
     let x = mul binary64 (p .lo) (q .hi) in

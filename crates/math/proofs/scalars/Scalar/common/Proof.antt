@@ -5,11 +5,11 @@ use borrow.Author.Needs.{needs}
 use Rattle.math.proofs.scalars.Scalar.common.Statement.{statement}
 use Rattle.math.proofs.scalars.Scalar.common.Tie as tie
 
-above-requires : tie.Need-above-requires
-above-requires c κs = search needs
+greater-requires : tie.Need-greater-requires
+greater-requires c κs = search needs
 
-below-requires : tie.Need-below-requires
-below-requires c κs = search needs
+lesser-requires : tie.Need-lesser-requires
+lesser-requires c κs = search needs
 
 down-requires : tie.Need-down-requires
 down-requires c κs = lower-number _ _ (c .if1 .taken)
@@ -24,7 +24,7 @@ returns c =
     let b = n .before in
     let a = b .before .before .before .before .before in
     let k = a .before .before .before .before .before .args in
-    common-is (k .a) (k .m) (k .p) (k .q) (a .above .result) (b .below .result) (d .down .result) (c .up .result) (a .above .ensures) (b .below .ensures) (n .if1 .taken) (d .down .ensures) (c .up .ensures)
+    common-is (k .a) (k .m) (k .p) (k .q) (a .greater .result) (b .lesser .result) (d .down .result) (c .up .result) (a .greater .ensures) (b .lesser .ensures) (n .if1 .taken) (d .down .ensures) (c .up .ensures)
 
 add-requires : tie.Need-add-requires
 add-requires c κs = search needs
@@ -46,8 +46,8 @@ pub common-spec : {M : Type 1} → statement M
 common-spec =
     tie.close
     (tie.spec
-    above-requires
-    below-requires
+    greater-requires
+    lesser-requires
     down-requires
     up-requires
     returns
