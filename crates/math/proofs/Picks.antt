@@ -12,13 +12,13 @@ use Rattle.math.proofs.Bools.{pick-yes, pick-no}
 use Rattle.math.proofs.Doubles.Least.{least-number, most-number}
 
 -- ---- the lesser and the greater by one comparison: one that passed had no NaN
-pub left-number : (a b : Float) → lt a b ≡ true → isNan a ≡ false
+left-number : (a b : Float) → lt a b ≡ true → isNan a ≡ false
 unfolding lt isNan
 left-number nan b e = absurd (false≢true e)
 left-number (inf s) b e = refl
 left-number (fin s m k) b e = refl
 
-pub right-number : (a b : Float) → lt a b ≡ true → isNan b ≡ false
+right-number : (a b : Float) → lt a b ≡ true → isNan b ≡ false
 unfolding lt isNan
 right-number nan b e = absurd (false≢true e)
 right-number (inf s) nan e = absurd (false≢true e)

@@ -49,20 +49,11 @@ ENTIRE = record { lo = inf true; hi = inf false }
 abbrev pub couldBeEqual : Scalar → Scalar → Bool
 couldBeEqual x y = le (x .lo) (y .hi) && le (y .lo) (x .hi)
 
-abbrev pub couldBeGreater : Scalar → Scalar → Bool
-couldBeGreater x y = lt (y .lo) (x .hi)
-
 abbrev pub definitelyGreater : Scalar → Scalar → Bool
 definitelyGreater x y = lt (y .hi) (x .lo)
 
-abbrev pub couldBeLess : Scalar → Scalar → Bool
-couldBeLess x y = lt (x .lo) (y .hi)
-
 abbrev pub definitelyLess : Scalar → Scalar → Bool
 definitelyLess x y = lt (x .hi) (y .lo)
-
-abbrev pub isSharp : Scalar → Bool
-isSharp x = eq (x .lo) (x .hi)
 
 abbrev pub isSubsetOf : Scalar → Scalar → Bool
 isSubsetOf x y = le (y .lo) (x .lo) && le (x .hi) (y .hi)

@@ -5,7 +5,7 @@ ghost use mathlib.Core.Bool.{true, false};
 ghost use lib.Ieee.{isNan};
 ghost use Rattle.math.specs.Neighbours.{nextUp, nextDown};
 ghost use Rattle.math.specs.Picks.{lesserF, greaterF, minF, maxF};
-ghost use Rattle.math.specs.Scalars.{geop, ENTIRE, sharp, middle, widthS, addS, subS, corners, mulS, inverseS, hasZero, couldBeEqual, couldBeGreater, definitelyGreater, couldBeLess, definitelyLess, isSharp, isSubsetOf, isExactly, inUnit, isSteady, unionS, intersectS, interpolateS};
+ghost use Rattle.math.specs.Scalars.{geop, ENTIRE, sharp, middle, widthS, addS, subS, corners, mulS, inverseS, hasZero, couldBeEqual, definitelyGreater, definitelyLess, isSubsetOf, isExactly, inUnit, isSteady, unionS, intersectS, interpolateS};
 ghost use Rattle.math.specs.Paper.{Divides, IsRatio};
 ghost use Rattle.math.specs.Factors.{isFactor, inOrder, allInOrder, fractionOf, betweenS};
 
@@ -243,35 +243,16 @@ impl Scalar {
         self.lo <= other.hi && other.lo <= self.hi
     }
 
-    pub fn could_be_greater(self, other: Scalar) -> bool
-        ensures { λ r. ⌜ r ≡ couldBeGreater self other ⌝ }
-    {
-        self.hi > other.lo
-    }
-
     pub fn definitely_greater(self, other: Scalar) -> bool
         ensures { λ r. ⌜ r ≡ definitelyGreater self other ⌝ }
     {
         self.lo > other.hi
     }
 
-    pub fn could_be_less(self, other: Scalar) -> bool
-        ensures { λ r. ⌜ r ≡ couldBeLess self other ⌝ }
-    {
-        self.lo < other.hi
-    }
-
     pub fn definitely_less(self, other: Scalar) -> bool
         ensures { λ r. ⌜ r ≡ definitelyLess self other ⌝ }
     {
         self.hi < other.lo
-    }
-
-    // It is a single value.
-    pub fn is_sharp(self) -> bool
-        ensures { λ r. ⌜ r ≡ isSharp self ⌝ }
-    {
-        self.lo == self.hi
     }
 
     // hi - lo, rounded and never below zero, as a single value.

@@ -8,7 +8,7 @@ use native.Mathlib.Omega.{arith}
 use lib.ListN.{length, drop, getD, drop-of-length-le}
 use lib.Seq.{drop-cons}
 use lib.Dec.{T, eqb}
-use lib.Ieee.{Float, inf, binary64, isNan, fits, mul}
+use lib.Ieee.{Float, binary64, isNan, fits, mul}
 use lib.Ieee.Fits.{inf-fits, mul-fits}
 use borrow.Author.Tests.{eq-eqb, ne-eqb}
 use Rattle.lists.specs.Lists.{tab, foldl, all}

@@ -49,7 +49,7 @@ min-is a b n = pick (λ (x : Float). x ≡ cond (lt b a) b a) (isNan a) b (cond 
     clash true h k = h
     clash false h k = k
 
-pub min-number : (a b : Float) → T (number a) → T (number (minF a b))
+min-number : (a b : Float) → T (number a) → T (number (minF a b))
 min-number a b n = subst (λ (x : Float). T (number x)) (sym (min-is a b n)) (pick (λ (x : Float). T (number x)) (lt b a) b a (λ t. le-number-l b a (lt→le-f b a t)) (λ t. n))
 
 pub min-left : (a b : Float) → T (number a) → T (le (minF a b) a)

@@ -1,6 +1,6 @@
 -- The short way of `times` and `between`: a product by a factor has each bound picked from two products, whichever operand comes first, and what two sums have in common is widened once, where they meet.
 -- Assumes nothing.
-use mathlib.Core.Path.{_≡_, refl, sym, ap, _∙_, subst}
+use mathlib.Core.Path.{_≡_, refl, sym, ap, _∙_}
 use mathlib.Core.Bool.{Bool, true, false, _&&_, cond}
 use Prim.Native.Nat.{_*_}
 use native.Mathlib.Nat.{mul-comm}

@@ -32,7 +32,7 @@ above-lerp (inf true) a x y h k p q = p
 above-lerp (inf false) a x y h k p q = tt
 above-lerp (fin s m e) a x y h k p q = lerp-le h k p q
 
-pub lerp-holds : (s : Scalar) (a x y : ℚ) → 0ℚ ≤ℚ a → a ≤ℚ 1ℚ → Holds s x → Holds s y → Holds s (lerp a x y)
+lerp-holds : (s : Scalar) (a x y : ℚ) → 0ℚ ≤ℚ a → a ≤ℚ 1ℚ → Holds s x → Holds s y → Holds s (lerp a x y)
 lerp-holds s a x y h k p q = record { low = below-lerp (s .lo) a x y h k (p .low) (q .low); high = above-lerp (s .hi) a x y h k (p .high) (q .high) }
 
 -- a number in an interval that lies in 0 to 1

@@ -1,7 +1,7 @@
 -- Sizes: differences of two doubles x < y of moderate size, widened, lie in 0 to 2^102, and above zero where another double lies between; a product of such an interval and one that
 -- is at least -1 has no very low bound. Assumes nothing.
 use mathlib.Core.Path.{_≡_, refl, sym, ap, ap₂, _∙_, subst}
-use mathlib.Core.List.{List, [], _∷_}
+use mathlib.Core.List.{[], _∷_}
 use mathlib.Core.Bool.{Bool, true, false, not, cond}
 use Prim.Native.Nat.{ℕ, zero, suc, _+_, _*_, _^_}
 use native.Mathlib.Nat.{pow-succ'}
@@ -12,7 +12,7 @@ use lib.Pow.{pow-pos}
 use lib.Ieee.{Float, nan, inf, fin, binary64, low, fits, neg, lt, le, eq, sub, mul, isNan}
 use lib.Ieee.Fits.{sub-fits, mul-fits}
 use Rattle.exact.specs.Ring.{by-rep, by-eq, read}
-use Rattle.exact.specs.Rational.{ℚ, _+ℚ_, _*ℚ_, -ℚ_, _-ℚ_, 0ℚ, 1ℚ, _÷_, signed, whole, _≤ℚ_, _<ℚ_, nn-of, lt→not-le}
+use Rattle.exact.specs.Rational.{ℚ, _+ℚ_, _*ℚ_, -ℚ_, _-ℚ_, 0ℚ, 1ℚ, _÷_, signed, _≤ℚ_, _<ℚ_, nn-of, lt→not-le}
 use Rattle.exact.proofs.Field.{ℚring, nn-add}
 use Rattle.exact.proofs.Order.{le-by, cone}
 use Rattle.exact.proofs.Embed.{÷-eq, ÷-add, ÷-one}
@@ -57,10 +57,6 @@ tiny-is = refl
 pub tiny2-is : value tiny2 ≡ 2 ÷ 2 ^ low binary64
 unfolding value
 tiny2-is = ÷-eq 1 2 (2 ^ 1073) (2 ^ 1074) (pow-pos 1073) (pow-pos 1074) refl
-
-big-is : (k : ℕ) → value (big k) ≡ whole (1 * 2 ^ k)
-unfolding value
-big-is k = refl
 
 pub small-is : (k : ℕ) → value (small k) ≡ -ℚ value (big k)
 small-is k = unfold neg in value-neg (big k)

@@ -1,5 +1,5 @@
 -- The widened sum of two lower bounds lies below the sum of what they bound, and so above. Assumes nothing.
-use mathlib.Core.Path.{_≡_, refl}
+use mathlib.Core.Path.{refl}
 use mathlib.Core.Bool.{true, false}
 use lib.Ieee.{Float, nan, inf, fin, binary64, add}
 use lib.Ieee.Fits.{add-fits}

@@ -131,7 +131,7 @@ module _ (P : Float → Float → Float) (after-nan : (x : Float) → P nan x �
   down-pick (fin s m e) (fin t n d) F G = numbers (fin s m e) (fin t n d) F G (unfold isNan in tt) (unfold isNan in tt)
 
 -- the neighbour below the lesser, and below the greater
-pub down-min : (a b : Float) → T (fits binary64 a) → T (fits binary64 b) → minF (nextDown a) (nextDown b) ≡ nextDown (minF a b)
+down-min : (a b : Float) → T (fits binary64 a) → T (fits binary64 b) → minF (nextDown a) (nextDown b) ≡ nextDown (minF a b)
 down-min = down-pick minF (λ x. after x) (λ x n. sym (lesser-min x nan (is-false (isNan x) n)) ∙ before x) down-min-numbers
   where
     after : (x : Float) → minF nan x ≡ x
@@ -140,7 +140,7 @@ down-min = down-pick minF (λ x. after x) (λ x n. sym (lesser-min x nan (is-fal
     before : (x : Float) → lesserF x nan ≡ x
     before x = unfold lt in refl
 
-pub down-max : (a b : Float) → T (fits binary64 a) → T (fits binary64 b) → maxF (nextDown a) (nextDown b) ≡ nextDown (maxF a b)
+down-max : (a b : Float) → T (fits binary64 a) → T (fits binary64 b) → maxF (nextDown a) (nextDown b) ≡ nextDown (maxF a b)
 down-max = down-pick maxF (λ x. after x) (λ x n. sym (greater-max x nan (is-false (isNan x) n)) ∙ before x) down-max-numbers
   where
     after : (x : Float) → maxF nan x ≡ x
@@ -171,10 +171,10 @@ module _ (P Q : Float → Float → Float) (is : (a b : Float) → Q a b ≡ neg
       ∙ ap (λ (x : Float). neg (nextDown x)) (sym (neg-neg (P (neg a) (neg b))) ∙ ap neg (sym (is a b)))
       ∙ up-neg (Q a b)
 
-pub up-max : (a b : Float) → T (fits binary64 a) → T (fits binary64 b) → maxF (nextUp a) (nextUp b) ≡ nextUp (maxF a b)
+up-max : (a b : Float) → T (fits binary64 a) → T (fits binary64 b) → maxF (nextUp a) (nextUp b) ≡ nextUp (maxF a b)
 up-max = up-pick minF maxF max-is down-min
 
-pub up-min : (a b : Float) → T (fits binary64 a) → T (fits binary64 b) → minF (nextUp a) (nextUp b) ≡ nextUp (minF a b)
+up-min : (a b : Float) → T (fits binary64 a) → T (fits binary64 b) → minF (nextUp a) (nextUp b) ≡ nextUp (minF a b)
 up-min = up-pick maxF minF min-turned down-max
   where
     min-turned : (a b : Float) → minF a b ≡ neg (maxF (neg a) (neg b))

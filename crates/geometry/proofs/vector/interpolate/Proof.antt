@@ -1,9 +1,8 @@
 -- `interpolate` writes the point between two points. Invariant: its first k intervals are written.
-use mathlib.Core.Path.{_≡_, refl, sym, ap, _∙_}
-use Prim.Native.Nat.{ℕ, _*_, _+_, _-_, _≤_}
+use mathlib.Core.Path.{_≡_, refl, sym, _∙_}
+use Prim.Native.Nat.{_-_, _≤_}
 use lib.ListN.{length}
 use Rattle.lists.proofs.Put.{put-nil}
-use Rattle.math.specs.declared.scalars.Fraction.{Fraction}
 use Rattle.math.proofs.Intervals.Factors.{fraction-own, between-own}
 use Rattle.model.specs.Layout.{flat}
 use Rattle.geometry.proofs.Memory.Between.{after, turn, done}
