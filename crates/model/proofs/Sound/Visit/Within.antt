@@ -44,35 +44,24 @@ minus x y h = le-by (nn-of (lt→le h)) (by-rep ℚring (x ∷ y ∷ []) (search
 minus′ : (x y : ℚ) → x <ℚ y → x -ℚ y ≤ℚ 0ℚ
 minus′ x y h = le-by (nn-of (lt→le h)) (by-rep ℚring (x ∷ y ∷ []) (search read) (search read) tt)
 
-sub-above : (x y : Float) → T (lt x y) → T (le zeroF (sub binary64 y x))
-sub-above nan y h = unfold lt in absurd h
-sub-above (inf s) nan h = unfold lt in absurd h
-sub-above (inf true) (inf true) h = unfold lt in absurd h
-sub-above (inf true) (inf false) h = unfold sub add neg le in tt
-sub-above (inf false) (inf t) h = unfold lt in absurd h
-sub-above (inf true) (fin t n d) h = unfold sub add neg le in tt
-sub-above (inf false) (fin t n d) h = unfold lt in absurd h
-sub-above (fin s m e) nan h = unfold lt in absurd h
-sub-above (fin s m e) (inf true) h = unfold lt in absurd h
-sub-above (fin s m e) (inf false) h = unfold sub add neg le in tt
-sub-above (fin s m e) (fin t n d) h =
-    rounds-ge _ _ (sub-rounds t n d s m e) false 0 (pos 0) (unfold fits in tt)
-    (subst (λ (z : ℚ). z ≤ℚ value (fin t n d) -ℚ value (fin s m e)) (sym (value-zero false (pos 0))) (minus _ _ (lt→value s m e t n d h)))
-
-sub-below : (x y : Float) → T (lt x y) → T (le (sub binary64 x y) zeroF)
-sub-below nan y h = unfold lt in absurd h
-sub-below (inf s) nan h = unfold lt in absurd h
-sub-below (inf true) (inf true) h = unfold lt in absurd h
-sub-below (inf true) (inf false) h = unfold sub add neg le in tt
-sub-below (inf false) (inf t) h = unfold lt in absurd h
-sub-below (inf true) (fin t n d) h = unfold sub add neg le in tt
-sub-below (inf false) (fin t n d) h = unfold lt in absurd h
-sub-below (fin s m e) nan h = unfold lt in absurd h
-sub-below (fin s m e) (inf true) h = unfold lt in absurd h
-sub-below (fin s m e) (inf false) h = unfold sub add neg le in tt
-sub-below (fin s m e) (fin t n d) h =
-    rounds-le _ _ (sub-rounds s m e t n d) false 0 (pos 0) (unfold fits in tt)
-    (subst (λ (z : ℚ). value (fin s m e) -ℚ value (fin t n d) ≤ℚ z) (sym (value-zero false (pos 0))) (minus′ _ _ (lt→value s m e t n d h)))
+-- of the greater less the lesser, and of the lesser less the greater
+sub-signs : (x y : Float) → T (lt x y) → T (le zeroF (sub binary64 y x)) × T (le (sub binary64 x y) zeroF)
+sub-signs nan y h = unfold lt in absurd h
+sub-signs (inf s) nan h = unfold lt in absurd h
+sub-signs (inf true) (inf true) h = unfold lt in absurd h
+sub-signs (inf true) (inf false) h = unfold sub add neg le in (tt, tt)
+sub-signs (inf false) (inf t) h = unfold lt in absurd h
+sub-signs (inf true) (fin t n d) h = unfold sub add neg le in (tt, tt)
+sub-signs (inf false) (fin t n d) h = unfold lt in absurd h
+sub-signs (fin s m e) nan h = unfold lt in absurd h
+sub-signs (fin s m e) (inf true) h = unfold lt in absurd h
+sub-signs (fin s m e) (inf false) h = unfold sub add neg le in (tt, tt)
+sub-signs (fin s m e) (fin t n d) h = (
+  rounds-ge _ _ (sub-rounds t n d s m e) false 0 (pos 0) (unfold fits in tt)
+      (subst (λ (z : ℚ). z ≤ℚ value (fin t n d) -ℚ value (fin s m e)) (sym (value-zero false (pos 0))) (minus _ _ (lt→value s m e t n d h))),
+  rounds-le _ _ (sub-rounds s m e t n d) false 0 (pos 0) (unfold fits in tt)
+      (subst (λ (z : ℚ). value (fin s m e) -ℚ value (fin t n d) ≤ℚ z) (sym (value-zero false (pos 0))) (minus′ _ _ (lt→value s m e t n d h))),
+)
 
 -- ---- both bounds of the hat lie from a to b, and are doubles
 pub record Within (a b : Float) (hat : Scalar) : Type 0 where
@@ -137,7 +126,7 @@ module _ (a b : Float) (hat z : Scalar) (h : Within a b hat) (dz : Doubles z) (t
 
       never : T (lt (z .lo) (z .hi)) → ⊥
       never o = elim (decide (lt (hat .hi) (hat .lo))) [
-        | inl k ↦ clash (le (sub binary64 (hat .hi) (hat .lo)) (sub binary64 (z .hi) (z .lo))) m (le-trans (sub binary64 (hat .hi) (hat .lo)) zeroF (sub binary64 (z .hi) (z .lo)) (sub-below (hat .hi) (hat .lo) k) (sub-above (z .lo) (z .hi) o))
+        | inl k ↦ clash (le (sub binary64 (hat .hi) (hat .lo)) (sub binary64 (z .hi) (z .lo))) m (le-trans (sub binary64 (hat .hi) (hat .lo)) zeroF (sub binary64 (z .hi) (z .lo)) (sub-signs (hat .hi) (hat .lo) k .1) (sub-signs (z .lo) (z .hi) o .0))
         | inr k ↦ clash (le lo′ hi′) n (in-order (total-order (hat .lo) (hat .hi) (le-number-r a (hat .lo) (h .from-lo)) (le-number-r a (hat .hi) (h .from-hi)) k) (lt→le-f (z .lo) (z .hi) o))
       ]
 
