@@ -4,7 +4,7 @@ use mathlib.Core.Bool.{Bool, true, false, cond, false≢true}
 use lib.Ieee.{Float, nan, inf, fin, binary64, isNan, lt, le, sub}
 use lib.Ieee.Bits.{is-false}
 use Rattle.math.specs.Picks.{lesserF, greaterF, minF, maxF}
-use Rattle.math.specs.Scalars.{least4, most4, corners, addS, subS, mulS, intersectS, isSteady}
+use Rattle.math.specs.Scalars.{least4, most4, corners, addS, subS, mulS, intersectS, sameOperands}
 use Rattle.math.specs.Factors.{betweenS}
 use Rattle.math.specs.declared.scalars.Scalar.{Scalar}
 use Rattle.math.specs.declared.scalars.Fraction.{Fraction}
@@ -106,11 +106,11 @@ sums-meet a m p q x y r X Y R = R ∙ (λ i. intersectS (X i) (Y i))
 
 -- ---- the two answers of `between`: its first operand, or its calls one after the other
 module _ (a b : Scalar) (f : Fraction) where
-  pub kept : isSteady a b (f .alpha) ≡ true → a ≡ betweenS a b f
+  pub kept : sameOperands a b (f .alpha) ≡ true → a ≡ betweenS a b f
   unfolding betweenS
   kept e = pick-yes _ _ _ e
 
   pub blended : (d m p q r : Scalar) → d ≡ subS b a → m ≡ mulS (f .alpha) d → p ≡ mulS (f .beta) a → q ≡ mulS (f .alpha) b → r ≡ intersectS (addS a m) (addS p q)
-      → isSteady a b (f .alpha) ≡ false → r ≡ betweenS a b f
+      → sameOperands a b (f .alpha) ≡ false → r ≡ betweenS a b f
   unfolding betweenS
   blended d m p q r D M P Q R e = R ∙ (λ i. intersectS (addS a ((M ∙ ap (mulS (f .alpha)) D) i)) (addS (P i) (Q i))) ∙ pick-no _ _ _ e

@@ -2,7 +2,7 @@
 -- these tests. Definitions only.
 use mathlib.Core.Bool.{Bool, false, cond, _&&_}
 use lib.Ieee.{inf, lt, le}
-use Rattle.math.specs.Scalars.{zeroF, ONE, geop, addS, subS, mulS, intersectS, isSteady, viaDelta}
+use Rattle.math.specs.Scalars.{zeroF, ONE, geop, addS, subS, mulS, intersectS, sameOperands, viaDelta}
 use Rattle.math.specs.declared.scalars.Scalar.{Scalar}
 use Rattle.math.specs.declared.scalars.Fraction.{Fraction}
 
@@ -27,5 +27,5 @@ fractionOf alpha = record { alpha = alpha; beta = subS ONE alpha }
 -- `interpolateS` with beta for 1 - alpha, whatever beta is
 unfoldable pub betweenS : Scalar → Scalar → Fraction → Scalar
 betweenS a b f =
-    cond (isSteady a b (f .alpha)) a
+    cond (sameOperands a b (f .alpha)) a
     (intersectS (viaDelta geop a b (f .alpha)) (addS (mulS (f .beta) a) (mulS (f .alpha) b)))

@@ -164,8 +164,8 @@ geop = record { add = addS; sub = subS; mul = mulS; div = divS; fourFifths = fou
 -- ---- interpolate
 
 -- both are the same, and t lies in 0 to 1: every point between them is in the first
-abbrev pub isSteady : Scalar → Scalar → Scalar → Bool
-isSteady a b t = isExactly a b && inUnit t
+abbrev pub sameOperands : Scalar → Scalar → Scalar → Bool
+sameOperands a b t = isExactly a b && inUnit t
 
 -- a + t (b - a), and (1 - t) a + t b
 abbrev pub viaDelta : Arithmetic → Scalar → Scalar → Scalar → Scalar
@@ -174,6 +174,6 @@ viaDelta ar a b t = ar .add a (ar .mul t (ar .sub b a))
 abbrev pub viaWeights : Arithmetic → Scalar → Scalar → Scalar → Scalar
 viaWeights ar a b t = ar .add (ar .mul (ar .sub ONE t) a) (ar .mul t b)
 
--- the first operand where it is steady, else the meeting of the two forms
+-- the first operand where `sameOperands` says so, else the meeting of the two forms
 unfoldable pub interpolateS : Arithmetic → Scalar → Scalar → Scalar → Scalar
-interpolateS ar a b t = cond (isSteady a b t) a (intersectS (viaDelta ar a b t) (viaWeights ar a b t))
+interpolateS ar a b t = cond (sameOperands a b t) a (intersectS (viaDelta ar a b t) (viaWeights ar a b t))

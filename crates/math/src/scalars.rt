@@ -5,7 +5,7 @@ ghost use mathlib.Core.Bool.{true, false};
 ghost use lib.Ieee.{isNan};
 ghost use Rattle.math.specs.Neighbours.{nextUp, nextDown};
 ghost use Rattle.math.specs.Picks.{lesserF, greaterF, minF, maxF};
-ghost use Rattle.math.specs.Scalars.{geop, ENTIRE, sharp, middle, widthS, addS, subS, corners, mulS, inverseS, hasZero, couldBeEqual, definitelyGreater, definitelyLess, isSubsetOf, isExactly, inUnit, isSteady, unionS, intersectS, interpolateS};
+ghost use Rattle.math.specs.Scalars.{geop, ENTIRE, sharp, middle, widthS, addS, subS, corners, mulS, inverseS, hasZero, couldBeEqual, definitelyGreater, definitelyLess, isSubsetOf, isExactly, inUnit, sameOperands, unionS, intersectS, interpolateS};
 ghost use Rattle.math.specs.Paper.{Divides, IsRatio};
 ghost use Rattle.math.specs.Factors.{isFactor, inOrder, allInOrder, fractionOf, betweenS};
 
@@ -326,9 +326,9 @@ impl Scalar {
         self.lo >= 0.0 && self.hi <= 1.0
     }
 
-    // Every point between a and b is a itself.
-    fn steady(a: Scalar, b: Scalar, alpha: Scalar) -> bool
-        ensures { λ r. ⌜ r ≡ isSteady a b alpha ⌝ }
+    // a and b are the same, and alpha lies in 0 to 1: every point between them is a itself.
+    fn same_operands(a: Scalar, b: Scalar, alpha: Scalar) -> bool
+        ensures { λ r. ⌜ r ≡ sameOperands a b alpha ⌝ }
     {
         a.is_exactly(b) && alpha.in_unit()
     }
@@ -369,7 +369,7 @@ impl Scalar {
     }
 
     // What a + m and p + q have in common: where the sums meet before they are widened, each bound is widened once, after the pick.
-    fn common(a: Scalar, m: Scalar, p: Scalar, q: Scalar) -> Scalar
+    fn meet_of_sums(a: Scalar, m: Scalar, p: Scalar, q: Scalar) -> Scalar
         ensures { λ r. ⌜ r ≡ intersectS (addS a m) (addS p q) ⌝ }
     {
         let lo = greater(a.lo + m.lo, p.lo + q.lo);
@@ -404,7 +404,7 @@ impl Scalar {
     {
         let alpha = f.alpha;
         let beta = f.beta;
-        if Scalar::steady(a, b, alpha) {
+        if Scalar::same_operands(a, b, alpha) {
             return a;
         }
         let lo = b.lo - a.hi;
@@ -414,7 +414,7 @@ impl Scalar {
                 lo: down(lo),
                 hi: up(hi),
             };
-            return Scalar::common(a, alpha.scale(delta), beta.scale(a), alpha.scale(b));
+            return Scalar::meet_of_sums(a, alpha.scale(delta), beta.scale(a), alpha.scale(b));
         }
         let via_delta = a.add(alpha.mul(b.sub(a)));
         let via_weights = beta.mul(a).add(alpha.mul(b));

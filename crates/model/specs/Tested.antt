@@ -10,7 +10,7 @@ use Rattle.math.specs.declared.scalars.Divided.{Divided}
 use Rattle.math.specs.declared.scalars.Divided.the-variants.{Value, Failed}
 use Rattle.math.specs.Neighbours.{nextUp, nextDown}
 use Rattle.math.specs.Picks.{minF, maxF}
-use Rattle.math.specs.Scalars.{oneF, ONE, hasZero, corners, ratioOf, widthS, isSteady}
+use Rattle.math.specs.Scalars.{oneF, ONE, hasZero, corners, ratioOf, widthS, sameOperands}
 
 infixr 10 _>>=_
 -- ---- a value, or a test that has fired
@@ -113,5 +113,5 @@ intersect x y =
 -- The first operand where both are the same; else the two forms, and what lies in both.
 unfoldable pub interpolate : Scalar → Scalar → Scalar → Tested Scalar
 interpolate a b t =
-    cond (isSteady a b t) (fine a)
+    cond (sameOperands a b t) (fine a)
     (do intersect (← add a (← mul t (← sub b a))) (← add (← mul (← sub ONE t) a) (← mul t b)))

@@ -177,10 +177,10 @@ upper-number a b e = is-false (isNan b) (le-number-r a b (yes (le a b) e))
 
 -- what two sums have in common, where the sums meet before they are widened
 module _ (a m p q : Scalar) where
-  pub common-is : (u w lo hi : Float) → u ≡ greaterF (add binary64 (a .lo) (m .lo)) (add binary64 (p .lo) (q .lo)) → w ≡ lesserF (add binary64 (a .hi) (m .hi)) (add binary64 (p .hi) (q .hi))
+  pub meet-of-sums-is : (u w lo hi : Float) → u ≡ greaterF (add binary64 (a .lo) (m .lo)) (add binary64 (p .lo) (q .lo)) → w ≡ lesserF (add binary64 (a .hi) (m .hi)) (add binary64 (p .hi) (q .hi))
       → le u w ≡ true → lo ≡ nextDown u → hi ≡ nextUp w → record { lo = lo; hi = hi } ≡ intersectS (addS a m) (addS p q)
   unfolding addS
-  common-is u w lo hi L0 H0 e LO HI =
+  meet-of-sums-is u w lo hi L0 H0 e LO HI =
       let x = add binary64 (a .lo) (m .lo) in
       let y = add binary64 (a .hi) (m .hi) in
       let z = add binary64 (p .lo) (q .lo) in

@@ -8,7 +8,7 @@ use Rattle.math.specs.declared.scalars.Scalar.{Scalar}
 use Rattle.math.specs.declared.scalars.Divided.the-variants.{Value, Failed}
 use Rattle.math.specs.Neighbours.{nextUp, nextDown}
 use Rattle.math.specs.Picks.{minF, maxF}
-use Rattle.math.specs.Scalars.{geop, zeroF, oneF, sharp, ZERO, ONE, ENTIRE, hasZero, widthS, unionS, intersectS, interpolateS, isSteady, viaDelta, viaWeights, addS, subS, corners, mulS, inverseS, divS, fourFifthsS}
+use Rattle.math.specs.Scalars.{geop, zeroF, oneF, sharp, ZERO, ONE, ENTIRE, hasZero, widthS, unionS, intersectS, interpolateS, sameOperands, viaDelta, viaWeights, addS, subS, corners, mulS, inverseS, divS, fourFifthsS}
 use Rattle.math.specs.Values.{Proper}
 use Rattle.math.specs.Encloses.{InOrder, Tame}
 use Rattle.math.proofs.Bools.{pick}
@@ -108,7 +108,7 @@ ratio-fine = proper-fine fourFifthsS (o .ratio-proper)
 -- ---- interpolate
 pub interpolate-fine : (a b t : Scalar) → Proper a → Proper b → Proper t → Tame geop geop-encloses a b t → tested.interpolate a b t ≡ fine (interpolateS geop a b t)
 unfolding tested.interpolate interpolateS
-interpolate-fine a b t A B P w = go (isSteady a b t)
+interpolate-fine a b t A B P w = go (sameOperands a b t)
   where
     diff : Proper (subS b a)
     diff = o .sub-proper b a B A

@@ -1,4 +1,4 @@
--- `between` equals its definition: its first operand where `steady` says so, and else what its calls ensure, one after the other.
+-- `between` equals its definition: its first operand where `same_operands` says so, and else what its calls ensure, one after the other.
 -- Where `all_in_order` says so its products are those by factors, and its difference is in order, since it was so before it was widened.
 use mathlib.Core.Path.{sym, _∙_}
 use lib.Ieee.{binary64, sub}
@@ -8,11 +8,11 @@ use borrow.Author.Needs.{needs}
 use Rattle.math.proofs.scalars.Scalar.between.Statement.{statement}
 use Rattle.math.proofs.scalars.Scalar.between.Tie as tie
 
-steady-requires : tie.Need-steady-requires
-steady-requires c κs = search needs
+same-operands-requires : tie.Need-same-operands-requires
+same-operands-requires c κs = search needs
 
 returns : tie.Need-returns
-returns c = let k = c .before .before .before .before .args in kept (k .a) (k .b) (k .f) (sym (c .before .steady .ensures) ∙ c .if1 .taken)
+returns c = let k = c .before .before .before .before .args in kept (k .a) (k .b) (k .f) (sym (c .before .same-operands .ensures) ∙ c .if1 .taken)
 
 all-in-order-requires : tie.Need-all-in-order-requires
 all-in-order-requires c κs = search needs
@@ -44,8 +44,8 @@ scale-requires-2 c κs = let n = c .before .before .before in (ordered n .beta, 
 scale-requires-3 : tie.Need-scale-requires-3
 scale-requires-3 c κs = let n = c .before .before .before .before in (ordered n .alpha, ordered n .second)
 
-common-requires : tie.Need-common-requires
-common-requires c κs = search needs
+meet-of-sums-requires : tie.Need-meet-of-sums-requires
+meet-of-sums-requires c κs = search needs
 
 returns-2 : tie.Need-returns-2
 returns-2 c =
@@ -58,9 +58,9 @@ returns-2 c =
     let if1 = n .before .before .before .before .before .before in
     let st = if1 .before in
     let k = st .before .before .before .args in
-    blended (k .a) (k .b) (k .f) _ (m1 .scale .result) (m2 .scale2 .result) (m3 .scale3 .result) (c .common .result)
+    blended (k .a) (k .b) (k .f) _ (m1 .scale .result) (m2 .scale2 .result) (m3 .scale3 .result) (c .meet-of-sums .result)
     (delta-is (k .a) (k .b) (d .down .result) (u .up .result) (d .down .ensures) (u .up .ensures))
-    (m1 .scale .ensures) (m2 .scale2 .ensures) (m3 .scale3 .ensures) (c .common .ensures) (sym (st .steady .ensures) ∙ if1 .if1 .left)
+    (m1 .scale .ensures) (m2 .scale2 .ensures) (m3 .scale3 .ensures) (c .meet-of-sums .ensures) (sym (st .same-operands .ensures) ∙ if1 .if1 .left)
 
 sub-requires : tie.Need-sub-requires
 sub-requires c κs = search needs
@@ -97,13 +97,13 @@ returns-3 c =
     blended (k .a) (k .b) (k .f) (s .sub .result) (m1 .mul .result) (m2 .mul2 .result) (m3 .mul3 .result) (c .intersect .result)
     (s .sub .ensures) (m1 .mul .ensures) (m2 .mul2 .ensures) (m3 .mul3 .ensures)
     (sums-meet (k .a) (m1 .mul .result) (m2 .mul2 .result) (m3 .mul3 .result) (a1 .add .result) (a2 .add2 .result) (c .intersect .result) (a1 .add .ensures) (a2 .add2 .ensures) (c .intersect .ensures))
-    (sym (st .steady .ensures) ∙ if1 .if1 .left)
+    (sym (st .same-operands .ensures) ∙ if1 .if1 .left)
 
 pub between-spec : {M : Type 1} → statement M
 between-spec =
     tie.close
     (tie.spec
-    steady-requires
+    same-operands-requires
     returns
     all-in-order-requires
     down-requires
@@ -111,7 +111,7 @@ between-spec =
     scale-requires
     scale-requires-2
     scale-requires-3
-    common-requires
+    meet-of-sums-requires
     returns-2
     sub-requires
     mul-requires
