@@ -1,16 +1,18 @@
 -- What a caller learns from a result. Leans on the contract of the search alone.
 use mathlib.Core.Path.{_≡_, refl, sym, ap, _∙_, subst}
 use mathlib.Core.Bool.{Bool, true, false}
+use mathlib.Core.List.{List}
 use Prim.Native.Nat.{ℕ, zero, suc}
 use lib.Dec.{T}
-use Rattle.exact.specs.Rational.{ℚ}
+use lib.Ieee.{Float}
 use Rattle.math.specs.Scalars.{geop}
-use Rattle.math.proofs.Bools.{no}
+use Rattle.math.proofs.Bools.{yes, no}
 use Rattle.model.specs.Call.{Call, refusal, searchedBy, searched}
-use Rattle.model.specs.Enclosure.{Accepted, HitAt, HitsEnclosed}
+use Rattle.model.specs.Enclosure.{Accepted, HitsEnclosed}
 use Rattle.model.specs.declared.contains.Found.{Found}
 use Rattle.model.specs.declared.contains.Found.the-variants.{Nothing}
-use Rattle.clear.specs.Clear.{isClear}
+use Rattle.model.specs.Promise.{Answers}
+use Rattle.clear.specs.Clear.{isClear, Clears}
 
 -- a refused call does not come out as nothing
 pub accepted : (c : Call) (v : ℕ) → Nothing v ≡ searched geop c → Accepted c
@@ -21,10 +23,18 @@ accepted c v h = go (refusal c) refl h
     go zero e h = e
     go (suc n) e h = absurd (no true (ap isClear h) tt)
 
-module _ (c : Call) (r : Found) (R : r ≡ searched geop c) (E : HitsEnclosed c r) where
-  pub clear : (v : ℕ) → r ≡ Nothing v → (true ≡ isClear (searched geop c)) × ((t : ℚ) → HitAt c t → ⊥)
-  unfolding isClear
-  clear v e = (ap isClear (sym e ∙ R), λ t h. subst (HitsEnclosed c) e E (accepted c v (sym e ∙ R)) tt t h)
+module _ (c : Call) (before after : List Float) (r : Found) (P : Answers c before after r) where
+  -- The promises, of the answer that the definition gives.
+  same : Answers c before after (searched geop c)
+  same = subst (Answers c before after) (P .result) P
 
-  pub unclear : (z : Found) → r ≡ z → isClear z ≡ false → false ≡ isClear (searched geop c)
-  unclear z e f = sym f ∙ ap isClear (sym e ∙ R)
+  pub clear : (v : ℕ) → r ≡ Nothing v → Clears c before after true
+  unfolding isClear
+  clear v e = record {
+    result = ap isClear (sym e ∙ P .result);
+    answers = same;
+    clear = λ _ t h. subst (HitsEnclosed c) e (P .encloses) (accepted c v (sym e ∙ P .result)) tt t h;
+  }
+
+  pub unclear : (z : Found) → r ≡ z → isClear z ≡ false → Clears c before after false
+  unclear z e f = record { result = sym f ∙ ap isClear (sym e ∙ P .result); answers = same; clear = λ t. absurd (yes false t) }

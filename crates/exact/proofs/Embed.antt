@@ -1,36 +1,21 @@
 -- Whole numbers, fractions of whole numbers and powers of two as rationals: a ÷ c adds, multiplies and compares by cross multiplication.
 use mathlib.Core.Path.{_≡_, refl, sym, _∙_, ap, ap₂, subst}
-use mathlib.Core.List.{List, [], _∷_}
+use mathlib.Core.List.{[], _∷_}
 use mathlib.Core.Bool.{Bool, true, false, not, Bool·beq}
-use Prim.Native.Nat.{ℕ, zero, suc, pred, _+_, _-_, _*_, _^_, _≤_, _<_}
-use native.Mathlib.Nat.{lt-of-not-le, lt-irrefl, lt-of-lt-of-le, sub-add-cancel, mul-pos, mul-comm, pow-succ'}
+use Prim.Native.Nat.{ℕ, suc, pred, _+_, _-_, _*_, _≤_, _<_}
+use native.Mathlib.Nat.{lt-of-not-le, lt-irrefl, lt-of-lt-of-le, sub-add-cancel, mul-pos, mul-comm}
 use native.Mathlib.Decide.{decLe}
 use native.Mathlib.Omega.{arith}
 use lib.Dec.{T}
-use lib.Pow.{pow-pos}
-use lib.IntN.{ℤ, pos, negsuc, sucℤ, predℤ, negℤ, _+ℤ_, _*ℤ_, suc-pred, +ℤ-negℤ-cancel, +ℤ-assoc, +ℤ-idl, +ℤ-invr, negℤ-+ℤ, sucℤ-+ℤ, predℤ-+ℤ}
-use lib.Ieee.{up, down}
-use lib.Ieee.Fits.{down-pos}
-use Rattle.exact.specs.Integer.{negℤ-*ℤ, ℤ-step}
-use Rattle.exact.specs.Ring.{by-rep, by-eq, read}
-use Rattle.exact.specs.Fraction.{frac, mul-one, isPos, addF, negF, mulF, mulD}
-use Rattle.exact.specs.Rational.{ℚ, mk, same, _+ℚ_, _*ℚ_, -ℚ_, _-ℚ_, 0ℚ, 1ℚ, invℚ, _÷_, signed, fromℤ, pow2, Nn, _≤ℚ_, _<ℚ_, nn-of, not-le→lt, lt→not-le}
-use Rattle.exact.proofs.Field.{ℚring, add-mk, mul-mk, neg-mk, Nn-mk, Nn-mk⁻¹, *ℚ-assoc, *ℚ-comm, *ℚ-1, one-mk, zero-mk}
+use lib.IntN.{ℤ, pos, negsuc, negℤ, _+ℤ_, _*ℤ_, +ℤ-negℤ-cancel, +ℤ-assoc, +ℤ-idl, +ℤ-invr, negℤ-+ℤ}
+use Rattle.ring.proofs.Integer.{negℤ-*ℤ}
+use Rattle.ring.proofs.Ring.{by-rep, by-eq, read}
+use Rattle.exact.specs.Fraction.{frac, isPos, addF, negF, mulD}
+use Rattle.exact.specs.Rational.{ℚ, mk, same, _+ℚ_, _*ℚ_, -ℚ_, _-ℚ_, 0ℚ, 1ℚ, invℚ, _÷_, signed, Nn, _≤ℚ_, _<ℚ_, nn-of, not-le→lt, lt→not-le}
+use Rattle.exact.proofs.Field.{ℚring, add-mk, mul-mk, neg-mk, Nn-mk, Nn-mk⁻¹, one-mk, zero-mk}
 use Rattle.exact.proofs.Order.{le-by, le-nn, inv-unique}
 
 -- ---- whole numbers
-pub fromℤ-add : (m n : ℤ) → fromℤ (m +ℤ n) ≡ fromℤ m +ℚ fromℤ n
-unfolding fromℤ
-fromℤ-add m n = sym (add-mk (m, 0) (n, 0) ∙ ap mk (frac (ap₂ _+ℤ_ (mul-one m) (mul-one n)) refl))
-
-pub fromℤ-mul : (m n : ℤ) → fromℤ (m *ℤ n) ≡ fromℤ m *ℚ fromℤ n
-unfolding fromℤ
-fromℤ-mul m n = sym (mul-mk (m, 0) (n, 0))
-
-pub fromℤ-neg : (m : ℤ) → fromℤ (negℤ m) ≡ -ℚ fromℤ m
-unfolding fromℤ
-fromℤ-neg m = sym (neg-mk (m, 0))
-
 -- ---- a / c, for a c above 0
 at-pred : (c : ℕ) → 0 < c → suc (pred c) ≡ c
 at-pred c h = omega arith
@@ -163,35 +148,3 @@ signed-inv true x i e = inv-unique (-ℚ x) (-ℚ i) (by-eq ℚring 1ℚ e (by-r
 signed-inv false x i e = inv-unique x i e
 
 -- ---- powers of two, with a negative exponent too
-pub pow2-suc : (e : ℤ) → pow2 (sucℤ e) ≡ (2 ÷ 1) *ℚ pow2 e
-pow2-suc e = shape e ∙ sym (÷-mul 2 (up e) 1 (down e) (omega arith) (down-pos e))
-  where
-    shape : (e : ℤ) → up (sucℤ e) ÷ down (sucℤ e) ≡ (2 * up e) ÷ (1 * down e)
-    shape (pos k) = ap (λ (z : ℕ). z ÷ 1) (pow-succ' 2 k)
-    shape (negsuc zero) = ÷-eq 1 2 1 2 (omega arith) (omega arith) refl
-    shape (negsuc (suc k)) = ÷-eq 1 2 (2 ^ suc k) (1 * 2 ^ suc (suc k)) (pow-pos (suc k)) (one-pos (2 ^ suc (suc k)) (pow-pos (suc (suc k)))) (dbl (2 ^ suc (suc k)) (2 ^ suc k) (pow-succ' 2 (suc k)))
-      where
-        one-pos : (z : ℕ) → 0 < z → 0 < 1 * z
-        one-pos z h = omega arith
-
-        dbl : (y z : ℕ) → y ≡ 2 * z → 1 * (1 * y) ≡ 2 * z
-        dbl y z h = omega arith
-
-pub pow2-pred : (e : ℤ) → (2 ÷ 1) *ℚ pow2 (predℤ e) ≡ pow2 e
-pow2-pred e = sym (pow2-suc (predℤ e)) ∙ ap pow2 (suc-pred e)
-
-half : (1 ÷ 2) *ℚ (2 ÷ 1) ≡ 1ℚ
-half = ÷-mul 1 2 2 1 (omega arith) (omega arith) ∙ ÷-eq 2 1 2 1 (omega arith) (omega arith) refl ∙ ÷-one
-
-cancel-2 : (x y h d : ℚ) → h *ℚ d ≡ 1ℚ → d *ℚ x ≡ d *ℚ y → x ≡ y
-cancel-2 x y h d e k = by-eq ℚring h k (by-eq ℚring (y -ℚ x) e (by-rep ℚring (x ∷ y ∷ h ∷ d ∷ []) (search read depth 12) (search read depth 12) tt))
-
-pub pow2-add : (a b : ℤ) → pow2 (a +ℤ b) ≡ pow2 a *ℚ pow2 b
-pow2-add a b = ℤ-step (λ a. pow2 (a +ℤ b) ≡ pow2 a *ℚ pow2 b)
-    (ap pow2 (+ℤ-idl b) ∙ sym (ap (λ z. z *ℚ pow2 b) base ∙ *ℚ-comm 1ℚ (pow2 b) ∙ *ℚ-1 (pow2 b)))
-    (λ a h. ap pow2 (sucℤ-+ℤ a b) ∙ pow2-suc (a +ℤ b) ∙ ap (λ z. (2 ÷ 1) *ℚ z) h ∙ sym (*ℚ-assoc (2 ÷ 1) (pow2 a) (pow2 b)) ∙ ap (λ z. z *ℚ pow2 b) (sym (pow2-suc a)))
-    (λ a h. cancel-2 _ _ (1 ÷ 2) (2 ÷ 1) half (ap (λ (z : ℤ). (2 ÷ 1) *ℚ pow2 z) (predℤ-+ℤ a b) ∙ pow2-pred (a +ℤ b) ∙ h ∙ ap (λ z. z *ℚ pow2 b) (sym (pow2-pred a)) ∙ *ℚ-assoc (2 ÷ 1) (pow2 (predℤ a)) (pow2 b)))
-    a
-  where
-    base : pow2 (pos 0) ≡ 1ℚ
-    base = ÷-one

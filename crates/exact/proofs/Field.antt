@@ -1,7 +1,7 @@
 -- The rationals are a field: the laws of sum and product, the ring that the solver works in (`ℚring`), the inverse; and the cone of the numbers that are at
 -- least zero. Each law is proved of fractions and carried over to their classes.
-use mathlib.Core.Path.{_≡_, refl, sym, _∙_, ap, ap₂, subst}
-use mathlib.Core.List.{List, [], _∷_}
+use mathlib.Core.Path.{_≡_, refl, sym, _∙_, ap, ap₂}
+use mathlib.Core.List.{[], _∷_}
 use mathlib.Core.Bool.{Bool, true, false}
 use mathlib.Core.HLevel.{Π-prop}
 use Prim.Native.Nat.{ℕ, zero, suc, _+_, _*_}
@@ -9,9 +9,9 @@ use native.Mathlib.Omega.{arith}
 use lib.Dec.{T}
 use lib.IntN.{ℤ, pos, negsuc, negℤ, _+ℤ_, _*ℤ_, +ℤ-idr, zero-*ℤ}
 use std.Quotient.{/-set, /-rec, /-map, /-elim-prop, /-elim-prop₂, /-elim-prop₃}
-use Rattle.exact.specs.Integer.{*ℤ-assoc}
-use Rattle.exact.specs.Ring.{CRing, by-rep, by-eq, read}
-use Rattle.exact.specs.Fraction.{Frac, dn, _~_, mulD, dn-mul, frac, addF, addF-comm, mulF, mulF-comm, negF, isPos, invN, ℤring, mul-one}
+use Rattle.ring.proofs.Integer.{*ℤ-unit, *ℤ-assoc}
+use Rattle.ring.proofs.Ring.{CRing, ℤring, by-rep, by-eq, read}
+use Rattle.exact.specs.Fraction.{Frac, dn, _~_, mulD, dn-mul, frac, addF, addF-comm, mulF, mulF-comm, negF, isPos, invN}
 use Rattle.exact.specs.Rational.{ℚ, mk, same, lift₂, _+ℚ_, _*ℚ_, -ℚ_, _-ℚ_, 0ℚ, 1ℚ, invℚ, nonneg, Nn, Nn-prop, nn-in, nn-out}
 
 pub ℚ-set : IsSet ℚ
@@ -71,7 +71,7 @@ pub +ℚ-comm : (x y : ℚ) → x +ℚ y ≡ y +ℚ x
 
 pub +ℚ-0 : (x : ℚ) → x +ℚ 0ℚ ≡ x
 unfolding 0ℚ
-+ℚ-0 = on₁ (λ x. x +ℚ 0ℚ ≡ x) (λ x. ℚ-set _ _) (λ a. simp add-mk (ap mk (frac (ap₂ _+ℤ_ (mul-one (a .0)) (zero-*ℤ (dn a)) ∙ +ℤ-idr (a .0)) (mulD-zero (a .1)))))
++ℚ-0 = on₁ (λ x. x +ℚ 0ℚ ≡ x) (λ x. ℚ-set _ _) (λ a. simp add-mk (ap mk (frac (ap₂ _+ℤ_ (*ℤ-unit (a .0)) (zero-*ℤ (dn a)) ∙ +ℤ-idr (a .0)) (mulD-zero (a .1)))))
 
 pub +ℚ-neg : (x : ℚ) → x +ℚ -ℚ x ≡ 0ℚ
 unfolding 0ℚ
@@ -86,7 +86,7 @@ pub *ℚ-comm : (x y : ℚ) → x *ℚ y ≡ y *ℚ x
 
 pub *ℚ-1 : (x : ℚ) → x *ℚ 1ℚ ≡ x
 unfolding 1ℚ
-*ℚ-1 = on₁ (λ x. x *ℚ 1ℚ ≡ x) (λ x. ℚ-set _ _) (λ a. simp mul-mk (ap mk (frac (mul-one (a .0)) (mulD-zero (a .1)))))
+*ℚ-1 = on₁ (λ x. x *ℚ 1ℚ ≡ x) (λ x. ℚ-set _ _) (λ a. simp mul-mk (ap mk (frac (*ℤ-unit (a .0)) (mulD-zero (a .1)))))
 
 pub *ℚ-dist : (x y z : ℚ) → x *ℚ (y +ℚ z) ≡ x *ℚ y +ℚ x *ℚ z
 *ℚ-dist = on₃ (λ x y z. x *ℚ (y +ℚ z) ≡ x *ℚ y +ℚ x *ℚ z) (λ x y z. ℚ-set _ _)
@@ -215,10 +215,3 @@ one-mk = refl
 pub zero-mk : mk (pos 0, 0) ≡ 0ℚ
 unfolding 0ℚ
 zero-mk = refl
-
--- two rationals whose differences both compute to a number that is at least zero
-pub by-test : (x y : ℚ) → T (nonneg (x +ℚ -ℚ y)) → T (nonneg (y +ℚ -ℚ x)) → x ≡ y
-by-test x y s t = by-eq ℚring 1ℚ (nn-zero (x +ℚ -ℚ y) (nn-in s) (subst (λ (z : ℚ). Nn z) turn (nn-in t))) (by-rep ℚring (x ∷ y ∷ []) (search read) (search read) tt)
-  where
-    turn : y +ℚ -ℚ x ≡ -ℚ (x +ℚ -ℚ y)
-    turn = by-rep ℚring (x ∷ y ∷ []) (search read) (search read) tt

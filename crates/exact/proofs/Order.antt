@@ -1,9 +1,9 @@
 -- The order of the rationals: total, and kept by sums and by factors that are at least zero. An inequality x ≤ y is proved by a certificate: `le-by c e`, with
 -- c a proof that some z is at least zero (`search cone` finds it for sums and products of what is) and e the ring identity y - x ≡ z.
-use mathlib.Core.Path.{_≡_, refl, sym, _∙_, ap, ap₂, subst}
-use mathlib.Core.List.{List, [], _∷_}
+use mathlib.Core.Path.{_≡_, sym, subst}
+use mathlib.Core.List.{[], _∷_}
 use mathlib.Core.Logic.{_⊎_, inl, inr}
-use Rattle.exact.specs.Ring.{by-rep, by-eq, read}
+use Rattle.ring.proofs.Ring.{by-rep, by-eq, read}
 use Rattle.exact.specs.Rational.{ℚ, _+ℚ_, _*ℚ_, -ℚ_, _-ℚ_, 0ℚ, 1ℚ, invℚ, lerp, ratio, Nn, _≤ℚ_, _<ℚ_, le-in, nn-of, not-le→lt, lt→not-le}
 use Rattle.exact.proofs.Field.{ℚring, Nn-dec, nn-add, nn-mul, nn-neg, nn-zero, nn-0, nn-1, not-nn-1, nn-inv, *ℚ-inv, *ℚ-comm}
 

@@ -1,8 +1,7 @@
 -- The laws of splines over the rationals, in the order of need.
--- Interval: sums, products and inverses of intervals. Boor: de Boor's rounds. On: spans and knots in order. Drawn: the curve on paper.
+-- Boor: de Boor's rounds. On: spans and knots in order. Drawn: the curve on paper.
 -- Boehm, Insert: knot insertion keeps the curve. Smooth: continuity. Group, Count, Accept: equal knots, and refusal 8. Raise, Cut: the cut.
 -- Bezier: the triangle. Hull, Visit: what a search may conclude.
-pub mod Interval
 pub mod Boor
 pub mod On
 pub mod Drawn

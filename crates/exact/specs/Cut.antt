@@ -2,10 +2,10 @@
 -- it occurs degree + 1 times, and the curve is parted at the first of these knots.
 use mathlib.Core.Path.{_≡_}
 use mathlib.Core.Bool.{Bool, true, false, _&&_}
-use Prim.Native.Nat.{ℕ, zero, suc, pred, _+_, _≤_, _<_}
-use Rattle.exact.specs.Rational.{ℚ, _-ℚ_, nonneg, _≤ℚ_, _<ℚ_}
+use Prim.Native.Nat.{ℕ, zero, suc, _+_, _≤_, _<_}
+use Rattle.exact.specs.Rational.{ℚ, _-ℚ_, nonneg, _<ℚ_}
 use Rattle.exact.specs.Spline.{Sorted}
-use Rattle.exact.specs.Insertion.{knots, ctrls, Kept}
+use Rattle.exact.specs.Insertion.{Kept}
 
 -- ---- counting knots
 
@@ -22,11 +22,6 @@ choose false x y = y
 unfoldable pub tally : (ℕ → ℚ) → ℚ → ℕ → ℕ
 tally u x zero = zero
 tally u x (suc k) = let rest = tally u x k in choose (eqℚ (u k) x) (suc rest) rest
-
--- The first knot from number i on that is x; d knots are looked at.
-unfoldable pub seek : (ℕ → ℚ) → ℚ → ℕ → ℕ → ℕ
-seek u x zero i = i
-seek u x (suc d) i = let rest = seek u x d (suc i) in choose (eqℚ (u i) x) i rest
 
 -- ---- which knots are accepted
 
@@ -78,16 +73,6 @@ pub record Raised (p n : ℕ) (u : ℕ → ℚ) (c : ℕ → ℕ → ℚ) (x : �
   pub low : (i : ℕ) → i < m → u′ i ≡ u i
   pub high : (i : ℕ) → m + s ≤ i → u′ (i + e) ≡ u i
   pub kept : Kept p n u c n′ u′ c′
-
--- The knots after e insertions of x behind the l knots that are at most x.
-unfoldable pub raised-knots : (ℕ → ℚ) → ℚ → ℕ → ℕ → ℕ → ℚ
-raised-knots u x l zero = u
-raised-knots u x l (suc e) = knots (raised-knots u x l e) x (pred (l + e))
-
--- The control values after e insertions of x behind the l knots that are at most x.
-unfoldable pub raised-ctrls : ℕ → (ℕ → ℚ) → (ℕ → ℚ) → ℚ → ℕ → ℕ → ℕ → ℚ
-raised-ctrls p u c x l zero = c
-raised-ctrls p u c x l (suc e) = ctrls p (raised-knots u x l e) (raised-ctrls p u c x l e) x (pred (l + e))
 
 -- What stands from number m on. Once x occurs p + 1 times from knot m on, the left part of the curve is its first m control values with its first m + p + 1
 -- knots, and the right part is what stands from m on, knots and control values alike.

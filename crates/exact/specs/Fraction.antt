@@ -1,36 +1,13 @@
 -- A fraction as a pair: a numerator n and a denominator d + 1, so that no denominator is zero. Many pairs are one number: `_~_` says when two are.
 -- Sum, product, negative, sign and inverse of pairs, and that each respects `_~_`: what the rationals are made from.
-use mathlib.Core.Path.{_≡_, refl, sym, _∙_, ap, ap₂, subst}
-use mathlib.Core.List.{List, [], _∷_}
+use mathlib.Core.Path.{_≡_, refl, sym, _∙_, ap, subst}
+use mathlib.Core.List.{[], _∷_}
 use mathlib.Core.Bool.{Bool, true, false}
 use Prim.Native.Nat.{ℕ, zero, suc, _+_, _*_, _<_}
 use native.Mathlib.Omega.{arith}
 use lib.Dec.{T}
-use lib.IntN.{ℤ, pos, negsuc, negℤ, natAbs, _+ℤ_, _*ℤ_, one, +ℤ-idr, +ℤ-assoc, +ℤ-comm, +ℤ-invr, *ℤ-comm, *ℤ-one}
-use Rattle.exact.specs.Integer.{*ℤ-ldist, *ℤ-assoc}
-use Rattle.exact.specs.Ring.{CRing, by-rep, by-eq, read}
-
--- ---- the integers as a ring
-pub mul-one : (m : ℤ) → m *ℤ pos 1 ≡ m
-unfolding one
-mul-one m = *ℤ-one m
-
-abbrev pub ℤring : CRing ℤ
-ℤring = record {
-  add = _+ℤ_;
-  mul = _*ℤ_;
-  neg = negℤ;
-  nil = pos 0;
-  unit = pos 1;
-  add-assoc = +ℤ-assoc;
-  add-comm = +ℤ-comm;
-  add-nil = +ℤ-idr;
-  add-neg = +ℤ-invr;
-  mul-assoc = *ℤ-assoc;
-  mul-comm = *ℤ-comm;
-  mul-unit = mul-one;
-  mul-add = *ℤ-ldist;
-}
+use lib.IntN.{ℤ, pos, negsuc, negℤ, natAbs, _+ℤ_, _*ℤ_, +ℤ-comm, *ℤ-comm}
+use Rattle.ring.proofs.Ring.{ℤring, by-rep, by-eq, read}
 
 -- ---- fractions: a numerator, and the denominator less one
 abbrev pub Frac : Type 0

@@ -1,7 +1,5 @@
--- The fractions, in the order of need: what the integers' ring still lacks, rings and their solver, fractions as pairs, the rationals.
+-- The fractions: as pairs, and as numbers, the rationals.
 -- Then the splines over them: de Boor's curve, knot insertion, the cut, Bezier spans, and what the hull of the control values needs.
-pub mod Integer
-pub mod Ring
 pub mod Fraction
 pub mod Rational
 pub mod Spline

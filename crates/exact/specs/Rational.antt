@@ -80,9 +80,6 @@ a ÷ c = mk (pos a, pred c)
 abbrev pub whole : ℕ → ℚ
 whole n = n ÷ 1
 
-unfoldable pub fromℤ : ℤ → ℚ
-fromℤ n = mk (n, 0)
-
 -- x, or -x where the sign is set
 abbrev pub signed : Bool → ℚ → ℚ
 signed true x = -ℚ x

@@ -1,3 +1,2 @@
--- Laws behind the function proofs. The other folders have the proofs of the functions.
-pub mod Kernels
-pub mod Memory
+-- Laws behind the function proofs. Each stands beside the module that it serves: the laws of src/X.rt are listed in X.antt. Lists has what is about lists alone.
+pub mod Lists

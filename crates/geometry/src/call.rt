@@ -1,5 +1,5 @@
-// What a call may lend: the checks 1 to 10 of document 01, each equal to its definition.
-use crate::nurb_curve::weighted;
+// What a call may lend: the checks 1 to 10 of document 01, each equal to its definition. 1 to 3 look at the sizes, 1 to 8 at a curve, 9 and 10 at the nodes and the work area.
+use crate::nurb_curve::weights_positive;
 ghost use mathlib.Core.Path.{_≡_};
 ghost use Prim.Native.Nat.{suc, max, _+_, _*_, _≤_, _<_};
 ghost use lib.ListN.{length};
@@ -9,8 +9,9 @@ ghost use mathlib.Core.Bool.{true, _&&_, _||_};
 ghost use Rattle.lists.specs.Lists.{all};
 ghost use Rattle.math.specs.Scalars.{zeroF};
 ghost use Rattle.model.specs.Layout.{scalarsOf, slotWords};
-ghost use Rattle.model.specs.Call.{AllDoubles, usable, ordered, rising, seldom, sound, refusal};
-ghost use Rattle.geometry.specs.Runs.{repeatsAt, seldomAt};
+ghost use Rattle.model.specs.Call.{AllDoubles, curveOf, lent, usable, ordered, rising, multiplicityOk, knotsValid, sizesRefusal, statedWords};
+ghost use Rattle.geometry.specs.Call.{CurveRefused, CallRefused};
+ghost use Rattle.geometry.specs.Multiplicity.{repeatsAt, multiplicityOkAt};
 
 // A number, and at most 2^100 in size.
 fn usable(x: f64) -> bool
@@ -98,9 +99,9 @@ fn repeats_at(knots: &[f64], i: usize, k: usize) -> bool
 }
 
 // On a domain from a to b, number i of rising knots does not begin a run that is too long.
-fn seldom_at(degree: usize, a: f64, b: f64, knots: &[f64], i: usize) -> bool
+fn multiplicity_ok(degree: usize, a: f64, b: f64, knots: &[f64], i: usize) -> bool
     requires { ⌜ (degree ≤ 7) × (i < length (now knots)) ⌝ }
-    ensures { λ r. ⌜ r ≡ seldomAt degree a b (now (knots .entry)) i ⌝ }
+    ensures { λ r. ⌜ r ≡ multiplicityOkAt degree a b (now (knots .entry)) i ⌝ }
 {
     let u = knots[i];
     if is_end(a, b, u) {
@@ -113,13 +114,15 @@ fn seldom_at(degree: usize, a: f64, b: f64, knots: &[f64], i: usize) -> bool
 }
 
 // Of rising knots, none occurs too often.
-fn all_seldom(degree: usize, a: f64, b: f64, knots: &[f64]) -> bool
+fn multiplicities_ok(degree: usize, a: f64, b: f64, knots: &[f64]) -> bool
     requires { ⌜ (degree ≤ 7) × (rising (now knots) ≡ true) ⌝ }
-    ensures { λ r. ⌜ r ≡ all (λ u. seldom degree a b (now (knots .entry)) u) (now (knots .entry)) ⌝ }
+    ensures { λ r.
+        let l = now (knots .entry) in
+        ⌜ r ≡ all (λ u. multiplicityOk degree a b l u) l ⌝ }
 {
     let mut i = 0;
     while i < knots.len() {
-        if !seldom_at(degree, a, b, knots, i) {
+        if !multiplicity_ok(degree, a, b, knots, i) {
             return false;
         }
         i += 1;
@@ -128,9 +131,9 @@ fn all_seldom(degree: usize, a: f64, b: f64, knots: &[f64]) -> bool
 }
 
 // No knot falls, the domain's start is below its end, and no value occurs too often.
-fn sound(degree: usize, count: usize, knots: &[f64]) -> bool
+fn knots_valid(degree: usize, count: usize, knots: &[f64]) -> bool
     requires { ⌜ (degree ≤ 7) × ((degree < length (now knots)) × (count < length (now knots))) ⌝ }
-    ensures { λ r. ⌜ r ≡ sound degree count (now (knots .entry)) ⌝ }
+    ensures { λ r. ⌜ r ≡ knotsValid degree count (now (knots .entry)) ⌝ }
 {
     let a = knots[degree];
     let b = knots[count];
@@ -140,17 +143,17 @@ fn sound(degree: usize, count: usize, knots: &[f64]) -> bool
     if !(a < b) {
         return false;
     }
-    all_seldom(degree, a, b, knots)
+    multiplicities_ok(degree, a, b, knots)
 }
 
-// Check 1: the dimension is 2 or 3.
+// 1: the dimension is 2 or 3.
 fn dim_fits(dim: usize) -> bool
     ensures { λ r. ⌜ r ≡ eqb dim 2 || eqb dim 3 ⌝ }
 {
     dim == 2 || dim == 3
 }
 
-// Check 3: there are from degree + 1 to 32 points.
+// 3: there are from degree + 1 to 32 points.
 fn count_fits(degree: usize, count: usize) -> bool
     requires { ⌜ degree ≤ 7 ⌝ }
     ensures { λ r. ⌜ r ≡ leb (degree + 1) count && leb count 32 ⌝ }
@@ -158,17 +161,36 @@ fn count_fits(degree: usize, count: usize) -> bool
     degree + 1 <= count && count <= 32
 }
 
-// Check 4: each slice has its length.
+// The number from 1 to 3 by which the sizes of a curve are refused, or 0.
+pub fn sizes_refusal(dim: usize, degree: usize, count: usize) -> usize
+    ensures { λ r. ⌜ r ≡ sizesRefusal dim degree count ⌝ }
+{
+    if !dim_fits(dim) {
+        return 1;
+    }
+    if degree > 7 {
+        return 2;
+    }
+    if !count_fits(degree, count) {
+        return 3;
+    }
+    0
+}
+
+// 4: each slice has its length.
 fn lengths_fit(
     dim: usize,
     degree: usize,
     count: usize,
     knots: &[f64],
     points: &[f64],
+    sides: usize,
     point_box: &[f64],
 ) -> bool
-    requires { ⌜ (dim ≤ 3) × ((degree ≤ 7) × (count ≤ 32)) ⌝ }
-    ensures { λ r. ⌜ r ≡ eqb (length (now (knots .entry))) (count + degree + 1) && eqb (length (now (points .entry))) (2 * suc dim * count) && eqb (length (now («point_box» .entry))) (2 * dim) ⌝ }
+    requires { ⌜ (dim ≤ 3) × (degree ≤ 7) × (count ≤ 32) × (sides ≤ 4) ⌝ }
+    ensures { λ r. ⌜ r ≡ (eqb (length (now (knots .entry))) (count + degree + 1)
+        && eqb (length (now (points .entry))) (2 * suc dim * count)
+        && eqb (length (now («point_box» .entry))) (2 * sides)) ⌝ }
 {
     if knots.len() != count + degree + 1 {
         return false;
@@ -176,12 +198,13 @@ fn lengths_fit(
     if points.len() != 2 * (dim + 1) * count {
         return false;
     }
-    point_box.len() == 2 * dim
+    point_box.len() == 2 * sides
 }
 
-// Check 5: every number is usable, and the resolution is not below 0.
+// 5: every number is usable, and the resolution is not below 0.
 fn numbers_usable(knots: &[f64], points: &[f64], point_box: &[f64], resolution: f64) -> bool
-    ensures equal { λ r. ⌜ r ≡ all usable (now (knots .entry)) && all usable (now (points .entry)) && all usable (now («point_box» .entry)) && usable resolution && le zeroF resolution ⌝ }
+    ensures equal { λ r. ⌜ r ≡ (all usable (now (knots .entry)) && all usable (now (points .entry))
+        && all usable (now («point_box» .entry)) && usable resolution && le zeroF resolution) ⌝ }
     ensures doubles { λ r. ⌜ (r ≡ true → AllDoubles (now (knots .entry)) × AllDoubles (now («point_box» .entry))) ⌝ }
 {
     if !all_usable(knots) {
@@ -199,15 +222,55 @@ fn numbers_usable(knots: &[f64], points: &[f64], point_box: &[f64], resolution: 
     0.0 <= resolution
 }
 
-// Check 6: no lo is above its hi.
-fn bounds_ordered(dim: usize, count: usize, points: &[f64], point_box: &[f64]) -> bool
-    requires { ⌜ (dim ≤ 3) × ((count ≤ 32) × ((2 * (suc dim * count) ≤ length (now points)) × (2 * dim ≤ length (now «point_box»)))) ⌝ }
-    ensures { λ r. ⌜ r ≡ all ordered (scalarsOf (suc dim * count) (now (points .entry))) && all ordered (scalarsOf dim (now («point_box» .entry))) ⌝ }
+// 6: no lo is above its hi.
+fn bounds_ordered(dim: usize, count: usize, points: &[f64], sides: usize, point_box: &[f64]) -> bool
+    requires { ⌜ (dim ≤ 3) × (count ≤ 32) × (2 * (suc dim * count) ≤ length (now points)) ⌝ }
+    requires { ⌜ 2 * sides ≤ length (now «point_box») ⌝ }
+    ensures { λ r. ⌜ r ≡ (all ordered (scalarsOf (suc dim * count) (now (points .entry)))
+        && all ordered (scalarsOf sides (now («point_box» .entry)))) ⌝ }
 {
     if !all_ordered(points, (dim + 1) * count) {
         return false;
     }
-    all_ordered(point_box, dim)
+    all_ordered(point_box, sides)
+}
+
+// The number from 1 to 8 by which a curve is refused, or 0. Beside the curve, `sides` intervals are lent in `point_box`, and a resolution.
+pub(crate) fn curve_refusal(
+    dim: usize,
+    degree: usize,
+    count: usize,
+    knots: &[f64],
+    points: &[f64],
+    sides: usize,
+    point_box: &[f64],
+    resolution: f64,
+) -> usize
+    requires { ⌜ sides ≤ dim + 1 ⌝ }
+    ensures { λ r.
+        let v = curveOf dim degree count (now (knots .entry)) (now (points .entry)) in
+        ⌜ CurveRefused sides (now («point_box» .entry)) resolution v r ⌝ }
+{
+    let number = sizes_refusal(dim, degree, count);
+    if number != 0 {
+        return number;
+    }
+    if !lengths_fit(dim, degree, count, knots, points, sides, point_box) {
+        return 4;
+    }
+    if !numbers_usable(knots, points, point_box, resolution) {
+        return 5;
+    }
+    if !bounds_ordered(dim, count, points, sides, point_box) {
+        return 6;
+    }
+    if !weights_positive(points, dim, count) {
+        return 7;
+    }
+    if !knots_valid(degree, count, knots) {
+        return 8;
+    }
+    0
 }
 
 // The words of a slot of the work area.
@@ -216,6 +279,19 @@ pub(crate) fn slot_words(dim: usize, degree: usize, count: usize) -> usize
     ensures { λ r. ⌜ r ≡ slotWords dim degree count ⌝ }
 {
     2 * (dim + 1) * (count + degree + 1) + 2 * (count + 2 * degree + 2)
+}
+
+// The stated words of a work area, and 0 for sizes that 1, 2, 3 or 9 refuse.
+pub fn stated_words(dim: usize, degree: usize, count: usize, nodes: usize) -> usize
+    ensures { λ r. ⌜ r ≡ statedWords dim degree count nodes ⌝ }
+{
+    if sizes_refusal(dim, degree, count) != 0 {
+        return 0;
+    }
+    if nodes > 4096 {
+        return 0;
+    }
+    (nodes + 3) * slot_words(dim, degree, count)
 }
 
 // The number from 1 to 10 by which a call is refused, or 0.
@@ -228,39 +304,29 @@ pub(crate) fn refusal(
     point_box: &[f64],
     resolution: f64,
     nodes: usize,
-    room: usize,
+    work_len: usize,
 ) -> usize
-    ensures equal { λ r. ⌜ r ≡ refusal (record { dim = dim; degree = degree; count = count; knots = now (knots .entry); points = now (points .entry); box = now («point_box» .entry); resolution = resolution; nodes = nodes; room = room }) ⌝ }
-    ensures doubles { λ r. ⌜ (r ≡ 0 → AllDoubles (now (knots .entry)) × AllDoubles (now («point_box» .entry))) ⌝ }
+    ensures { λ r.
+        let k = now (knots .entry) in let p = now (points .entry) in let b = now («point_box» .entry) in
+        ⌜ CallRefused (lent dim degree count k p b resolution nodes «work_len») r ⌝ }
 {
-    if !dim_fits(dim) {
-        return 1;
-    }
-    if degree > 7 {
-        return 2;
-    }
-    if !count_fits(degree, count) {
-        return 3;
-    }
-    if !lengths_fit(dim, degree, count, knots, points, point_box) {
-        return 4;
-    }
-    if !numbers_usable(knots, points, point_box, resolution) {
-        return 5;
-    }
-    if !bounds_ordered(dim, count, points, point_box) {
-        return 6;
-    }
-    if !weighted(points, dim, count) {
-        return 7;
-    }
-    if !sound(degree, count, knots) {
-        return 8;
+    let number = curve_refusal(
+        dim,
+        degree,
+        count,
+        knots,
+        points,
+        dim,
+        point_box,
+        resolution,
+    );
+    if number != 0 {
+        return number;
     }
     if nodes > 4096 {
         return 9;
     }
-    if (nodes + 3) * slot_words(dim, degree, count) > room {
+    if stated_words(dim, degree, count, nodes) > work_len {
         return 10;
     }
     0

@@ -106,7 +106,7 @@ pub(crate) fn unions(l: &[f64], count: usize) -> Scalar
 }
 
 // How far each abscissa lies from the first, written to the front of dx.
-pub(crate) fn runs(xi: &[f64], count: usize, dx: &mut [f64])
+pub(crate) fn from_first(xi: &[f64], count: usize, dx: &mut [f64])
     requires { ⌜ (0 < count) × ((2 * count ≤ length (now xi)) × (2 * count ≤ length (now dx))) ⌝ }
     ensures { λ _. ⌜ now (dx .exit) ≡ put (now (dx .entry)) 0 (flat (runs (scalarsOf count (now (xi .entry))))) ⌝ }
 {
@@ -425,7 +425,7 @@ pub(crate) fn stalled(a: f64, b: f64, size: f64, carried: f64, resolution: f64) 
 }
 
 // `restriction` with the length of the control polygon as the size, which is looked at last.
-pub(crate) fn cuts_down(
+pub(crate) fn restricts(
     points: &[f64],
     dim: usize,
     count: usize,
@@ -447,7 +447,7 @@ pub(crate) fn cuts_down(
 }
 
 // `stalled` with the length of the control polygon as the size, which is looked at last. What exceeds the greater of two numbers exceeds both.
-pub(crate) fn bisects(
+pub(crate) fn halves(
     points: &[f64],
     dim: usize,
     count: usize,

@@ -1,7 +1,7 @@
 // Where a spline passes through a box: what the search needs of geop-core-geometry, in modules named after its files.
 
 mod aabb;
-mod call;
+pub mod call;
 pub mod contains;
 mod fat_line;
 mod knot_insertion;

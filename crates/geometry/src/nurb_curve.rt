@@ -10,7 +10,7 @@ ghost use lib.Ieee.{lt};
 ghost use Rattle.math.specs.Scalars.{geop, zeroF, ENTIRE, valueOr, isSame};
 ghost use Rattle.model.specs.Vector.{coordinate};
 ghost use Rattle.model.specs.Layout.{scalarAt, pointAt, pointsOf};
-ghost use Rattle.model.specs.NurbCurve.{domain, inDomain, midParameter, weighted};
+ghost use Rattle.model.specs.NurbCurve.{domain, inDomain, midParameter, weightsPositive};
 
 // Interval number j of a lent list.
 pub(crate) fn scalar_at(l: &[f64], j: usize) -> Scalar
@@ -81,9 +81,9 @@ pub(crate) fn repeats(a: Scalar, b: Scalar) -> bool
 }
 
 // Every point's weight has its lo above zero.
-pub(crate) fn weighted(points: &[f64], dim: usize, count: usize) -> bool
+pub(crate) fn weights_positive(points: &[f64], dim: usize, count: usize) -> bool
     requires { ⌜ (dim ≤ 3) × (count ≤ 64) × (2 * (suc dim * count) ≤ length (now points)) ⌝ }
-    ensures { λ r. ⌜ r ≡ weighted dim (pointsOf (suc dim) count (now (points .entry))) ⌝ }
+    ensures { λ r. ⌜ r ≡ weightsPositive dim (pointsOf (suc dim) count (now (points .entry))) ⌝ }
 {
     let mut i = 0;
     while i < count {

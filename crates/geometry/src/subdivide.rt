@@ -5,7 +5,7 @@ ghost use mathlib.Core.Option.{some};
 ghost use Prim.Native.Nat.{_+_, _≤_, _<_};
 ghost use Rattle.lists.specs.Ring.{wrapped};
 ghost use Rattle.model.specs.Subdivide.{joined};
-ghost use Rattle.geometry.specs.Turns.{foundOf, handed, heard, isBad, Next};
+ghost use Rattle.geometry.specs.State.{foundOf, children, withReport, hasBadWeight, Next};
 
 // What a visit made of its piece. What it hands on stands in the slots behind the pieces that wait.
 pub enum Outcome {
@@ -29,19 +29,19 @@ pub struct Reports {
     pub all: Scalar,
 }
 
-// Where a search stands: the slot of the first piece that waits, how many wait, how many were visited, and what was reported.
+// Where a search stands: the slot of the first piece that waits, how many are pending, how many were visited, and what was reported.
 pub struct Search {
     pub head: usize,
-    pub count: usize,
+    pub pending: usize,
     pub visited: usize,
     pub found: Reports,
 }
 
-// The number of the slot at place i of a ring of cap slots, where i may have run past the end once.
-pub(crate) fn wrap(i: usize, cap: usize) -> usize
-    ensures { λ r. ⌜ r ≡ wrapped cap i ⌝ }
+// The number of the slot at place i of a ring of so many slots, where i may have run past the end once.
+pub(crate) fn wrap(i: usize, slots: usize) -> usize
+    ensures { λ r. ⌜ r ≡ wrapped slots i ⌝ }
 {
-    if i < cap { i } else { i - cap }
+    if i < slots { i } else { i - slots }
 }
 
 // One report more.
@@ -59,8 +59,8 @@ fn joined(f: Reports, t: Scalar) -> Reports
 }
 
 // How many pieces a visit hands on.
-fn handed(o: Outcome) -> usize
-    ensures { λ r. ⌜ r ≡ handed o ⌝ }
+fn children(o: Outcome) -> usize
+    ensures { λ r. ⌜ r ≡ children o ⌝ }
 {
     match o {
         Outcome::Dropped => 0,
@@ -72,8 +72,8 @@ fn handed(o: Outcome) -> usize
 }
 
 // What was reported, with what a visit reports.
-fn heard(f: Reports, o: Outcome) -> Reports
-    ensures { λ r. ⌜ foundOf r ≡ heard (foundOf f) o ⌝ }
+fn with_report(f: Reports, o: Outcome) -> Reports
+    ensures { λ r. ⌜ foundOf r ≡ withReport (foundOf f) o ⌝ }
 {
     match o {
         Outcome::Dropped => f,
@@ -85,8 +85,8 @@ fn heard(f: Reports, o: Outcome) -> Reports
 }
 
 // The visit found a weight that is not above zero.
-pub(crate) fn is_bad(o: Outcome) -> bool
-    ensures { λ r. ⌜ r ≡ isBad o ⌝ }
+pub(crate) fn has_bad_weight(o: Outcome) -> bool
+    ensures { λ r. ⌜ r ≡ hasBadWeight o ⌝ }
 {
     match o {
         Outcome::Dropped => false,
@@ -97,19 +97,20 @@ pub(crate) fn is_bad(o: Outcome) -> bool
     }
 }
 
-// Where the search stands after a visit that came out as o.
-pub(crate) fn after_visit(q: Search, o: Outcome, cap: usize) -> Search
-    requires { ⌜ (q .head < cap) × (1 ≤ q .count) × (q .count < cap) × (cap ≤ 0x1000_0000) × (q .visited ≤ 0x1000_0000) ⌝ }
-    ensures { λ r. ⌜ Next cap q o r ⌝ }
+// Where the search stands after a visit that came out as o, in a ring of so many slots.
+pub(crate) fn after_visit(q: Search, o: Outcome, slots: usize) -> Search
+    requires { ⌜ (q .head < slots) × (1 ≤ q .pending) × (q .pending < slots) × (slots ≤ 0x1000_0000) ⌝ }
+    requires { ⌜ q .visited ≤ 0x1000_0000 ⌝ }
+    ensures { λ r. ⌜ Next slots q o r ⌝ }
 {
-    let head = wrap(q.head + 1, cap);
-    let count = q.count - 1 + handed(o);
+    let head = wrap(q.head + 1, slots);
+    let pending = q.pending - 1 + children(o);
     let visited = q.visited + 1;
     let before = q.found;
-    let found = heard(before, o);
+    let found = with_report(before, o);
     Search {
         head,
-        count,
+        pending,
         visited,
         found,
     }

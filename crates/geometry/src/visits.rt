@@ -2,16 +2,16 @@
 
 use crate::aabb::aabb_could_overlap;
 use crate::fat_line::Greville;
-use crate::fat_line::bisects;
 use crate::fat_line::carried;
-use crate::fat_line::cuts_down;
 use crate::fat_line::fat_line_zeros;
+use crate::fat_line::from_first;
 use crate::fat_line::greville_abscissae;
-use crate::fat_line::runs;
+use crate::fat_line::halves;
+use crate::fat_line::restricts;
 use crate::nurb_curve::domain;
 use crate::nurb_curve::repeats;
 use crate::nurb_curve::scalar_at;
-use crate::nurb_curve::weighted;
+use crate::nurb_curve::weights_positive;
 use crate::slots::Shape;
 use crate::slots::count_at;
 use crate::slots::knots_in;
@@ -27,13 +27,13 @@ ghost use lib.ListN.{length};
 ghost use Rattle.lists.specs.Lists.{put};
 ghost use Rattle.math.specs.Scalars.{geop, mulS};
 ghost use Rattle.model.specs.Layout.{scalarAt, scalarsOf, pointsOf, flat};
-ghost use Rattle.model.specs.NurbCurve.{domain, weighted};
+ghost use Rattle.model.specs.NurbCurve.{domain, weightsPositive};
 ghost use Rattle.model.specs.FatLine.{greville, fatLineZeros};
 ghost use Rattle.model.specs.Split.{splitMid, restrict};
 ghost use Rattle.model.specs.Contains.{axis, narrowed, clip, handOn, handBoth, visit};
 ghost use Rattle.geometry.specs.Zeros.{runs};
 ghost use Rattle.geometry.specs.Slots.{pieceAt, Inside, Held, Apart, Whole, Fit};
-ghost use Rattle.geometry.specs.Turns.{Visited};
+ghost use Rattle.geometry.specs.State.{Visited};
 ghost use Rattle.geometry.specs.Plan.{planHat, planClip, planned};
 
 // Coordinate k of point i; the weight is number dim.
@@ -134,7 +134,7 @@ pub(crate) fn clip(
     ensures { λ r. ⌜ r ≡ clip geop dim (pointsOf (suc dim) count (now (points .entry))) (scalarsOf count (now (xi .entry))) (domain start end) 0 (scalarsOf dim (now («point_box» .entry))) ⌝ }
 {
     let mut dx = [0.0; 64];
-    runs(xi, count, &mut dx);
+    from_first(xi, count, &mut dx);
     let mut d = [0.0; 64];
     let mut hat = Scalar::from_f64(start).union(Scalar::from_f64(end));
     let mut k = 0;
@@ -178,10 +178,10 @@ fn plan_hat(
     ensures { λ r. ⌜ r ≡ planHat geop dim (scalarsOf dim (now («point_box» .entry))) resolution a b (pointsOf (suc dim) count (now (points .entry))) hat ⌝ }
 {
     let w = carried(points, point_box, dim, count);
-    if cuts_down(points, dim, count, a, b, hat, w) {
+    if restricts(points, dim, count, a, b, hat, w) {
         return Plan::Restrict(hat);
     }
-    if bisects(points, dim, count, a, b, w, resolution) {
+    if halves(points, dim, count, a, b, w, resolution) {
         return Plan::Halve(hat);
     }
     Plan::Report(hat)
@@ -247,12 +247,12 @@ fn plan_in(work: &[f64], base: usize, s: Shape, point_box: &[f64], resolution: f
 }
 
 // Every weight of the piece in the slot at base has its lo above zero.
-fn weighted_in(work: &[f64], base: usize, s: Shape) -> bool
+fn weights_positive_in(work: &[f64], base: usize, s: Shape) -> bool
     requires { ⌜ Held s (now work) base ⌝ }
-    ensures { λ r. ⌜ r ≡ weighted (s .dim) (pieceAt s (now (work .entry)) base .points) ⌝ }
+    ensures { λ r. ⌜ r ≡ weightsPositive (s .dim) (pieceAt s (now (work .entry)) base .points) ⌝ }
 {
     let n = count_at(work, base);
-    weighted(points_in(work, base, s), s.dim, n)
+    weights_positive(points_in(work, base, s), s.dim, n)
 }
 
 // ---- the visit
@@ -263,7 +263,7 @@ fn hand_on(work: &mut [f64], base: usize, a: usize, s: Shape, hat: Scalar) -> Ou
     ensures { λ r. ⌜ ((b : ℕ) → Visited (handOn (s .dim) (restrict geop (s .degree) (hat .lo) (hat .hi) (pieceAt s (now (work .entry)) base))) s a b (now (work .entry)) (now (work .exit)) r) ⌝ }
 {
     let cuts = restrict(work, base, a, s, hat.lo, hat.hi);
-    if !weighted_in(work, a, s) {
+    if !weights_positive_in(work, a, s) {
         return Outcome::BadWeight;
     }
     Outcome::Restricted(cuts)
@@ -278,10 +278,10 @@ fn hand_both(work: &mut [f64], base: usize, a: usize, b: usize, s: Shape, hat: S
     if !split_mid(work, base, a, b, s) {
         return Outcome::Reported(hat);
     }
-    if !weighted_in(work, a, s) {
+    if !weights_positive_in(work, a, s) {
         return Outcome::BadWeight;
     }
-    if !weighted_in(work, b, s) {
+    if !weights_positive_in(work, b, s) {
         return Outcome::BadWeight;
     }
     Outcome::Halved

@@ -98,15 +98,6 @@ module _ {A : Type 0} (p : A → Bool) where
       swap : (a b k : ℕ) → a + (b + k) ≡ b + (a + k)
       swap a b k = omega arith
 
-  pub position-le : (l : List A) → position p l ≤ length l
-  unfolding position
-  position-le [] = omega arith
-  position-le (x ∷ l) = by (p x) (position-le l)
-    where
-      by : (b : Bool) → position p l ≤ length l → cond b 0 (suc (position p l)) ≤ suc (length l)
-      by true h = omega arith
-      by false h = omega arith
-
   -- the first that passes does
   pub position-passes : (l : List A) (d : A) → position p l < length l → p (getD l (position p l) d) ≡ true
   unfolding position

@@ -3,8 +3,6 @@ pub mod Part
 pub mod Put
 pub mod Read
 pub mod Loop
-pub mod Rows
-pub mod Insert
 pub mod Fold
 pub mod Each
 pub mod Ring

@@ -1,18 +1,17 @@
 -- Loops that write a lent list from the front on: one turn, and what stands there when the loop is done.
-use mathlib.Core.Path.{_≡_, refl, sym, ap, _∙_}
+use mathlib.Core.Path.{_≡_, refl, ap}
 use mathlib.Core.Logic.{_⊎_, ⊎-elim}
-use mathlib.Core.List.{List, _++_, map}
+use mathlib.Core.List.{List}
 use Prim.Native.Nat.{ℕ, _+_, _≤_, _<_}
 use native.Mathlib.Nat.{zero-add}
 use native.Mathlib.Numerals.{add-one}
 use native.Mathlib.Omega.{arith}
-use lib.ListN.{length, take, drop, getD, set, replicate, length-replicate}
-use lib.Seq.{length-take-le}
+use lib.ListN.{length, drop, getD, set, replicate, length-replicate}
 use Rattle.lists.specs.Lists.{part, put, tab, cleared}
-use Rattle.lists.proofs.Tab.{length-tab, tab-whole, map-tab, replicate-tab, getD-tab}
+use Rattle.lists.proofs.Tab.{length-tab}
 use Rattle.lists.proofs.Part.{part-tab}
-use Rattle.lists.proofs.Put.{put-snoc, put-whole}
-use Rattle.lists.proofs.Read.{getD-put, getD-put-before, getD-put-after, drop-put}
+use Rattle.lists.proofs.Put.{put-snoc}
+use Rattle.lists.proofs.Read.{getD-put-before, getD-put-after}
 
 module _ {A : Type 0} where
   -- one turn: f n is stored behind f 0 .. f (n - 1)
@@ -20,20 +19,6 @@ module _ {A : Type 0} where
   put-tab l a n k f e h =
       let q : k ≡ a + length (tab n f) = rw length-tab e in
       rw (q, put-snoc l a (tab n f) (f n) (rw (← q) h), add-one)
-
-  -- an element that was written
-  pub getD-put-tab : (l : List A) (a n : ℕ) (f : ℕ → A) (i : ℕ) (d : A) → i < n → a ≤ length l → getD (put l a (tab n f)) (a + i) d ≡ f i
-  getD-put-tab l a n f i d h g = getD-put l a (tab n f) i d (rw length-tab h) g ∙ getD-tab n f i d h
-
-  -- ---- a fill
-
-  pub fill-done : (l : List A) (i : ℕ) (v : A) → i ≡ length l → put l 0 (tab i (λ _. v)) ≡ replicate (length l) v
-  fill-done l i v e = put-whole l (tab i (λ _. v)) (length-tab i (λ _. v) ∙ e) ∙ replicate-tab i v ∙ ap (λ (n : ℕ). replicate n v) e
-
-  -- ---- a copy from another list
-
-  pub copy-done : (s l : List A) (i : ℕ) (d : A) → length s ≡ length l → i ≡ length s → put l 0 (tab i (λ j. getD s j d)) ≡ s
-  copy-done s l i d h e = put-whole l _ (length-tab i _ ∙ e ∙ h) ∙ ap (λ (n : ℕ). tab n (λ j. getD s j d)) e ∙ tab-whole s d
 
   -- ---- a map from one place of a list to another, which is a copy where g is λ x. x
 
@@ -49,9 +34,6 @@ module _ {A : Type 0} where
       (λ (q : b ≤ a). getD-put-after l b t (a + n) d (omega arith) (omega arith)) s in
       rw e (put-tab l b n (b + n) (λ j. g (getD l (a + j) d)) refl (omega arith))
 
-  pub map-done : (g : A → A) (l : List A) (a b i w : ℕ) (d : A) → i ≡ w → a + w ≤ length l → put l b (tab i (λ j. g (getD l (a + j) d))) ≡ put l b (map g (part l a w))
-  map-done g l a b i w d e h = rw e (ap (put l b) (sym (map-tab g w (λ j. getD l (a + j) d)) ∙ ap (map g) (part-tab l a w d h)))
-
   pub copy-slot-done : (l : List A) (a b i w : ℕ) (d : A) → i ≡ w → a + w ≤ length l → put l b (tab i (λ j. getD l (a + j) d)) ≡ put l b (part l a w)
   copy-slot-done l a b i w d e h = rw e (ap (put l b) (part-tab l a w d h))
 
@@ -65,12 +47,3 @@ module _ {A : Type 0} where
   pub cleared-same : (l k : List A) (n : ℕ) (v : A) → drop n l ≡ drop n k → cleared l n v ≡ cleared k n v
   unfolding cleared
   cleared-same l k n v e = rw e
-
-  -- nor does what was written there
-  pub cleared-after : (l : List A) (a : ℕ) (vs : List A) (n : ℕ) (v : A) → a + length vs ≤ n → a + length vs ≤ length l → cleared (put l a vs) n v ≡ cleared l n v
-  cleared-after l a vs n v h g = cleared-same (put l a vs) l n v (drop-put l a vs n h g)
-
-  -- the front was lent and came back as zs, filled with v
-  pub cleared-back : (l zs : List A) (n : ℕ) (v : A) → n ≤ length l → zs ≡ replicate (length (take n l)) v → zs ++ drop n l ≡ cleared l n v
-  unfolding cleared
-  cleared-back l zs n v h e = rw (e, length-take-le n l h)

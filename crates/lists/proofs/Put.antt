@@ -8,7 +8,7 @@ use native.Mathlib.Numerals.{add-one}
 use native.Mathlib.Omega.{arith}
 use lib.ListN.{length, take, drop, set, length-append, length-take, length-drop, take-append-drop}
 use lib.Seq.{length-take-le, take-at, drop-at, drop-drop, drop-length, take-append-le, take-append-add, drop-append-le, drop-append-add, set-split}
-use borrow.Rule.Slice.PartMut.{putMid, put-same}
+use borrow.Rule.Slice.PartMut.{put-same}
 use Rattle.lists.specs.Lists.{part, put}
 use Rattle.lists.proofs.Part.{length-part}
 
@@ -37,19 +37,9 @@ module _ {A : Type 0} where
   unfolding put
   put-one l a v h = rw (set-split l a v h, add-one)
 
-  -- a part that was lent and came back as ys
-  pub back-put : (l : List A) (a k : ℕ) (ys : List A) → length ys ≡ k → putMid a k l ys ≡ put l a ys
-  unfolding put
-  back-put l a k ys e = rw (← e, drop-drop)
-
-  -- a part from the front that was lent and came back as ys
-  pub back-front : (l : List A) (k : ℕ) (ys : List A) → length ys ≡ k → ys ++ drop k l ≡ put l 0 ys
-  unfolding put
-  back-front l k ys e = rw (e, zero-add)
-
   -- ---- a write to one of two lists that are joined
 
-  pub put-left : (p r : List A) (a : ℕ) (vs : List A) → a + length vs ≤ length p → put (p ++ r) a vs ≡ put p a vs ++ r
+  put-left : (p r : List A) (a : ℕ) (vs : List A) → a + length vs ≤ length p → put (p ++ r) a vs ≡ put p a vs ++ r
   unfolding put
   put-left p r a vs h =
       rw (take-append-le a p r (omega arith), drop-append-le (a + length vs) p r h, append-assoc (take a p) (vs ++ drop (a + length vs) p) r, append-assoc vs (drop (a + length vs) p) r)
@@ -82,11 +72,6 @@ module _ {A : Type 0} where
       put-is : (l : List A) (a : ℕ) (vs : List A) → put l a vs ≡ take a l ++ (vs ++ drop (a + length vs) l)
       put-is l a vs = unfold put in refl
 
-  -- at the same place: the later one stays
-  pub put-again : (l : List A) (a : ℕ) (xs ys : List A) → a ≤ length l → length ys ≡ length xs → put (put l a xs) a ys ≡ put l a ys
-  put-again l a xs ys g e =
-      ap (λ (k : ℕ). put (put l a xs) k ys) (sym (add-zero a)) ∙ put-inside l a xs 0 ys g (omega arith) ∙ ap (put l a) (put-whole xs ys e)
-
   put-later : (l : List A) (a : ℕ) (xs : List A) (b : ℕ) (ys : List A) → a + length xs ≤ length l → a + length xs ≤ b → put (put l a xs) b ys ≡ put (put l b ys) a xs
   put-later l a xs b ys g h =
       let n = a + length xs in
@@ -114,10 +99,3 @@ module _ {A : Type 0} where
       ∙ sym (put-later l a (v ∷ []) (suc a) vs (omega arith) (omega arith))
       ∙ ap (λ (k : ℕ). put (put l a (v ∷ [])) k vs) (sym (add-one a))
       ∙ put-put l a (v ∷ []) vs (omega arith)
-
-  -- a store inside what was written
-  pub set-put : (l : List A) (a : ℕ) (vs : List A) (i : ℕ) (v : A) → a + length vs ≤ length l → i < length vs → set (put l a vs) (a + i) v ≡ put l a (set vs i v)
-  set-put l a vs i v g h =
-      put-one (put l a vs) (a + i) v (rw (length-put l a vs g) (omega arith))
-      ∙ put-inside l a vs i (v ∷ []) (omega arith) (omega arith)
-      ∙ ap (put l a) (sym (put-one vs i v h))

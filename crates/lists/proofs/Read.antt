@@ -5,10 +5,10 @@ use mathlib.Core.List.{List, _++_, append-assoc}
 use Prim.Native.Nat.{ℕ, _+_, _-_, _≤_, _<_}
 use native.Mathlib.Omega.{arith}
 use lib.ListN.{length, take, drop, getD, length-append, length-take, length-drop, take-append-drop, List·getD-append}
-use lib.Seq.{length-take-le, take-at, drop-at, drop-drop, drop-append-le, take-append-le, take-take, getD-take, getD-drop}
+use lib.Seq.{length-take-le, drop-at, drop-drop, drop-append-le, take-append-le, take-take, getD-take, getD-drop}
 use Rattle.lists.specs.Lists.{part, put}
 use Rattle.lists.proofs.Part.{part-take}
-use Rattle.lists.proofs.Put.{length-put, put-left, put-right}
+use Rattle.lists.proofs.Put.{put-right}
 
 module _ {A : Type 0} where
   -- what was written, with what stands behind it
@@ -22,15 +22,6 @@ module _ {A : Type 0} where
   pub take-put : (l : List A) (a : ℕ) (vs : List A) (n : ℕ) → n ≤ a → a ≤ length l → take n (put l a vs) ≡ take n l
   unfolding put
   take-put l a vs n h g = rw (take-append-le n (take a l) (vs ++ drop (a + length vs) l) (simp length-take (omega arith)), take-take n a l h)
-
-  -- the write lies in the front
-  pub take-put-in : (l : List A) (a : ℕ) (vs : List A) (n : ℕ) → a + length vs ≤ n → n ≤ length l → take n (put l a vs) ≡ put (take n l) a vs
-  take-put-in l a vs n h g =
-      let e : length (take n l) ≡ n = length-take-le n l g in
-      let f : a + length vs ≤ length (take n l) = rw e h in
-      ap (λ (k : List A). take n (put k a vs)) (sym (take-append-drop n l))
-      ∙ ap (take n) (put-left (take n l) (drop n l) a vs f)
-      ∙ take-at (put (take n l) a vs) (drop n l) n (length-put (take n l) a vs f ∙ e)
 
   -- the write lies in front of the back
   pub drop-put : (l : List A) (a : ℕ) (vs : List A) (n : ℕ) → a + length vs ≤ n → a + length vs ≤ length l → drop n (put l a vs) ≡ drop n l
@@ -52,19 +43,11 @@ module _ {A : Type 0} where
 
   -- ---- parts
 
-  -- what was written is read back
-  pub part-put : (l : List A) (a : ℕ) (vs : List A) (w : ℕ) → length vs ≡ w → a ≤ length l → part (put l a vs) a w ≡ vs
-  part-put l a vs w e h = rw (drop-put-at l a vs h, take-at vs (drop (a + length vs) l) w e)
-
   -- a part of what was written
   pub part-put-in : (l : List A) (a : ℕ) (vs : List A) (i w : ℕ) → i + w ≤ length vs → a ≤ length l → part (put l a vs) (a + i) w ≡ part vs i w
   part-put-in l a vs i w h g =
       let r : List A = drop (a + length vs) l in
       rw (← drop-drop i a (put l a vs), drop-put-at l a vs g, drop-append-le i vs r (omega arith), take-append-le w (drop i vs) r (simp length-drop (omega arith)))
-
-  -- the write lies inside the part
-  pub part-put-around : (l : List A) (a w i : ℕ) (vs : List A) → i + length vs ≤ w → a + w ≤ length l → part (put l (a + i) vs) a w ≡ put (part l a w) i vs
-  part-put-around l a w i vs h g = rw (drop-put-in l a i vs (omega arith), take-put-in (drop a l) i vs w h (simp length-drop (omega arith)))
 
   -- the write lies beside the part
   pub part-put-other : (l : List A) (a : ℕ) (vs : List A) (b w : ℕ) → a + length vs ≤ length l → (b + w ≤ a) ⊎ (a + length vs ≤ b) → part (put l a vs) b w ≡ part l b w
@@ -86,7 +69,3 @@ module _ {A : Type 0} where
   getD-put-after l a vs k d h g =
       let e : k ≡ k + 0 = omega arith in
       rw (e, ← getD-drop k (put l a vs) 0 d, ← getD-drop k l 0 d, drop-put l a vs k h g)
-
-  pub getD-put-other : (l : List A) (a : ℕ) (vs : List A) (k : ℕ) (d : A) → a + length vs ≤ length l → (k < a) ⊎ (a + length vs ≤ k) → getD (put l a vs) k d ≡ getD l k d
-  getD-put-other l a vs k d g s =
-      ⊎-elim (λ (h : k < a). getD-put-before l a vs k d h (omega arith)) (λ (h : a + length vs ≤ k). getD-put-after l a vs k d h g) s

@@ -1,17 +1,12 @@
--- Laws of a queue in a ring of slots: how the slots are counted, that they do not overlap, and what taking from the queue, adding to it and writing elsewhere do.
-use mathlib.Core.Path.{_≡_, refl, sym, ap, _∙_}
+-- Laws of a ring of slots: how its slots are counted, and that they do not overlap.
+use mathlib.Core.Path.{_≡_, sym, _∙_}
 use mathlib.Core.Logic.{_⊎_, inl, inr, ⊎-elim}
-use mathlib.Core.List.{List, [], _∷_, _++_}
 use Prim.Native.Nat.{ℕ, suc, _+_, _-_, _*_, _≤_, _<_}
 use native.Mathlib.Nat.{add-zero, suc-mul, mul-le-mul-right}
 use native.Mathlib.Decide.{decLt}
 use native.Mathlib.Omega.{arith}
-use lib.ListN.{length, getD}
 use borrow.Author.Tests.{lt-ltb, le-ltb}
-use Rattle.lists.specs.Lists.{part, put}
-use Rattle.lists.specs.Ring.{wrapped, queue}
-use Rattle.lists.proofs.Tab.{length-tab, tab-ext, tab-cons, getD-tab}
-use Rattle.lists.proofs.Read.{part-put, part-put-other}
+use Rattle.lists.specs.Ring.{wrapped}
 
 -- ---- the slots
 
@@ -78,68 +73,3 @@ wrapped-next cap h j a b =
     let r : h + suc j - cap ≡ j = omega arith in
     rw (e, wrapped-lt cap j b, wrapped-ge cap (h + suc j) q, r))
     (wrap-cases cap (h + 1))
-
--- ---- the queue
-
-module _ {A : Type 0} where
-  pub length-queue : (l : List A) (w cap h n : ℕ) → length (queue l w cap h n) ≡ n
-  unfolding queue
-  length-queue l w cap h n = length-tab n _
-
-  pub getD-queue : (l : List A) (w cap h n j : ℕ) (d : List A) → j < n → getD (queue l w cap h n) j d ≡ part l (wrapped cap (h + j) * w) w
-  unfolding queue
-  getD-queue l w cap h n j d a = getD-tab n _ j d a
-
-  pub queue-none : (l : List A) (w cap h : ℕ) → queue l w cap h 0 ≡ []
-  unfolding queue
-  queue-none l w cap h = refl
-
-  -- the first is taken off
-  pub queue-pop : (l : List A) (w cap h n : ℕ) → h < cap → n ≤ cap → queue l w cap h (suc n) ≡ part l (h * w) w ∷ queue l w cap (wrapped cap (h + 1)) n
-  unfolding queue
-  queue-pop l w cap h n a b =
-      rw (tab-cons n (λ j. part l (wrapped cap (h + j) * w) w), wrapped-head cap h a)
-      (ap (λ (r : List (List A)). part l (h * w) w ∷ r) (tab-ext n _ _ (λ j q. ap (λ (k : ℕ). part l (k * w) w) (sym (wrapped-next cap h j a (omega arith))))))
-
-  pub queue-one : (l : List A) (w cap h : ℕ) → h < cap → queue l w cap h 1 ≡ part l (h * w) w ∷ []
-  queue-one l w cap h a = queue-pop l w cap h 0 a (omega arith) ∙ ap (λ (r : List (List A)). part l (h * w) w ∷ r) (queue-none l w cap (wrapped cap (h + 1)))
-
-  -- the last apart from the others
-  pub queue-snoc : (l : List A) (w cap h n : ℕ) → queue l w cap h (suc n) ≡ queue l w cap h n ++ (part l (wrapped cap (h + n) * w) w ∷ [])
-  unfolding queue
-  queue-snoc l w cap h n = refl
-
-  -- lists that hold the same in these slots hold the same queue
-  pub queue-ext : (l k : List A) (w cap h n : ℕ) → ((j : ℕ) → j < n → part l (wrapped cap (h + j) * w) w ≡ part k (wrapped cap (h + j) * w) w) → queue l w cap h n ≡ queue k w cap h n
-  unfolding queue
-  queue-ext l k w cap h n e = tab-ext n _ _ e
-
-  -- a write in slot t, which the queue does not use
-  pub queue-put-slot : (l : List A) (w cap h n t i : ℕ) (vs : List A) → t < cap → cap * w ≤ length l → i + length vs ≤ w
-      → ((j : ℕ) → j < n → wrapped cap (h + j) ≡ t → ⊥) → queue (put l (t * w + i) vs) w cap h n ≡ queue l w cap h n
-  queue-put-slot l w cap h n t i vs a b c f =
-      let e : t * w + w ≤ length l = slot-in t cap w (length l) a b in
-      queue-ext (put l (t * w + i) vs) l w cap h n (λ j q.
-      let s = wrapped cap (h + j) in
-      part-put-other l (t * w + i) vs (s * w) w (omega arith)
-      (⊎-elim (λ (g : s * w + w ≤ t * w). inl (omega arith)) (λ (g : t * w + w ≤ s * w). inr (omega arith)) (apart t s w (λ g. f j q (sym g)))))
-
-  -- a write at a free place, behind the queue's n
-  pub queue-put-free : (l : List A) (w cap h n m i : ℕ) (vs : List A) → h < cap → n ≤ m → m < cap → cap * w ≤ length l → i + length vs ≤ w
-      → queue (put l (wrapped cap (h + m) * w + i) vs) w cap h n ≡ queue l w cap h n
-  queue-put-free l w cap h n m i vs a b c e f =
-      queue-put-slot l w cap h n (wrapped cap (h + m)) i vs (wrapped-in cap h m a (omega arith)) e f (λ j q. wrapped-ne cap h j m a (omega arith) c)
-
-  -- a write behind the ring
-  pub queue-put-behind : (l : List A) (w cap h n a : ℕ) (vs : List A) → h < cap → n ≤ cap → cap * w ≤ a → a + length vs ≤ length l → queue (put l a vs) w cap h n ≡ queue l w cap h n
-  queue-put-behind l w cap h n a vs b c e f =
-      queue-ext (put l a vs) l w cap h n (λ j q. part-put-other l a vs (wrapped cap (h + j) * w) w f (inl (slot-in (wrapped cap (h + j)) cap w a (wrapped-in cap h j b (omega arith)) e)))
-
-  -- a slot written whole behind the last is one more
-  pub queue-push : (l : List A) (w cap h n : ℕ) (p : List A) → h < cap → n < cap → cap * w ≤ length l → length p ≡ w
-      → queue (put l (wrapped cap (h + n) * w) p) w cap h (suc n) ≡ queue l w cap h n ++ (p ∷ [])
-  queue-push l w cap h n p a b c e =
-      let t = wrapped cap (h + n) in
-      let f : t * w + w ≤ length l = slot-in t cap w (length l) (wrapped-in cap h n a (omega arith)) c in
-      let g : queue (put l (t * w) p) w cap h n ≡ queue l w cap h n = rw (add-zero (t * w)) at (queue-put-free l w cap h n n 0 p a (omega arith) b c (omega arith)) in
-      queue-snoc (put l (t * w) p) w cap h n ∙ (λ k. g k ++ (part-put l (t * w) p w e (omega arith) k ∷ []))

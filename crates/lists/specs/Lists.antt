@@ -18,15 +18,6 @@ module _ {A : Type 0} where
   tab zero f = []
   tab (suc n) f = tab n f ++ (f n ∷ [])
 
-  -- The lists f 0, f 1, .. f (n - 1), one behind the other.
-  abbrev pub rows : ℕ → (ℕ → List A) → List A
-  rows zero f = []
-  rows (suc n) f = rows n f ++ f n
-
-  -- The first n elements of l with v put in at index `at`, those behind it moved up by one; the element at index n is lost.
-  unfoldable pub inserted : List A → ℕ → ℕ → A → List A
-  inserted l n at v = take at l ++ (v ∷ (drop at (take n l) ++ drop (suc n) l))
-
   -- The list l with each of its first n elements replaced by v, for an n of at most its length.
   unfoldable pub cleared : List A → ℕ → A → List A
   cleared l n v = replicate n v ++ drop n l

@@ -8,7 +8,6 @@ use mathlib.Core.Bool.{Bool, true, false, cond}
 use mathlib.Core.List.{List, [], _∷_, _++_}
 use mathlib.Core.Option.{Option, none, some}
 use lib.ListN.{length, length-append}
-use borrow.Author.Tests.{lt-ltb, le-ltb}
 use Rattle.math.specs.declared.scalars.Scalar.{Scalar}
 use Rattle.math.specs.Scalars.{Arithmetic}
 use Rattle.model.specs.NurbCurve.{Piece}
@@ -17,47 +16,25 @@ use Rattle.model.specs.declared.contains.Found.the-variants.{Nothing, En
 use Rattle.model.specs.Subdivide.{Question, Visit, dropped, reported, restricted, halved, badWeight, State, Step, going, over, joined, complete, after, ended, step, advance, answered}
 use Rattle.model.specs.Aabb.{couldMeet}
 use Rattle.model.specs.Contains.{visit, begun, couldContain}
-use Rattle.model.specs.Call.{Call, question, curve, refusal, searchedBy, searched}
-use Rattle.model.specs.Paper.{paper}
-use Rattle.model.proofs.Pause.{ends, once, fails, waits}
+use Rattle.model.specs.Call.{Call, question, asPiece, refusal, searchedBy, searched}
+use Rattle.model.proofs.Pause.{goes, spends, ends, once, fails, waits}
 
 -- What the counts of an answer are held to.
-abbrev pub Counted : ℕ → Found → Type 0
-Counted nodes (Nothing v) = v ≤ nodes
-Counted nodes (Enclosed lo hi v) = v ≤ nodes
-Counted nodes (Spent n v) = (v ≡ nodes) × (1 ≤ n) × (n ≤ nodes + 1)
-Counted nodes (Refused n v) = v ≤ nodes
-
-pub visited-within : (nodes : ℕ) (r : Found) → Counted nodes r → paper r .visited ≤ nodes
-visited-within nodes (Nothing v) h = h
-visited-within nodes (Enclosed lo hi v) h = h
-visited-within nodes (Spent n v) h = omega (arith, h .0)
-visited-within nodes (Refused n v) h = h
-
-pub pending-within : (nodes : ℕ) (r : Found) → Counted nodes r → paper r .pending ≤ nodes + 1
-pending-within nodes (Nothing v) h = omega arith
-pending-within nodes (Enclosed lo hi v) h = omega arith
-pending-within nodes (Spent n v) h = h .2
-pending-within nodes (Refused n v) h = omega arith
+abbrev pub WithinNodes : ℕ → Found → Type 0
+WithinNodes nodes (Nothing v) = v ≤ nodes
+WithinNodes nodes (Enclosed lo hi v) = v ≤ nodes
+WithinNodes nodes (Spent n v) = (v ≡ nodes) × (1 ≤ n) × (n ≤ nodes + 1)
+WithinNodes nodes (Refused n v) = v ≤ nodes
 
 -- Where a search stands that was to take visits up to number m: it is over, or it took just these, and has one to take.
-abbrev pub Stands : ℕ → ℕ → Step → Type 0
-Stands nodes m (going s) = (s .visited ≡ m) × (m < nodes) × (length (s .queue) ≤ m + 1)
-Stands nodes m (over r) = Counted nodes r
+abbrev pub AfterVisits : ℕ → ℕ → Step → Type 0
+AfterVisits nodes m (going s) = (s .visited ≡ m) × (m < nodes) × (length (s .queue) ≤ m + 1)
+AfterVisits nodes m (over r) = WithinNodes nodes r
 
-complete-counted : (nodes v : ℕ) (f : Option Scalar) → v ≤ nodes → Counted nodes (complete f v)
+complete-counted : (nodes v : ℕ) (f : Option Scalar) → v ≤ nodes → WithinNodes nodes (complete f v)
 unfolding complete
 complete-counted nodes v none h = h
 complete-counted nodes v (some t) h = h
-
--- a state whose first piece has a visit left, and one whose first piece has none
-goes : (nodes : ℕ) (c : Piece) (cs : List Piece) (v : ℕ) (f : Option Scalar) → v < nodes → ended nodes (c ∷ cs) v f ≡ none
-unfolding ended
-goes nodes c cs v f h = rw (lt-ltb v nodes h)
-
-spends : (nodes : ℕ) (c : Piece) (cs : List Piece) (v : ℕ) (f : Option Scalar) → nodes ≤ v → ended nodes (c ∷ cs) v f ≡ some (Spent (suc (length cs)) v)
-unfolding ended
-spends nodes c cs v f h = rw (le-ltb v nodes h)
 
 module _ (see : Piece → Visit) (nodes : ℕ) where
   abbrev at : List Piece → ℕ → Option Scalar → State
@@ -65,8 +42,8 @@ module _ (see : Piece → Visit) (nodes : ℕ) where
 
   -- the visit of a piece that came out as w, then k visits more, which stand as they should whatever that one handed on
   turn : (k : ℕ) (c : Piece) (cs : List Piece) (v m : ℕ) (f : Option Scalar) (w : Visit) → see c ≡ w → v < nodes → length (c ∷ cs) ≤ v + 1
-      → ((q : List Piece) (g : Option Scalar) → length q ≤ suc v + 1 → Stands nodes m (advance see nodes k (at q (suc v) g)))
-      → Stands nodes m (advance see nodes (suc k) (at (c ∷ cs) v f))
+      → ((q : List Piece) (g : Option Scalar) → length q ≤ suc v + 1 → AfterVisits nodes m (advance see nodes k (at q (suc v) g)))
+      → AfterVisits nodes m (advance see nodes (suc k) (at (c ∷ cs) v f))
   unfolding step after
   turn k c cs v m f dropped e h g ih = rw (once see nodes k (at (c ∷ cs) v f) (at cs (suc v) f) (goes nodes c cs v f h) (rw e refl)) (ih cs f (omega arith))
   turn k c cs v m f (reported t) e h g ih =
@@ -81,42 +58,42 @@ module _ (see : Piece → Visit) (nodes : ℕ) where
 
   -- a state that takes no visit because the search is over
   halts : (k : ℕ) (c : Piece) (cs : List Piece) (v m : ℕ) (f : Option Scalar) → nodes ≤ v → v ≤ nodes → length (c ∷ cs) ≤ v + 1
-      → Stands nodes m (advance see nodes k (at (c ∷ cs) v f))
+      → AfterVisits nodes m (advance see nodes k (at (c ∷ cs) v f))
   halts k c cs v m f n h g =
       rw (ends see nodes k (at (c ∷ cs) v f) (Spent (suc (length cs)) v) (spends nodes c cs v f n)) (omega arith, omega arith, omega arith)
 
-  empties : (k v m : ℕ) (f : Option Scalar) → v ≤ nodes → Stands nodes m (advance see nodes k (at [] v f))
+  empties : (k v m : ℕ) (f : Option Scalar) → v ≤ nodes → AfterVisits nodes m (advance see nodes k (at [] v f))
   empties k v m f h = rw (ends see nodes k (at [] v f) (complete f v) (unfold ended in refl)) (complete-counted nodes v f h)
 
   -- k visits from a state after v visits in which at most v + 1 pieces wait
-  pub stands : (k : ℕ) (q : List Piece) (v m : ℕ) (f : Option Scalar) → m ≡ v + k → v ≤ nodes → length q ≤ v + 1 → Stands nodes m (advance see nodes k (at q v f))
+  pub stands : (k : ℕ) (q : List Piece) (v m : ℕ) (f : Option Scalar) → m ≡ v + k → v ≤ nodes → length q ≤ v + 1 → AfterVisits nodes m (advance see nodes k (at q v f))
   stands zero q v m f e h g = by q g
     where
-      by : (q : List Piece) → length q ≤ v + 1 → Stands nodes m (advance see nodes zero (at q v f))
+      by : (q : List Piece) → length q ≤ v + 1 → AfterVisits nodes m (advance see nodes zero (at q v f))
       by [] i = empties zero v m f h
       by (c ∷ cs) i = go (decLt v nodes)
         where
-          go : Dec (v < nodes) → Stands nodes m (advance see nodes zero (at (c ∷ cs) v f))
+          go : Dec (v < nodes) → AfterVisits nodes m (advance see nodes zero (at (c ∷ cs) v f))
           go (yes l) = rw (waits see nodes (at (c ∷ cs) v f) (goes nodes c cs v f l)) (omega arith, omega arith, omega arith)
           go (no n) = halts zero c cs v m f (omega arith) h i
   stands (suc k) q v m f e h g = by (λ l p u i. stands k p (suc v) m u (omega arith) l i) q g
     where
-      by : (v < nodes → (p : List Piece) (u : Option Scalar) → length p ≤ suc v + 1 → Stands nodes m (advance see nodes k (at p (suc v) u)))
-          → (q : List Piece) → length q ≤ v + 1 → Stands nodes m (advance see nodes (suc k) (at q v f))
+      by : (v < nodes → (p : List Piece) (u : Option Scalar) → length p ≤ suc v + 1 → AfterVisits nodes m (advance see nodes k (at p (suc v) u)))
+          → (q : List Piece) → length q ≤ v + 1 → AfterVisits nodes m (advance see nodes (suc k) (at q v f))
       by ih [] i = empties (suc k) v m f h
       by ih (c ∷ cs) i = go (decLt v nodes)
         where
-          go : Dec (v < nodes) → Stands nodes m (advance see nodes (suc k) (at (c ∷ cs) v f))
+          go : Dec (v < nodes) → AfterVisits nodes m (advance see nodes (suc k) (at (c ∷ cs) v f))
           go (yes l) = turn k c cs v m f (see c) refl l i (ih l)
           go (no n) = halts (suc k) c cs v m f (omega arith) h i
 
   -- all visits in one go: no state is left to go on from
-  all-over : (t : Step) → Stands nodes nodes t → Counted nodes (answered t)
+  all-over : (t : Step) → AfterVisits nodes nodes t → WithinNodes nodes (answered t)
   unfolding answered
   all-over (going s) h = absurd (omega (arith, h .1))
   all-over (over r) h = h
 
-  pub answered-counted : (c : Piece) → Counted nodes (answered (advance see nodes nodes (begun c)))
+  pub answered-counted : (c : Piece) → WithinNodes nodes (answered (advance see nodes nodes (begun c)))
   answered-counted c = all-over (advance see nodes nodes (begun c)) (stands nodes (c ∷ []) 0 nodes none (omega arith) (omega arith) (omega arith))
 
 -- what holds of both arms holds of the one that is taken
@@ -125,16 +102,16 @@ either P true x y h g = h
 either P false x y h g = g
 
 -- The search of a curve.
-pub couldContain-counted : (ar : Arithmetic) (q : Question) (c : Piece) → Counted (q .nodes) (couldContain ar q c)
+pub couldContain-counted : (ar : Arithmetic) (q : Question) (c : Piece) → WithinNodes (q .nodes) (couldContain ar q c)
 unfolding couldContain
 couldContain-counted ar q c =
-    either (Counted (q .nodes)) (couldMeet ar (q .dim) (q .degree) (c .points) (q .box)) _ _ (answered-counted (visit ar q) (q .nodes) c) (omega arith)
+    either (WithinNodes (q .nodes)) (couldMeet ar (q .dim) (q .degree) (c .points) (q .box)) _ _ (answered-counted (visit ar q) (q .nodes) c) (omega arith)
 
 -- A call, refused or not.
-pub searched-counted : (ar : Arithmetic) (c : Call) → Counted (c .nodes) (searched ar c)
+pub searched-counted : (ar : Arithmetic) (c : Call) → WithinNodes (c .nodes) (searched ar c)
 unfolding searched searchedBy
 searched-counted ar c = by (refusal c)
   where
-    by : (n : ℕ) → Counted (c .nodes) (searchedBy ar c n)
-    by zero = couldContain-counted ar (question c) (curve c)
+    by : (n : ℕ) → WithinNodes (c .nodes) (searchedBy ar c n)
+    by zero = couldContain-counted ar (question c) (asPiece (c .curve))
     by (suc n) = omega arith

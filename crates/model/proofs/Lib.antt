@@ -10,5 +10,6 @@ pub mod Every
 pub mod Sound
 pub mod Proper
 pub mod Enclosure
+pub mod Weights
 pub mod Debug
 pub mod Witness

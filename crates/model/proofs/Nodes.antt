@@ -9,7 +9,6 @@ use mathlib.Core.List.{List, [], _∷_}
 use mathlib.Core.Option.{Option, none, some}
 use lib.ListN.{length}
 use lib.Dec.{le→leb}
-use borrow.Author.Tests.{lt-ltb, le-ltb}
 use Rattle.math.specs.declared.scalars.Scalar.{Scalar}
 use Rattle.math.specs.Scalars.{Arithmetic}
 use Rattle.model.specs.NurbCurve.{Piece}
@@ -17,24 +16,15 @@ use Rattle.model.specs.Aabb.{aabb, couldOverlap, couldMeet}
 use Rattle.model.specs.FatLine.{greville}
 use Rattle.model.specs.Subdivide.{Question, Visit, dropped, State, Step, going, over, complete, ended, step, advance, resumed, answered}
 use Rattle.model.specs.Contains.{shrink, clipped, visit, begun, couldContain}
-use Rattle.model.specs.Call.{Call, boxOf, question, curve, nodesFit, areaFits, stated, checks, refusal, searchedBy, searched, areaBy, areaAfter, dimFits, degreeFits, countFits, lengthsFit, numbersUsable, boundsOrdered, weightsAbove, knotsSound}
+use Rattle.model.specs.Call.{Call, boxOf, question, asPiece, nodesFit, areaFits, stated, refusal, searchedBy, searched, areaBy, areaAfter}
 use Rattle.model.specs.Enclosure.{Accepted, Completes}
 use Rattle.model.specs.Nodes.{NotSpent, NodesLeft, SameSteps, withNodes, Larger, MoreNodes}
 use Rattle.model.specs.declared.contains.Found.{Found}
 use Rattle.model.specs.declared.contains.Found.the-variants.{Nothing, Enclosed, Spent, Refused}
 use Rattle.model.specs.declared.fat_line.Hat.{Hat}
 use Rattle.model.specs.declared.fat_line.Hat.the-variants.{Over, Missing}
-use Rattle.model.proofs.Pause.{ends, once, fails, waits, paused}
-use Rattle.model.proofs.Checks.{passed, none-failed}
-
--- ---- before a visit: one is left, or none
-goes : (nodes : ℕ) (c : Piece) (cs : List Piece) (v : ℕ) (f : Option Scalar) → v < nodes → ended nodes (c ∷ cs) v f ≡ none
-unfolding ended
-goes nodes c cs v f h = rw (lt-ltb v nodes h)
-
-spends : (nodes : ℕ) (c : Piece) (cs : List Piece) (v : ℕ) (f : Option Scalar) → nodes ≤ v → ended nodes (c ∷ cs) v f ≡ some (Spent (suc (length cs)) v)
-unfolding ended
-spends nodes c cs v f h = rw (le-ltb v nodes h)
+use Rattle.model.proofs.Pause.{goes, spends, ends, once, fails, waits, paused}
+use Rattle.model.proofs.Checks.{accepted-by, curve-accepted}
 
 module _ (see : Piece → Visit) (n m : ℕ) (h : n ≤ m) where
   abbrev at : List Piece → ℕ → Option Scalar → State
@@ -95,12 +85,12 @@ pub same-steps : (see : Piece → Visit) → SameSteps see
 same-steps see = record { same = λ n m k s h left. steps see n m h k s left }
 
 -- ---- a visit does not look at the nodes
-module _ (ar : Arithmetic) (c : Call) (m room : ℕ) where
+module _ (ar : Arithmetic) (c : Call) (m words : ℕ) where
   abbrev q : Question
   q = question c
 
   abbrev q′ : Question
-  q′ = question (withNodes c m room)
+  q′ = question (withNodes c m words)
 
   shrink-nodes : (s : Piece) (h : Hat) → shrink ar q′ s h ≡ shrink ar q s h
   unfolding shrink
@@ -114,27 +104,24 @@ module _ (ar : Arithmetic) (c : Call) (m room : ℕ) where
 
   visit-nodes : (s : Piece) → visit ar q′ s ≡ visit ar q s
   unfolding visit
-  visit-nodes s = ap (λ (v : Visit). cond (couldOverlap (aabb ar (c .dim) (s .points)) (boxOf c)) v dropped) (clipped-nodes s (greville ar (c .degree) (length (s .points)) (s .knots)))
+  visit-nodes s = ap (λ (v : Visit). cond (couldOverlap (aabb ar (c .curve .dim) (s .points)) (boxOf c)) v dropped) (clipped-nodes s (greville ar (c .curve .degree) (length (s .points)) (s .knots)))
 
-  more : c .nodes ≤ m → NotSpent (couldContain ar q (curve c)) → couldContain ar q′ (curve c) ≡ couldContain ar q (curve c)
+  more : c .nodes ≤ m → NotSpent (couldContain ar q (asPiece (c .curve))) → couldContain ar q′ (asPiece (c .curve)) ≡ couldContain ar q (asPiece (c .curve))
   unfolding couldContain
-  more h left = by (couldMeet ar (c .dim) (c .degree) (curve c .points) (boxOf c)) left
+  more h left = by (couldMeet ar (c .curve .dim) (c .curve .degree) (asPiece (c .curve) .points) (boxOf c)) left
     where
       see : visit ar q′ ≡ visit ar q
       see = λ i s. visit-nodes s i
 
-      by : (b : Bool) → NotSpent (cond b (answered (advance (visit ar q) (c .nodes) (c .nodes) (begun (curve c)))) (Nothing 0))
-          → cond b (answered (advance (visit ar q′) m m (begun (curve c)))) (Nothing 0) ≡ cond b (answered (advance (visit ar q) (c .nodes) (c .nodes) (begun (curve c)))) (Nothing 0)
-      by true d = ap (λ (f : Piece → Visit). answered (advance f m m (begun (curve c)))) see ∙ enough (visit ar q) (c .nodes) m h (begun (curve c)) d
+      by : (b : Bool) → NotSpent (cond b (answered (advance (visit ar q) (c .nodes) (c .nodes) (begun (asPiece (c .curve))))) (Nothing 0))
+          → cond b (answered (advance (visit ar q′) m m (begun (asPiece (c .curve))))) (Nothing 0) ≡ cond b (answered (advance (visit ar q) (c .nodes) (c .nodes) (begun (asPiece (c .curve))))) (Nothing 0)
+      by true d = ap (λ (f : Piece → Visit). answered (advance f m m (begun (asPiece (c .curve))))) see ∙ enough (visit ar q) (c .nodes) m h (begun (asPiece (c .curve))) d
       by false d = refl
 
 -- ---- the checks
-still : (c : Call) (m room : ℕ) → Larger c m room → Accepted c → Accepted (withNodes c m room)
-unfolding refusal dimFits degreeFits countFits lengthsFit numbersUsable boundsOrdered weightsAbove knotsSound nodesFit areaFits
-still c m room w e =
-    let p = passed c 0 checks e in
-    none-failed (withNodes c m room) 1 checks
-    (p .0, (p .1 .0, (p .1 .1 .0, (p .1 .1 .1 .0, (p .1 .1 .1 .1 .0, (p .1 .1 .1 .1 .1 .0, (p .1 .1 .1 .1 .1 .1 .0, (p .1 .1 .1 .1 .1 .1 .1 .0, (le→leb m 4096 (w .most), (le→leb (stated (withNodes c m room)) room (w .long), tt))))))))))
+still : (c : Call) (m words : ℕ) → Larger c m words → Accepted c → Accepted (withNodes c m words)
+unfolding nodesFit areaFits
+still c m words w e = accepted-by (withNodes c m words) (curve-accepted c e) (le→leb m 4096 (w .most)) (le→leb (stated (withNodes c m words)) words (w .long))
 
 -- ---- THE LAW
 not-spent : (r : Found) → Completes r → NotSpent r
@@ -146,11 +133,11 @@ not-spent (Refused n v) h = tt
 pub more-nodes : (ar : Arithmetic) → MoreNodes ar
 unfolding searched searchedBy areaAfter areaBy
 more-nodes ar = record {
-  completed = λ c m room w h. by c m room w (refusal c) refl h;
-  unspent = λ c m room w e left. ap (searchedBy ar (withNodes c m room)) (still c m room w e) ∙ more ar c m room (w .more) (subst NotSpent (ap (searchedBy ar c) e) left) ∙ sym (ap (searchedBy ar c) e);
-  area = λ c m room w e area. ap (areaBy (withNodes c m room) area) (still c m room w e);
+  completed = λ c m words w h. by c m words w (refusal c) refl h;
+  unspent = λ c m words w e left. ap (searchedBy ar (withNodes c m words)) (still c m words w e) ∙ more ar c m words (w .more) (subst NotSpent (ap (searchedBy ar c) e) left) ∙ sym (ap (searchedBy ar c) e);
+  area = λ c m words w e area. ap (areaBy (withNodes c m words) area) (still c m words w e);
 }
   where
-    by : (c : Call) (m room : ℕ) → Larger c m room → (z : ℕ) → refusal c ≡ z → Completes (searchedBy ar c z) → searchedBy ar (withNodes c m room) (refusal (withNodes c m room)) ≡ searchedBy ar c z
-    by c m room w zero e h = ap (searchedBy ar (withNodes c m room)) (still c m room w e) ∙ more ar c m room (w .more) (not-spent (couldContain ar (question c) (curve c)) h)
-    by c m room w (suc z) e h = absurd h
+    by : (c : Call) (m words : ℕ) → Larger c m words → (z : ℕ) → refusal c ≡ z → Completes (searchedBy ar c z) → searchedBy ar (withNodes c m words) (refusal (withNodes c m words)) ≡ searchedBy ar c z
+    by c m words w zero e h = ap (searchedBy ar (withNodes c m words)) (still c m words w e) ∙ more ar c m words (w .more) (not-spent (couldContain ar (question c) (asPiece (c .curve))) h)
+    by c m words w (suc z) e h = absurd h

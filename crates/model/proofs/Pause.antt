@@ -1,11 +1,25 @@
 -- A pause changes nothing: j visits, and then k more, are j + k visits. Leans on nothing but the definitions of the search.
-use Prim.Native.Nat.{ℕ, zero, suc, _+_}
+use Prim.Native.Nat.{ℕ, zero, suc, _+_, _≤_, _<_}
 use native.Mathlib.Nat.{zero-add, suc-add}
 use mathlib.Core.Path.{_≡_, refl}
+use mathlib.Core.List.{List, _∷_}
 use mathlib.Core.Option.{Option, none, some}
+use lib.ListN.{length}
+use borrow.Author.Tests.{lt-ltb, le-ltb}
+use Rattle.math.specs.declared.scalars.Scalar.{Scalar}
 use Rattle.model.specs.NurbCurve.{Piece}
 use Rattle.model.specs.declared.contains.Found.{Found}
+use Rattle.model.specs.declared.contains.Found.the-variants.{Spent}
 use Rattle.model.specs.Subdivide.{Visit, State, Step, going, over, ended, step, stop, advance, resumed}
+
+-- ---- before a visit: one is left, or none
+pub goes : (nodes : ℕ) (c : Piece) (cs : List Piece) (v : ℕ) (f : Option Scalar) → v < nodes → ended nodes (c ∷ cs) v f ≡ none
+unfolding ended
+goes nodes c cs v f h = rw (lt-ltb v nodes h)
+
+pub spends : (nodes : ℕ) (c : Piece) (cs : List Piece) (v : ℕ) (f : Option Scalar) → nodes ≤ v → ended nodes (c ∷ cs) v f ≡ some (Spent (suc (length cs)) v)
+unfolding ended
+spends nodes c cs v f h = rw (le-ltb v nodes h)
 
 module _ (visit : Piece → Visit) (nodes : ℕ) where
   -- with nothing left to do no visit is taken

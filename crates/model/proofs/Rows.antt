@@ -12,15 +12,15 @@ use Rattle.math.specs.Picks.{minF, maxF}
 use Rattle.math.specs.Root.{rootIn, root, nearestRoot, rootOf, sqrtF}
 use Rattle.math.specs.Scalars.{sharp, unionS, intersectS, middle, widthS, valueOr, addS, subS, corners, mulS, inverseS, divS, fourFifthsS, geop, interpolateS}
 use Rattle.model.specs.Vector.{interpolateV}
-use Rattle.model.specs.NurbCurve.{domain, inDomain, midParameter, weighted}
+use Rattle.model.specs.NurbCurve.{domain, inDomain, midParameter, weightsPositive}
 use Rattle.model.specs.KnotInsertion.{highest, insertionSpan, alpha, blend, knotsWith, pointsWith, insertOnce, insertTimes, isBezier, level, triangle, sides, bezierKnots, bezierCut, boehmCut, cutBy, fullCut}
 use Rattle.model.specs.Split.{splitBy, split, splitMid, fromBy, upToBy, restrict}
 use Rattle.model.specs.Aabb.{unions, place, aabb, couldOverlap, alongBy, along, meets, couldMeet}
 use Rattle.model.specs.FatLine.{abscissa, greville, crossing, zerosBy, fatLineZeros, cartesian, distance, distances, pathLength, extent, toF64, widest, carriedBy, carriedWidth, restricts, halves}
-use Rattle.model.specs.Subdivide.{plain, joined, complete, after, ended, step, stop, advance, answered}
+use Rattle.model.specs.Subdivide.{positiveZero, joined, complete, after, ended, step, stop, advance, answered}
 use Rattle.model.specs.Contains.{axis, narrowed, clip, carried, handOn, handBoth, shrink, clipped, visit, couldContain}
 use Rattle.model.specs.Layout.{pointAt, pointsOf, slotWords}
-use Rattle.model.specs.Call.{Call, dimFits, degreeFits, countFits, lengthsFit, numbersUsable, boundsOrdered, weightsAbove, rising, seldom, sound, knotsSound, nodesFit, stated, areaFits, firstFailed, refusal, searchedBy, searched}
+use Rattle.model.specs.Call.{Call, curveOf, dimFits, degreeFits, countFits, lengthsFit, numbersUsable, boundsOrdered, weightsFit, rising, multiplicityOk, knotsValid, knotsFit, nodesFit, stated, areaFits, firstFailed, orElse, sizesRefusal, curveRefusal, refusal, searchedBy, searched}
 use Rattle.model.specs.Paper.{Result, none-found, enclosed, spent, refused, Paper, paper}
 
 -- A text for the program, line by line; `points` has the numbers of all `point` lines.
@@ -52,15 +52,11 @@ floats l = map (λ b. ofBits binary64 b) l
 -- The call of a text; the program lends 8,192 numbers.
 abbrev pub callOf : Text → Call
 callOf t = record {
-  dim = t .dim;
-  degree = t .degree;
-  count = t .count;
-  knots = floats (t .knots);
-  points = floats (t .points);
+  curve = curveOf (t .dim) (t .degree) (t .count) (floats (t .knots)) (floats (t .points));
   box = floats (t .box);
   resolution = ofBits binary64 (t .resolution);
   nodes = t .nodes;
-  room = 8192;
+  workLen = 8192;
 }
 
 abbrev word : Result → ℕ
@@ -90,14 +86,14 @@ unfoldable pub right : Row → Bool
 unfolding zipWith add sub mul div lt le eq isNan neg ofInt toBits ofBits
     nextUp nextDown minF maxF rootIn root nearestRoot rootOf sqrtF unionS intersectS middle widthS valueOr addS subS corners mulS inverseS divS fourFifthsS interpolateS
     all count position foldl
-    interpolateV domain inDomain midParameter weighted
+    interpolateV domain inDomain midParameter weightsPositive
     highest insertionSpan alpha blend knotsWith pointsWith insertOnce insertTimes isBezier level triangle sides bezierKnots bezierCut boehmCut cutBy fullCut
     splitBy split splitMid fromBy upToBy restrict
     unions place aabb couldOverlap alongBy along meets couldMeet
     abscissa greville crossing zerosBy fatLineZeros cartesian distance distances pathLength extent toF64 widest carriedBy carriedWidth restricts halves
-    plain joined complete after ended step stop advance answered
+    positiveZero joined complete after ended step stop advance answered
     axis narrowed clip carried handOn handBoth shrink clipped visit couldContain
-    pointAt pointsOf slotWords dimFits degreeFits countFits lengthsFit numbersUsable boundsOrdered weightsAbove rising seldom sound knotsSound nodesFit stated areaFits firstFailed refusal searchedBy searched
+    pointAt pointsOf slotWords dimFits degreeFits countFits lengthsFit numbersUsable boundsOrdered weightsFit rising multiplicityOk knotsValid knotsFit nodesFit stated areaFits firstFailed orElse sizesRefusal curveRefusal refusal searchedBy searched
 right (prints t expected) = alike (printed (paper (searched geop (callOf t)))) expected
 right (sums a b lo hi) = alike (ends (some (addS (number a) (number b)))) (lo ∷ hi ∷ [])
 right (products a b lo hi) = alike (ends (some (mulS (number a) (number b)))) (lo ∷ hi ∷ [])

@@ -1,15 +1,15 @@
--- Exact hits there are, at the domain's end too: the call of document 01's case P1, a curve of degree 0, is hit wherever it has a span. Assumes nothing.
+-- Exact hits there are, at 1/2 and at the domain's end: the call of document 01's case P1, a curve of degree 0, is hit wherever it has a span. Assumes nothing.
 use Prim.Native.Nat.{ℕ, zero, suc, _+_, _*_, _<_}
-use mathlib.Core.Path.{_≡_, refl, ap, _∙_}
+use mathlib.Core.Path.{_≡_, refl, sym, ap, _∙_, subst}
 use native.Mathlib.Omega.{arith}
 use lib.Ieee.{ofBits, lt}
-use Rattle.exact.specs.Rational.{ℚ, _*ℚ_, 1ℚ, invℚ, _<ℚ_}
-use Rattle.exact.specs.Spline.{closing, drawn}
+use Rattle.exact.specs.Rational.{ℚ, _*ℚ_, 0ℚ, 1ℚ, invℚ, _÷_, _≤ℚ_, _<ℚ_}
+use Rattle.exact.specs.Spline.{before, closing, drawn}
 use Rattle.exact.proofs.Field.{*ℚ-1}
 use Rattle.exact.proofs.Order.{le-refl, inv-unique}
-use Rattle.exact.proofs.Embed.{÷-eq, ÷-one}
+use Rattle.exact.proofs.Embed.{÷-eq, ÷-nn, ÷-lt, ÷-one}
 use Rattle.math.specs.Values.{value, Holds}
-use Rattle.math.proofs.Doubles.Values.{lt→value}
+use Rattle.math.proofs.Doubles.Values.{value-zero, lt→value}
 use Rattle.model.specs.Layout.{scalarAt}
 use Rattle.model.specs.Call.{Call}
 use Rattle.model.specs.Enclosure.{knotValues, SpanOf, HitAt}
@@ -22,9 +22,9 @@ point-call = callOf (single 1 0x4008000000000000)
 
 -- the lower bound of interval k of point i
 abbrev low : ℕ → ℕ → ℚ
-low k i = value (scalarAt (point-call .points) (3 * i + k) .lo)
+low k i = value (scalarAt (point-call .curve .points) (3 * i + k) .lo)
 
-points-hold : (k i : ℕ) → k < 3 → i < 1 → Holds (scalarAt (point-call .points) (3 * i + k)) (low k i)
+points-hold : (k i : ℕ) → k < 3 → i < 1 → Holds (scalarAt (point-call .curve .points) (3 * i + k)) (low k i)
 unfolding ofBits
 points-hold zero zero _ _ = record { low = le-refl _; high = le-refl _ }
 points-hold (suc zero) zero _ _ = record { low = le-refl _; high = le-refl _ }
@@ -56,10 +56,27 @@ point-hit t s = record {
   passes = record { last = λ k. low k 0; rounds = record { k = 0; span = s; there = λ a. refl }; quotients = λ k _. divided k };
 }
 
-knots-rise : knotValues (point-call .knots) 0 <ℚ knotValues (point-call .knots) 1
+knots-rise : knotValues (point-call .curve .knots) 0 <ℚ knotValues (point-call .curve .knots) 1
 unfolding ofBits lt
 knots-rise = lt→value _ _ _ _ _ _ tt
 
--- and so at the domain's end.
-pub end-hit : HitAt point-call (knotValues (point-call .knots) 1)
+-- at the domain's end,
+pub end-hit : HitAt point-call (knotValues (point-call .curve .knots) 1)
 end-hit = point-hit _ (closing (record { first = omega arith; last = omega arith; wide = knots-rise; stop = refl; here = refl }))
+
+knot-zero : knotValues (point-call .curve .knots) 0 ≡ 0ℚ
+unfolding ofBits
+knot-zero = value-zero _ _
+
+knot-one : knotValues (point-call .curve .knots) 1 ≡ 1ℚ
+unfolding ofBits value
+knot-one = ÷-eq _ 1 _ 1 (omega arith) (omega arith) (omega arith) ∙ ÷-one
+
+-- and at 1/2, in its middle.
+pub half-hit : HitAt point-call (1 ÷ 2)
+half-hit = point-hit (1 ÷ 2) (before (record {
+  first = omega arith;
+  last = omega arith;
+  from = subst (λ (z : ℚ). z ≤ℚ 1 ÷ 2) (sym knot-zero) (÷-nn 1 2);
+  upto = subst (λ (z : ℚ). 1 ÷ 2 <ℚ z) (÷-one ∙ sym knot-one) (÷-lt 1 1 2 1 (omega arith) (omega arith) (omega arith));
+}))

@@ -9,7 +9,7 @@ use Rattle.math.specs.declared.scalars.Scalar.{Scalar}
 use Rattle.math.specs.Picks.{maxF}
 use Rattle.math.specs.Scalars.{Arithmetic, couldBeEqual, intersectS, widthS}
 use Rattle.model.specs.Vector.{Vector, coordinate}
-use Rattle.model.specs.NurbCurve.{Piece, start, end, domain, weighted}
+use Rattle.model.specs.NurbCurve.{Piece, start, end, domain, weightsPositive}
 use Rattle.model.specs.Split.{Halves, uncut, both, splitMid, Restricted, restrict}
 use Rattle.model.specs.Aabb.{aabb, couldOverlap, couldMeet}
 use Rattle.model.specs.FatLine.{greville, fatLineZeros, extent, toF64, widest, carriedWidth, restricts, halves}
@@ -44,12 +44,12 @@ carried dim box points = maxF (carriedWidth dim points) (widest (map (λ e. toF6
 
 -- A piece that was cut down is handed on. Its weights are tested when both cuts are done (document 01: refusal 11).
 unfoldable pub handOn : ℕ → Restricted → Visit
-handOn dim r = cond (weighted dim (r .piece .points)) (restricted (r .cuts) (r .piece)) badWeight
+handOn dim r = cond (weightsPositive dim (r .piece .points)) (restricted (r .cuts) (r .piece)) badWeight
 
 -- Two halves are handed on, with the weights of both tested. Where there was no cut the hat is reported: a failed halving is no error (document 01).
 unfoldable pub handBoth : ℕ → Scalar → Halves → Visit
 handBoth dim hat uncut = reported hat
-handBoth dim hat (both l r) = cond (weighted dim (l .points) && weighted dim (r .points)) (halved l r) badWeight
+handBoth dim hat (both l r) = cond (weightsPositive dim (l .points) && weightsPositive dim (r .points)) (halved l r) badWeight
 
 -- With a hat the piece is cut down to it, or else halved, or else reported.
 unfoldable pub shrink : Arithmetic → Question → Piece → Hat → Visit

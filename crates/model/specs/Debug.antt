@@ -31,7 +31,7 @@ use Rattle.model.specs.Contains as contains
 use Rattle.model.specs.Contains.{begun}
 use Rattle.model.specs.Layout.{scalarsOf}
 use Rattle.model.specs.Call as call
-use Rattle.model.specs.Call.{Call, curve, boxOf, question, refusal}
+use Rattle.model.specs.Call.{Call, asPiece, boxOf, question, refusal}
 use Rattle.model.specs.Enclosure.{Doubles, Accepted}
 use Rattle.model.specs.declared.fat_line.Hat.{Hat}
 use Rattle.model.specs.declared.fat_line.Hat.the-variants.{Over, Missing}
@@ -389,11 +389,11 @@ couldContain q c = do
 -- Of a call that is refused by 1 to 10 nothing is formed; of any other, first the intervals that are lent: points, box, knots and resolution.
 unfoldable pub searchedBy : Call → ℕ → Tested Found
 searchedBy c zero = do
-  _ ← tested.map (λ x. tested.formed (x .lo) (x .hi)) (scalarsOf (suc (c .dim) * c .count) (c .points))
+  _ ← tested.map (λ x. tested.formed (x .lo) (x .hi)) (scalarsOf (suc (c .curve .dim) * c .curve .count) (c .curve .points))
   _ ← tested.map (λ x. tested.formed (x .lo) (x .hi)) (boxOf c)
-  _ ← tested.map tested.sharp (c .knots)
+  _ ← tested.map tested.sharp (c .curve .knots)
   _ ← tested.sharp (c .resolution)
-  couldContain (question c) (curve c)
+  couldContain (question c) (asPiece (c .curve))
 searchedBy c (suc n) = fine (Refused (suc n) 0)
 
 -- The result of a call.

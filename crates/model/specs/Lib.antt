@@ -1,4 +1,4 @@
--- The search, leaves first. Vector to Contains have the names of the Rust's files; Layout, Call, Paper and Enclosure are the port's own.
+-- The search, leaves first. Vector to Contains have the names of the Rust's files; Layout to Promise are the port's own.
 pub mod Vector
 pub mod NurbCurve
 pub mod KnotInsertion
@@ -11,6 +11,8 @@ pub mod Layout
 pub mod Call
 pub mod Paper
 pub mod Enclosure
+pub mod Weights
 pub mod Nodes
 pub mod Tested
 pub mod Debug
+pub mod Promise

@@ -28,20 +28,19 @@ NodesLeft (over r) = NotSpent r
 pub record SameSteps (visit : Piece → Visit) : Type 0 where
   pub same : (n m k : ℕ) (s : State) → n ≤ m → NodesLeft (advance visit n k s) → advance visit m k s ≡ advance visit n k s
 
--- The same call with m nodes, and a work area of `room` words.
+-- The same call with m nodes, and a work area of so many words.
 abbrev pub withNodes : Call → ℕ → ℕ → Call
-withNodes c m room =
-    record { dim = c .dim; degree = c .degree; count = c .count; knots = c .knots; points = c .points; box = c .box; resolution = c .resolution; nodes = m; room = room }
+withNodes c m words = record { curve = c .curve; box = c .box; resolution = c .resolution; nodes = m; workLen = words }
 
 -- "Every larger number of nodes up to 4,096, a long enough work area being lent."
-pub record Larger (c : Call) (m room : ℕ) : Type 0 where
+pub record Larger (c : Call) (m words : ℕ) : Type 0 where
   pub more : c .nodes ≤ m
   pub most : m ≤ 4096
-  pub long : stated (withNodes c m room) ≤ room
+  pub long : stated (withNodes c m words) ≤ words
 
 -- "A completed search gives the same result, bounds and counts"; so does one that is refused by 11. The work area is left as the definition says: as many words as are stated for
 -- m nodes are 0, and the rest is as it was.
 pub record MoreNodes (ar : Arithmetic) : Type 0 where
-  pub completed : (c : Call) (m room : ℕ) → Larger c m room → Completes (searched ar c) → searched ar (withNodes c m room) ≡ searched ar c
-  pub unspent : (c : Call) (m room : ℕ) → Larger c m room → Accepted c → NotSpent (searched ar c) → searched ar (withNodes c m room) ≡ searched ar c
-  pub area : (c : Call) (m room : ℕ) → Larger c m room → Accepted c → (area : List Float) → areaAfter (withNodes c m room) area ≡ cleared area (stated (withNodes c m room)) zeroF
+  pub completed : (c : Call) (m words : ℕ) → Larger c m words → Completes (searched ar c) → searched ar (withNodes c m words) ≡ searched ar c
+  pub unspent : (c : Call) (m words : ℕ) → Larger c m words → Accepted c → NotSpent (searched ar c) → searched ar (withNodes c m words) ≡ searched ar c
+  pub area : (c : Call) (m words : ℕ) → Larger c m words → Accepted c → (area : List Float) → areaAfter (withNodes c m words) area ≡ cleared area (stated (withNodes c m words)) zeroF

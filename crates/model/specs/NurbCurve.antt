@@ -45,5 +45,5 @@ unfoldable pub midParameter : Arithmetic → Float → Float → Float
 midParameter ar a b = middle (valueOr (ar .div (ar .add (sharp a) (sharp b)) TWO) ENTIRE)
 
 -- Every weight's lo is above 0. Where this fails for a piece that a cut hands on, the refusal is 11 (document 01).
-unfoldable pub weighted : ℕ → List Vector → Bool
-weighted dim points = all (λ q. definitelyGreater (coordinate q dim) ZERO) points
+unfoldable pub weightsPositive : ℕ → List Vector → Bool
+weightsPositive dim points = all (λ q. definitelyGreater (coordinate q dim) ZERO) points

@@ -48,8 +48,8 @@ pub data Step : Type 0 where
   over : Found → Step
 
 -- A bound as it is given out, with no negative zero (document 01).
-unfoldable pub plain : Float → Float
-plain x = cond (eq x zeroF) zeroF x
+unfoldable pub positiveZero : Float → Float
+positiveZero x = cond (eq x zeroF) zeroF x
 
 -- Reports are joined by union (document 01).
 unfoldable pub joined : Option Scalar → Scalar → Scalar
@@ -59,7 +59,7 @@ joined (some s) t = unionS s t
 -- The result when every piece was visited, after v visits.
 unfoldable pub complete : Option Scalar → ℕ → Found
 complete none v = Nothing v
-complete (some t) v = Enclosed (plain (t .lo)) (plain (t .hi)) v
+complete (some t) v = Enclosed (positiveZero (t .lo)) (positiveZero (t .hi)) v
 
 -- What visit number v leaves, where cs wait behind its piece: what it hands on goes behind them.
 unfoldable pub after : List Piece → ℕ → Option Scalar → Visit → Step

@@ -1,20 +1,19 @@
--- What the library gives out for an answer of the search, in numbers alone, and how many words a work area needs. Definitions only.
-use Prim.Native.Nat.{ℕ, _+_, _*_}
+-- What the library gives out for an answer of the search, in numbers alone, and what it promises of them. Definitions only.
+use Prim.Native.Nat.{ℕ, zero, suc}
 use mathlib.Core.Path.{_≡_}
-use mathlib.Core.Bool.{true, false, cond, _&&_}
 use mathlib.Core.List.{List, [], _∷_}
-use lib.Dec.{T, leb}
 use lib.ListN.{getD}
-use lib.Ieee.{Float, nan, inf, lt, le}
-use Rattle.math.specs.Scalars.{zeroF}
-use Rattle.model.specs.Layout.{slotWords}
-use Rattle.model.specs.Call.{Call}
-use Rattle.model.specs.Debug.{DebugSays}
+use lib.Ieee.{Float, nan}
+use Rattle.math.specs.Scalars.{geop, zeroF}
+use Rattle.model.specs.Call.{Call, searched}
+use Rattle.model.specs.Promise.{Answers}
 use Rattle.model.specs.declared.contains.Found.{Found}
 use Rattle.model.specs.declared.contains.Found.the-variants.{Nothing, Enclosed, Spent, Refused}
 
+-- ---- from an answer to numbers
+
 -- The number of the refusal, and 0 where there is none.
-unfoldable pub numberOf : Found → ℕ
+abbrev pub numberOf : Found → ℕ
 numberOf (Nothing v) = 0
 numberOf (Enclosed lo hi v) = 0
 numberOf (Spent n v) = 0
@@ -34,18 +33,26 @@ boundsOf (Enclosed lo hi v) = lo ∷ hi ∷ []
 boundsOf (Spent n v) = zeroF ∷ zeroF ∷ []
 boundsOf (Refused n v) = zeroF ∷ zeroF ∷ []
 
--- Of the two bounds as they are given out: lo is at most hi, and both are finite. So it is of 0 and 0, too.
-abbrev pub BoundsOrdered : List Float → Type 0
-BoundsOrdered bounds = T (lt (inf true) (getD bounds 0 nan) && le (getD bounds 0 nan) (getD bounds 1 nan) && lt (getD bounds 1 nan) (inf false))
+-- ---- and back
 
--- Document 02, E14, of all that is given out: with the tests of the Rust's debug build the call comes to an answer with these numbers, and no test has fired.
-pub record DebugGives (c : Call) (number : ℕ) (counts : List ℕ) (bounds : List Float) : Type 0 where
-  pub answer : Found
-  pub says : DebugSays c answer
-  pub of-number : number ≡ numberOf answer
-  pub of-counts : counts ≡ countsOf answer
-  pub of-bounds : bounds ≡ boundsOf answer
+-- The answer of this kind.
+abbrev pub ofKind : ℕ → ℕ → ℕ → ℕ → Float → Float → Found
+ofKind zero number visited pending lo hi = Nothing visited
+ofKind (suc zero) number visited pending lo hi = Enclosed lo hi visited
+ofKind (suc (suc zero)) number visited pending lo hi = Spent pending visited
+ofKind (suc (suc (suc k))) number visited pending lo hi = Refused number visited
 
--- The stated words of a work area (document 01), and 0 for sizes that are refused whatever else is lent.
-unfoldable pub workWords : ℕ → ℕ → ℕ → ℕ → ℕ
-workWords dim degree count nodes = cond (leb dim 3 && leb degree 7 && leb count 32 && leb nodes 4096) ((nodes + 3) * slotWords dim degree count) 0
+-- The answer that a caller reads off the numbers that it was given.
+abbrev pub readBack : ℕ → List ℕ → List Float → Found
+readBack number counts bounds = ofKind (getD counts 0 0) number (getD counts 1 0) (getD counts 2 0) (getD bounds 0 nan) (getD bounds 1 nan)
+
+-- ---- the promises
+
+-- The call c, which found `before` in its work area and left `after`, has given out these numbers.
+pub record HandsOut (c : Call) (before after : List Float) (number : ℕ) (counts : List ℕ) (bounds : List Float) : Type 0 where
+  -- Each word is that of the definition, those included that mean nothing for this kind of answer.
+  pub of-number : number ≡ numberOf (searched geop c)
+  pub of-counts : counts ≡ countsOf (searched geop c)
+  pub of-bounds : bounds ≡ boundsOf (searched geop c)
+  -- The answer that a caller reads off them keeps every promise of the search, and so does the work area.
+  pub answers : Answers c before after (readBack number counts bounds)

@@ -1,11 +1,11 @@
 // The search for callers in C and in Rust: numbers and slices only. puhlwazo.h declares the same functions, and says what the pointers must be.
+use geometry::call::stated_words;
 use geometry::contains::curve_could_contain;
 use model::contains::Found;
 ghost use mathlib.Core.Path.{_≡_};
-ghost use Rattle.math.specs.Scalars.{geop};
-ghost use Rattle.model.specs.Call.{curve, lent, searched, areaAfter};
-ghost use Rattle.model.specs.Enclosure.{HitsEnclosed, BoundsInDomain, BoundsPlain};
-ghost use Rattle.puhlwazo.specs.Answers.{numberOf, countsOf, boundsOf, BoundsOrdered, DebugGives, workWords};
+ghost use lib.ListN.{length};
+ghost use Rattle.model.specs.Call.{lent, statedWords};
+ghost use Rattle.puhlwazo.specs.Answers.{numberOf, countsOf, boundsOf, HandsOut};
 
 // The number of the refusal, and 0 where there is none.
 fn number_of(f: Found) -> u64
@@ -44,7 +44,8 @@ fn bounds_of(f: Found) -> [f64; 2]
 }
 
 // `curve_could_contain` of crates/geometry, with its answer in lent memory: the result is the number of the refusal or 0, `counts` the kind of the answer, visited and pending, `bounds` lo and hi.
-// The promises are those of that function; order and debug are said of what is given out. Nothing is asked of the caller but what the types say.
+// number, counts and bounds say what is given out, to the last word. answers: read back as an answer, it keeps the promises of that function, each a field of `Answers`.
+// Nothing is asked of the caller but what the types say.
 #[no_mangle]
 pub extern "C" fn puhlwazo_curve_could_contain(
     dim: usize,
@@ -59,17 +60,10 @@ pub extern "C" fn puhlwazo_curve_could_contain(
     counts: &mut [u64; 3],
     bounds: &mut [f64; 2],
 ) -> u64
-    ensures result { λ r. ⌜ r ≡ numberOf (searched geop (lent dim degree count (now (knots .entry)) (now (points .entry)) (now («point_box» .entry)) resolution nodes (now (work .entry)))) ⌝ }
-    ensures counts { λ _. ⌜ now (counts .exit) ≡ countsOf (searched geop (lent dim degree count (now (knots .entry)) (now (points .entry)) (now («point_box» .entry)) resolution nodes (now (work .entry)))) ⌝ }
-    ensures bounds { λ _. ⌜ now (bounds .exit) ≡ boundsOf (searched geop (lent dim degree count (now (knots .entry)) (now (points .entry)) (now («point_box» .entry)) resolution nodes (now (work .entry)))) ⌝ }
-    ensures memory { λ _. ⌜ now (work .exit) ≡ areaAfter (lent dim degree count (now (knots .entry)) (now (points .entry)) (now («point_box» .entry)) resolution nodes (now (work .entry))) (now (work .entry)) ⌝ }
-    ensures encloses { λ _. ⌜ HitsEnclosed (lent dim degree count (now (knots .entry)) (now (points .entry)) (now («point_box» .entry)) resolution nodes (now (work .entry))) (searched geop (lent dim degree count (now (knots .entry)) (now (points .entry)) (now («point_box» .entry)) resolution nodes (now (work .entry)))) ⌝ }
-    ensures within { λ _. ⌜ BoundsInDomain (curve (lent dim degree count (now (knots .entry)) (now (points .entry)) (now («point_box» .entry)) resolution nodes (now (work .entry)))) degree (searched geop (lent dim degree count (now (knots .entry)) (now (points .entry)) (now («point_box» .entry)) resolution nodes (now (work .entry)))) × BoundsPlain (searched geop (lent dim degree count (now (knots .entry)) (now (points .entry)) (now («point_box» .entry)) resolution nodes (now (work .entry)))) ⌝ }
-    ensures order { λ _. ⌜ BoundsOrdered (now (bounds .exit)) ⌝ }
-    ensures debug { λ r.
+    ensures { λ r.
         let k = now (knots .entry) in let p = now (points .entry) in let b = now («point_box» .entry) in
-        let c = lent dim degree count k p b resolution nodes (now (work .entry)) in
-        ⌜ DebugGives c r (now (counts .exit)) (now (bounds .exit)) ⌝ }
+        let c = lent dim degree count k p b resolution nodes (length (now (work .entry))) in
+        ⌜ HandsOut c (now (work .entry)) (now (work .exit)) r (now (counts .exit)) (now (bounds .exit)) ⌝ }
 {
     let f = curve_could_contain(
         dim,
@@ -87,7 +81,7 @@ pub extern "C" fn puhlwazo_curve_could_contain(
     number_of(f)
 }
 
-// How many words of work area a call with these sizes needs, and 0 for sizes that are refused whatever else is lent.
+// How many words of work area a call with these sizes needs, and 0 exactly for sizes that 1, 2, 3 or 9 refuse.
 #[no_mangle]
 pub extern "C" fn puhlwazo_work_words(
     dim: usize,
@@ -95,21 +89,7 @@ pub extern "C" fn puhlwazo_work_words(
     count: usize,
     nodes: usize,
 ) -> usize
-    ensures { λ r. ⌜ r ≡ workWords dim degree count nodes ⌝ }
+    ensures { λ r. ⌜ r ≡ statedWords dim degree count nodes ⌝ }
 {
-    if dim > 3 {
-        return 0;
-    }
-    if degree > 7 {
-        return 0;
-    }
-    if count > 32 {
-        return 0;
-    }
-    if nodes > 4096 {
-        return 0;
-    }
-    let points = 2 * (dim + 1) * (count + degree + 1);
-    let knots = 2 * (count + 2 * degree + 2);
-    (nodes + 3) * (points + knots)
+    stated_words(dim, degree, count, nodes)
 }

@@ -1,17 +1,10 @@
 -- `is_clear` is true only where the contract of the search leaves no hit.
 use mathlib.Core.Path.{refl}
-use mathlib.Core.Bool.{false}
-use Rattle.math.proofs.Bools.{yes}
-use Rattle.model.specs.Call.{Call, lent}
 use Rattle.clear.specs.Clear.{isClear}
 use Rattle.clear.proofs.Laws.{clear, unclear}
 use borrow.Author.Needs.{needs}
 use Rattle.clear.proofs.is_clear.Statement.{statement}
 use Rattle.clear.proofs.is_clear.Tie as tie
-
--- The call.
-abbrev asked : tie.Start → Call
-asked k = let g = k .args in lent (g .dim) (g .degree) (g .count) (g .knots .now) (g .points .now) (g .point-box .now) (g .resolution) (g .nodes) (g .work .now)
 
 curve-could-contain-requires : tie.Need-curve-could-contain-requires
 curve-could-contain-requires c κs = search needs
@@ -32,28 +25,25 @@ same-length : tie.Need-same-length
 same-length c = search needs
 
 returns : tie.Need-returns
-returns c =
-    let r = (c .before .before .before .before .curve-could-contain .ensures) in
-    let k = clear (asked (c .before .before .before .before .before .before .before .before .before .before)) _ (r .0) (r .1 .1 .1 .0) _ (c .enum-told .given .1) in
-    (k .0, (r .1 .1 .0, λ _. k .1))
+returns c = let searched = c .before .before .before .before in clear _ _ _ _ (searched .curve-could-contain .ensures) _ (c .enum-told .given .1)
 
 same-length-2 : tie.Need-same-length-2
 same-length-2 c = search needs
 
 returns-2 : tie.Need-returns-2
-returns-2 c = let r = (c .before .before .before .before .curve-could-contain .ensures) in (unclear (asked (c .before .before .before .before .before .before .before .before .before .before)) _ (r .0) (r .1 .1 .1 .0) _ (c .enum-told2 .given .1) (unfold isClear in refl), (r .1 .1 .0, λ e. absurd (yes false e)))
+returns-2 c = let searched = c .before .before .before .before in unclear _ _ _ _ (searched .curve-could-contain .ensures) _ (c .enum-told2 .given .1) (unfold isClear in refl)
 
 same-length-3 : tie.Need-same-length-3
 same-length-3 c = search needs
 
 returns-3 : tie.Need-returns-3
-returns-3 c = let r = (c .before .before .before .before .curve-could-contain .ensures) in (unclear (asked (c .before .before .before .before .before .before .before .before .before .before)) _ (r .0) (r .1 .1 .1 .0) _ (c .enum-told3 .given .1) (unfold isClear in refl), (r .1 .1 .0, λ e. absurd (yes false e)))
+returns-3 c = let searched = c .before .before .before .before in unclear _ _ _ _ (searched .curve-could-contain .ensures) _ (c .enum-told3 .given .1) (unfold isClear in refl)
 
 same-length-4 : tie.Need-same-length-4
 same-length-4 c = search needs
 
 returns-4 : tie.Need-returns-4
-returns-4 c = let r = (c .before .before .before .before .curve-could-contain .ensures) in (unclear (asked (c .before .before .before .before .before .before .before .before .before .before)) _ (r .0) (r .1 .1 .1 .0) _ (c .enum-told4 .given .1) (unfold isClear in refl), (r .1 .1 .0, λ e. absurd (yes false e)))
+returns-4 c = let searched = c .before .before .before .before in unclear _ _ _ _ (searched .curve-could-contain .ensures) _ (c .enum-told4 .given .1) (unfold isClear in refl)
 
 pub is-clear-spec : {M : Type 1} → statement M
 is-clear-spec =

@@ -3,7 +3,7 @@ use mathlib.Core.Path.{_≡_, refl, sym, _∙_, ap, ap₂, subst}
 use mathlib.Core.List.{[], _∷_}
 use Prim.Native.Nat.{ℕ, zero, suc, _+_, _≤_, _<_}
 use native.Mathlib.Omega.{arith}
-use Rattle.exact.specs.Ring.{by-rep, by-eq, read}
+use Rattle.ring.proofs.Ring.{by-rep, by-eq, read}
 use Rattle.exact.specs.Rational.{ℚ, _+ℚ_, _*ℚ_, -ℚ_, _-ℚ_, 0ℚ, 1ℚ, invℚ, whole, lerp, ratio, _≤ℚ_, _<ℚ_}
 use Rattle.exact.specs.Spline.{round, boor, Segment}
 use Rattle.exact.specs.Hull.{sum, total}
@@ -153,18 +153,6 @@ precision u p τ l s (suc r) n j e m k =
     right = ap (λ x. total τ r +ℚ x) (sum-back u n (suc (suc j + r)) ∙ ap₂ (λ (a b : ℕ). sum u n a +ℚ u b) i₂ i₃)
 
 -- ---- the blossom is symmetric: two rounds in a row may change their parameters
-pub round-exchange : (u : ℕ → ℚ) (p r : ℕ) (f : ℕ → ℚ) (x y : ℚ) (l j : ℕ) → Segment p u l → l ≤ j + p → j + suc (suc r) ≤ l
-    → round u p (suc (suc r)) y (round u p (suc r) x f) j ≡ round u p (suc (suc r)) x (round u p (suc r) y f) j
-unfolding round
-round-exchange u p r f x y l j s h k = subst (λ (i : ℕ).
-    lerp (ratio y (u (j + suc (suc r))) (u (j + suc p))) (lerp (ratio x (u (j + suc r)) (u (j + suc p))) (f j) (f (suc j))) (lerp (ratio x (u i) (u (suc j + suc p))) (f (suc j)) (f (suc (suc j))))
-    ≡ lerp (ratio x (u (j + suc (suc r))) (u (j + suc p))) (lerp (ratio y (u (j + suc r)) (u (j + suc p))) (f j) (f (suc j))) (lerp (ratio y (u i) (u (suc j + suc p))) (f (suc j)) (f (suc (suc j))))) ix
-    (exchange (f j) (f (suc j)) (f (suc (suc j))) x y (u (j + suc r)) (u (j + suc (suc r))) (u (j + suc p)) (u (suc j + suc p))
-    (spread s (j + suc r) (j + suc p) (omega arith) (omega arith) (omega arith)) (spread s (j + suc (suc r)) (j + suc p) k (omega arith) (omega arith)))
-  where
-    ix : j + suc (suc r) ≡ suc j + suc r
-    ix = omega arith
-
 -- ---- over the Greville abscissae the curve is its parameter
 pub whole-suc : (n : ℕ) → whole (suc n) ≡ whole n +ℚ 1ℚ
 whole-suc n = ap whole ix ∙ sym (÷-add n 1 1 (omega arith)) ∙ ap (λ x. whole n +ℚ x) ÷-one

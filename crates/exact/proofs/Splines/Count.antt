@@ -7,7 +7,7 @@ use native.Mathlib.Decide.{decLe}
 use native.Mathlib.Omega.{arith}
 use lib.Dec.{T}
 use Rattle.exact.specs.Rational.{ℚ, -ℚ_, _-ℚ_, nonneg, nn-in, nn-out, _≤ℚ_, _<ℚ_, le-in, nn-of, lt→not-le}
-use Rattle.exact.specs.Cut.{eqℚ, choose, tally, seek, Group}
+use Rattle.exact.specs.Cut.{eqℚ, choose, tally, Group}
 use Rattle.exact.proofs.Order.{le-refl, le-antisym, le-dec}
 use Rattle.exact.proofs.Splines.Boor.{le-of-eq}
 
@@ -82,17 +82,3 @@ tally-group N u x m s g h = tally-at N u x m s g (suc N) (omega arith) ∙ fin
   where
     fin : min (suc N) (m + s) - m ≡ s
     fin = omega arith
-
-pub seek-group : (N : ℕ) (u : ℕ → ℚ) (x : ℚ) (m s : ℕ) → Group N u x m s → 1 ≤ s → (d i : ℕ) → i ≤ m → m < i + d → seek u x d i ≡ m
-unfolding seek
-seek-group N u x m s g o zero i h k = absurd (off h k)
-  where
-    off : i ≤ m → m < i + zero → ⊥
-    off h k = omega arith
-seek-group N u x m s g o (suc d) i h k = elim (decLe m i) [
-  | yes a ↦ choose-yes (u i) x _ _ (g .equal i a (omega arith)) ∙ eq a
-  | no a ↦ choose-no (u i) x _ _ (ne-lt (g .below i (lt-of-not-le a))) ∙ seek-group N u x m s g o d (suc i) (lt-of-not-le a) (omega arith)
-]
-  where
-    eq : m ≤ i → i ≡ m
-    eq a = omega arith

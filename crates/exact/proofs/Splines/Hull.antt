@@ -4,14 +4,13 @@ use mathlib.Core.List.{[], _∷_}
 use mathlib.Core.Logic.{⊎-elim}
 use Prim.Native.Nat.{ℕ, zero, suc, _+_, _-_, _≤_, _<_}
 use native.Mathlib.Omega.{arith}
-use Rattle.exact.specs.Ring.{by-rep, by-eq, read}
+use Rattle.ring.proofs.Ring.{by-rep, by-eq, read}
 use Rattle.exact.specs.Rational.{ℚ, _+ℚ_, _*ℚ_, -ℚ_, _-ℚ_, 0ℚ, 1ℚ, invℚ, whole, lerp, ratio, _≤ℚ_, _<ℚ_, nn-of}
 use Rattle.exact.specs.Spline.{round, boor, curve, Sorted, Segment, Shut}
 use Rattle.exact.specs.Hull.{In, sum, ξ}
 use Rattle.exact.proofs.Field.{ℚring, *ℚ-comm, nn-add, nn-mul, nn-inv, nn-0}
 use Rattle.exact.proofs.Order.{le-by, le-nn, nn-le, le-refl, le-trans, lt→le, le-or-lt, lt-le-trans, mul-mono, sub-inv, lerp-ge, lerp-le, ratio-ge, ratio-le, pos-inv}
 use Rattle.exact.proofs.Embed.{÷-pos, ÷-zero}
-use Rattle.exact.proofs.Splines.Interval.{in-add}
 use Rattle.exact.proofs.Splines.Boor.{boor-lin, spread, boor-ge, boor-le, whole-suc, greville}
 use Rattle.exact.proofs.Splines.On.{segment-of, boor-cong}
 
@@ -116,7 +115,7 @@ module _ (p n : ℕ) (u : ℕ → ℚ) (srt : Sorted u (n + p)) (t : ℚ) (m : �
       wide : u (j + suc r) <ℚ u (j + suc p)
       wide = spread seg (j + suc r) (j + suc p) b (omega arith) (omega arith)
 
-  pub at-pos : (c : ℕ → ℚ) → ((i : ℕ) → i < n → 0ℚ <ℚ c i) → 0ℚ <ℚ curve p u c m t
+  at-pos : (c : ℕ → ℚ) → ((i : ℕ) → i < n → 0ℚ <ℚ c i) → 0ℚ <ℚ curve p u c m t
   at-pos c h = at-pos-in c h p m (omega arith) (omega arith)
 
   -- linear precision
@@ -174,12 +173,6 @@ module _ (p n : ℕ) (u : ℕ → ℚ) (srt : Sorted u (n + p)) (t : ℚ) (m : �
       eq : (x y i q : ℚ) → y *ℚ i ≡ 1ℚ → x *ℚ i ≡ q → x -ℚ q *ℚ y ≡ 0ℚ
       eq x y i q e k = by-eq ℚring (-ℚ x) e (by-eq ℚring y k (by-rep ℚring (x ∷ y ∷ i ∷ q ∷ []) (search read depth 9) (search read depth 9) tt))
 
-  pub at-meets⁻¹ : (c w : ℕ → ℚ) (q : ℚ) → ((i : ℕ) → i < n → 0ℚ <ℚ w i) → curve p u (λ i. c i -ℚ q *ℚ w i) m t ≡ 0ℚ → curve p u c m t *ℚ invℚ (curve p u w m t) ≡ q
-  at-meets⁻¹ c w q pos e = eq (at c) (at w) (invℚ (at w)) q (pos-inv (at w) (at-pos w pos)) (sym (at-diff c w q) ∙ e)
-    where
-      eq : (x y i q : ℚ) → y *ℚ i ≡ 1ℚ → x -ℚ q *ℚ y ≡ 0ℚ → x *ℚ i ≡ q
-      eq x y i q e k = by-eq ℚring q e (by-eq ℚring i k (by-rep ℚring (x ∷ y ∷ i ∷ q ∷ []) (search read depth 9) (search read depth 9) tt))
-
   -- the fat line, with any slope s: the offsets of the control values from the line lie in [lo, hi], and so does the curve's
   pub fat-line : 1 ≤ p → (d : ℕ → ℚ) (s lo hi : ℚ) → ((i : ℕ) → i < n → In lo hi (d i -ℚ (d zero +ℚ s *ℚ (ξ p u i -ℚ ξ p u zero)))) → curve p u d m t ≡ 0ℚ
       → In lo hi (-ℚ (d zero +ℚ s *ℚ (t -ℚ ξ p u zero)))
@@ -221,14 +214,3 @@ module _ (p n : ℕ) (u : ℕ → ℚ) (srt : Sorted u (n + p)) (t : ℚ) (m : �
     from = lerp-ge (ratio-ge w (ξ-first h)) (ratio-le w (ξ-last h)) (first .from) (last .from);
     upto = lerp-le (ratio-ge w (ξ-first h)) (ratio-le w (ξ-last h)) (first .upto) (last .upto);
   })
-
-  -- so the band over the chord holds 0
-  pub fat-hull : 1 ≤ p → (d : ℕ → ℚ) (s lo hi a b : ℚ) → ξ p u zero <ℚ ξ p u (n - 1) → s *ℚ (ξ p u (n - 1) -ℚ ξ p u zero) ≡ d (n - 1) -ℚ d zero
-      → ((i : ℕ) → i < n → In lo hi (d i -ℚ (d zero +ℚ s *ℚ (ξ p u i -ℚ ξ p u zero)))) → In a b (d zero) → In a b (d (n - 1)) → curve p u d m t ≡ 0ℚ → In (a +ℚ lo) (b +ℚ hi) 0ℚ
-  fat-hull h d s lo hi a b w e k first last z = subst (λ (v : ℚ). In (a +ℚ lo) (b +ℚ hi) v) (none (d zero +ℚ s *ℚ (t -ℚ ξ p u zero))) (in-add on-chord (fat-line h d s lo hi k z))
-    where
-      none : (x : ℚ) → x +ℚ -ℚ x ≡ 0ℚ
-      none x = by-rep ℚring (x ∷ []) (search read) (search read) tt
-
-      on-chord : In a b (d zero +ℚ s *ℚ (t -ℚ ξ p u zero))
-      on-chord = fat-chord h (d zero) (d (n - 1)) s a b w e first last

@@ -1,17 +1,14 @@
 -- Insertions of one value again and again: they keep the curve, and make the value occur as often as one likes.
 use mathlib.Core.Path.{_≡_, refl, sym, _∙_, ap, subst}
-use Prim.Native.Nat.{ℕ, zero, suc, pred, _+_, _-_, _≤_, _<_}
-use native.Mathlib.Nat.{lt-of-not-le}
-use native.Mathlib.Decide.{decLe}
+use Prim.Native.Nat.{ℕ, zero, suc, _+_, _≤_, _<_}
 use native.Mathlib.Omega.{arith}
 use Rattle.exact.specs.Rational.{ℚ, _≤ℚ_, _<ℚ_}
 use Rattle.exact.specs.Spline.{Sorted}
 use Rattle.exact.specs.Insertion.{Inserted, knots, ctrls}
-use Rattle.exact.specs.Cut.{Good, Group, Grouped, Raised, raised-knots, raised-ctrls}
+use Rattle.exact.specs.Cut.{Group, Raised}
 use Rattle.exact.proofs.Order.{lt→le}
-use Rattle.exact.proofs.Splines.Boor.{le-of-eq}
 use Rattle.exact.proofs.Splines.Insert.{inserted, sorted′, insert-keeps, kept-refl, kept-trans}
-use Rattle.exact.proofs.Splines.Group.{group-place, group-p, group-n, group-find, group-insert, group-thin}
+use Rattle.exact.proofs.Splines.Group.{group-place, group-insert}
 
 -- ---- no insertion, and one more
 pub raised-zero : (p n : ℕ) (u : ℕ → ℚ) (c : ℕ → ℕ → ℚ) (x : ℚ) (m s : ℕ) → Sorted u (n + p) → Group (n + p) u x m s → Raised p n u c x m s zero n u c
@@ -69,59 +66,3 @@ raised-insert p n u c x m s e n′ u′ c′ k r kn a b = record {
     ix₃ i = omega arith
 
 -- ---- e insertions, behind the m + s knots that are at most x
-pub raised-all : (p n : ℕ) (u : ℕ → ℚ) (c : ℕ → ℕ → ℚ) (x : ℚ) (m s : ℕ) → Sorted u (n + p) → Group (n + p) u x m s → 1 ≤ m + s → m + s ≤ n + p
-    → (e : ℕ) → Raised p n u c x m s e (n + e) (raised-knots u x (m + s) e) (λ a. raised-ctrls p u (c a) x (m + s) e)
-unfolding raised-knots raised-ctrls
-raised-all p n u c x m s srt g some room zero = subst (λ (z : ℕ). Raised p n u c x m s zero z u c) ix (raised-zero p n u c x m s srt g)
-  where
-    ix : n ≡ n + zero
-    ix = omega arith
-raised-all p n u c x m s srt g some room (suc e) = next (raised-all p n u c x m s srt g some room e)
-  where
-    u′ : ℕ → ℚ
-    u′ = raised-knots u x (m + s) e
-
-    c′ : ℕ → ℕ → ℚ
-    c′ a = raised-ctrls p u (c a) x (m + s) e
-
-    k : ℕ
-    k = pred (m + s + e)
-
-    ix : suc (n + e) ≡ n + suc e
-    ix = omega arith
-
-    at : suc k ≡ m + (s + e)
-    at = back (m + s + e) (omega arith) ∙ sum-eq
-      where
-        back : (a : ℕ) → 1 ≤ a → suc (pred a) ≡ a
-        back a h = omega arith
-
-        sum-eq : m + s + e ≡ m + (s + e)
-        sum-eq = omega arith
-
-    next : Raised p n u c x m s e (n + e) u′ c′ → Raised p n u c x m s (suc e) (n + suc e) (knots u′ x k) (λ a. ctrls p u′ (c′ a) x k)
-    next r = subst (λ (z : ℕ). Raised p n u c x m s (suc e) z (knots u′ x k) (λ a. ctrls p u′ (c′ a) x k)) ix
-        (raised-insert p n u c x m s e (n + e) u′ c′ k r (omega (arith, at)) low (r .group .above (suc k) (omega (arith, at)) (omega (arith, at))))
-      where
-        low : u′ k ≤ℚ x
-        low = elim (decLe m k) [
-          | yes h ↦ le-of-eq (r .group .equal k h (omega (arith, at)))
-          | no h ↦ lt→le (r .group .below k (lt-of-not-le h))
-        ]
-
--- every x strictly inside the domain of accepted knots can be inserted until it occurs p + 1 times, whatever number of times it occurred before
-pub raised-full : (p n : ℕ) (u : ℕ → ℚ) (c : ℕ → ℕ → ℚ) (x : ℚ) → Good p n u → u p <ℚ x → x <ℚ u n
-    → (m : ℕ) × (s : ℕ) × (e : ℕ) × (s + e ≡ suc p) × Raised p n u c x m s e (n + e) (raised-knots u x (m + s) e) (λ a. raised-ctrls p u (c a) x (m + s) e)
-raised-full p n u c x good px xn = go (group-find (n + p) u x (good .sorted))
-  where
-    go : Grouped (n + p) u x → (m : ℕ) × (s : ℕ) × (e : ℕ) × (s + e ≡ suc p) × Raised p n u c x m s e (n + e) (raised-knots u x (m + s) e) (λ a. raised-ctrls p u (c a) x (m + s) e)
-    go g = (g .m, g .s, suc p - g .s, omega (arith, thin), raised-all p n u c x (g .m) (g .s) (good .sorted) (g .group) (omega (arith, p<m)) (omega (arith, ms≤n)) (suc p - g .s))
-      where
-        thin : g .s ≤ p
-        thin = group-thin p n u x (g .m) (g .s) good (g .group) px xn
-
-        p<m : p < g .m
-        p<m = group-p (n + p) u x (g .m) (g .s) p (g .group) (omega arith) px
-
-        ms≤n : g .m + g .s ≤ n
-        ms≤n = group-n (n + p) u x (g .m) (g .s) n (g .group) xn

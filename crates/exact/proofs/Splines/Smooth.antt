@@ -2,14 +2,14 @@
 -- spans is the curve on paper. And where the last knots are one value, that curve ends in its last control point.
 use mathlib.Core.Path.{_≡_, refl, sym, _∙_, ap, subst}
 use mathlib.Core.List.{[], _∷_}
-use mathlib.Core.Logic.{_⊎_, inl, inr, ⊎-elim}
+use mathlib.Core.Logic.{⊎-elim}
 use Prim.Native.Nat.{ℕ, zero, suc, _+_, _-_, _≤_, _<_}
-use native.Mathlib.Nat.{eq-or-lt-of-le, lt-of-not-le}
+use native.Mathlib.Nat.{lt-of-not-le}
 use native.Mathlib.Decide.{decLe}
 use native.Mathlib.Omega.{arith}
-use Rattle.exact.specs.Ring.{by-rep, by-eq, read}
+use Rattle.ring.proofs.Ring.{by-rep, by-eq, read}
 use Rattle.exact.specs.Rational.{ℚ, _*ℚ_, -ℚ_, _-ℚ_, 1ℚ, invℚ, lerp, ratio, _≤ℚ_, _<ℚ_, lt→not-le}
-use Rattle.exact.specs.Spline.{closing, Traced, round, boor, curve, Sorted, left, right, Shut, Fit, Runs, On}
+use Rattle.exact.specs.Spline.{closing, Traced, round, boor, curve, Sorted, left, right, Fit, Runs, On}
 use Rattle.exact.specs.Cut.{Thin}
 use Rattle.exact.proofs.Field.{ℚring, *ℚ-comm}
 use Rattle.exact.proofs.Order.{le-refl, le-trans, le-antisym, le-or-lt, lt-or-le, lt-le-trans, le-lt-trans, sub-inv}
@@ -191,30 +191,6 @@ module _ (p n : ℕ) (u : ℕ → ℚ) (srt : Sorted u (n + p)) (thin : Thin p n
         where
           ix : n - p + p ≡ n
           ix = omega (arith, w .inside)
-
-  -- the value at t does not depend on the span
-  after-one : (c : ℕ → ℚ) (l m : ℕ) → l < m → m + p < n → Shut (u (l + p)) (u (suc (l + p))) t → Shut (u (m + p)) (u (suc (m + p))) t → curve p u c l t ≡ curve p u c m t
-  after-one c l m h o v w = agree l m h o (v .wide) (v .upto) (w .from) tn c
-    where
-      tn : t <ℚ u n
-      tn = le-lt-trans (le-trans (v .upto) (srt .up (suc (l + p)) (m + p) (omega arith) (omega arith))) (lt-le-trans (w .wide) (srt .up (suc (m + p)) n (omega arith) (omega arith)))
-
-  pub one-value : (c : ℕ → ℕ → ℚ) (y z : ℕ → ℚ) → On p n u c t y → On p n u c t z → (a : ℕ) → y a ≡ z a
-  unfolding Fit
-  one-value c y z v w a = sym (v .there a) ∙ same ∙ w .there a
-    where
-      same : curve p u (c a) (v .place) t ≡ curve p u (c a) (w .place) t
-      same = elim (decLe (suc (v .place)) (w .place)) [
-        | yes h ↦ after-one (c a) (v .place) (w .place) h (w .inside) (v .fits) (w .fits)
-        | no n ↦ go (eq-or-lt-of-le (le (lt-of-not-le n)))
-      ]
-        where
-          le : w .place < suc (v .place) → w .place ≤ v .place
-          le h = omega arith
-
-          go : (w .place ≡ v .place) ⊎ (w .place < v .place) → curve p u (c a) (v .place) t ≡ curve p u (c a) (w .place) t
-          go (inl e) = ap (λ (m : ℕ). curve p u (c a) m t) (sym e)
-          go (inr h) = sym (after-one (c a) (w .place) (v .place) h (v .inside) (w .fits) (v .fits))
 
   -- the curve with closed spans is the curve on paper
   pub on-traced : (c : ℕ → ℕ → ℚ) (y : ℕ → ℚ) → On p n u c t y → Traced p n u c t y

@@ -4,14 +4,14 @@ use mathlib.Core.List.{[], _∷_}
 use mathlib.Core.Logic.{⊎-elim}
 use Prim.Native.Nat.{ℕ, zero, suc, _+_, _-_, _≤_, _<_}
 use native.Mathlib.Omega.{arith}
-use Rattle.exact.specs.Ring.{by-rep, by-eq, read}
+use Rattle.ring.proofs.Ring.{by-rep, by-eq, read}
 use Rattle.exact.specs.Rational.{ℚ, _+ℚ_, _*ℚ_, -ℚ_, _-ℚ_, 0ℚ, 1ℚ, invℚ, lerp, ratio, _≤ℚ_, _<ℚ_, nn-of, not-le→lt}
 use Rattle.exact.specs.Spline.{round, boor, curve, Sorted, Shut, Fit, On}
 use Rattle.exact.specs.Hull.{In, ξ, β}
 use Rattle.exact.proofs.Field.{ℚring, nn-add, nn-mul, nn-inv, *ℚ-inv}
 use Rattle.exact.proofs.Order.{le-by, le-nn, nn-le, le-trans, le-antisym, lt→le, le-or-lt, sub-inv, ratio-ge, ratio-le, pos-inv}
 use Rattle.exact.proofs.Splines.Boor.{lt-cast, le-cast}
-use Rattle.exact.proofs.Splines.Hull.{lerp-pos, solve, at-cong, at-ge, at-le, at-pos, at-box, at-meets, fat-line, ξ-first, ξ-last, fat-chord, fat-hull}
+use Rattle.exact.proofs.Splines.Hull.{lerp-pos, at-cong, at-ge, at-le, at-box, at-meets, fat-line, ξ-first, ξ-last, fat-chord}
 
 -- ---- a slope from a quotient
 slope : (s x v i : ℚ) → i *ℚ v ≡ 1ℚ → s ≡ x *ℚ i → s *ℚ v ≡ x
@@ -35,17 +35,6 @@ module _ (p n : ℕ) (u : ℕ → ℚ) (srt : Sorted u (n + p)) (c : ℕ → ℕ
 
       b : (m : ℕ) → m + p < n → suc (m + p) ≤ n
       b m h = omega arith
-
-  -- where the weights are positive, so is the point's
-  pub on-weight : (w : ℕ) → ((i : ℕ) → i < n → 0ℚ <ℚ c w i) → 0ℚ <ℚ y w
-  on-weight w h = subst (λ (z : ℚ). 0ℚ <ℚ z) (o .there w) (at-pos p n u srt t (o .place) (o .inside) f (c w) h)
-
-  -- the point lies in the hull
-  pub on-hull : (k : ℕ) (a b : ℚ) → ((i : ℕ) → i < n → In a b (c k i)) → In a b (y k)
-  on-hull k a b h = record {
-    from = subst (λ (z : ℚ). a ≤ℚ z) (o .there k) (at-ge p n u srt t (o .place) (o .inside) f (c k) a (λ i l. h i l .from));
-    upto = subst (λ (z : ℚ). z ≤ℚ b) (o .there k) (at-le p n u srt t (o .place) (o .inside) f (c k) b (λ i l. h i l .upto));
-  }
 
   -- w is the axis of the weight, q the value of the axis k divided by the weight
   module _ (w : ℕ) (pos : (i : ℕ) → i < n → 0ℚ <ℚ c w i) (k : ℕ) (q : ℚ) (e : y k *ℚ invℚ (y w) ≡ q) where
@@ -86,18 +75,6 @@ module _ (p n : ℕ) (u : ℕ → ℚ) (srt : Sorted u (n + p)) (c : ℕ → ℕ
         where
           wide : ξ p u zero <ℚ ξ p u (n - 1)
           wide = on-chord h ne
-
-      -- the end values and the band together hold 0; s is the chord's slope
-      pub on-fat : 1 ≤ p → (s lo hi a b : ℚ) → ¬ (ξ p u (n - 1) -ℚ ξ p u zero ≡ 0ℚ) → s ≡ (d (n - 1) -ℚ d zero) *ℚ invℚ (ξ p u (n - 1) -ℚ ξ p u zero)
-          → ((i : ℕ) → i < n → In lo hi (d i -ℚ (d zero +ℚ s *ℚ (ξ p u i -ℚ ξ p u zero)))) → In a b (d zero) → In a b (d (n - 1)) → In (a +ℚ lo) (b +ℚ hi) 0ℚ
-      on-fat h s lo hi a b ne es l first last = fat-hull p n u srt t (o .place) (o .inside) f h d s lo hi a b wide (slope _ _ _ _ (sub-inv wide) es) l first last zero-there
-        where
-          wide : ξ p u zero <ℚ ξ p u (n - 1)
-          wide = on-chord h ne
-
-      -- t itself, where the slope is not 0
-      pub on-root : 1 ≤ p → (s lo hi : ℚ) → ¬ (s ≡ 0ℚ) → ((i : ℕ) → i < n → In lo hi (d i -ℚ (d zero +ℚ s *ℚ (ξ p u i -ℚ ξ p u zero)))) → (δ : ℚ) × In lo hi δ × (t ≡ ξ p u zero -ℚ (d zero +ℚ δ) *ℚ invℚ s)
-      on-root h s lo hi ne l = (-ℚ (d zero +ℚ s *ℚ (t -ℚ ξ p u zero)), on-band h s lo hi l, solve t (ξ p u zero) (d zero) s _ (*ℚ-inv s ne) refl)
 
 -- ---- degree 1 and two points: a segment
 module _ (u : ℕ → ℚ) (c : ℕ → ℕ → ℚ) (t : ℚ) (y : ℕ → ℚ) (o : On 1 2 u c t y) (w : ℕ) (p₀ : 0ℚ <ℚ c w 0) (p₁ : 0ℚ <ℚ c w 1) where

@@ -1,27 +1,21 @@
 -- The box of a piece, and the test before the search: no test of an interval fires. Where the Rust panics over a weight, the search refuses by 11. Assumes nothing.
-use mathlib.Core.Path.{_≡_, refl, sym, ap, _∙_, subst}
-use mathlib.Core.Bool.{Bool, true, false, cond, not, _&&_}
+use mathlib.Core.Path.{_≡_, refl, sym, ap}
+use mathlib.Core.Bool.{Bool, true, false, cond, _&&_}
 use mathlib.Core.List.{List, [], _∷_, map}
 use Prim.Native.Nat.{ℕ, suc, _+_, _≤_, _<_}
 use native.Mathlib.Omega.{arith}
 use lib.Dec.{T, eqb, eqb→eq}
 use lib.ListN.{length}
-use lib.Ieee.{lt, le}
-use lib.Ieee.Bits.{is-true}
-use Rattle.exact.specs.Rational.{0ℚ}
-use Rattle.lists.specs.Lists.{all}
 use Rattle.math.specs.declared.scalars.Scalar.{Scalar}
 use Rattle.math.specs.declared.scalars.Divided.{Divided}
 use Rattle.math.specs.declared.scalars.Divided.the-variants.{Value, Failed}
-use Rattle.math.specs.Scalars.{geop, zeroF, sharp, ZERO, ONE, ENTIRE, couldBeEqual, hasZero, unionS, intersectS, subS, divS, mulS, inverseS}
+use Rattle.math.specs.Scalars.{geop, sharp, ZERO, ONE, ENTIRE, couldBeEqual, hasZero, unionS, intersectS, subS, divS, mulS, inverseS}
 use Rattle.math.specs.Values.{Proper}
 use Rattle.math.proofs.Bools.{pick, and-r}
-use Rattle.math.proofs.Doubles.Order.{meet-le, above-mono, below-number, lt-not-le, total-order}
-use Rattle.math.proofs.Intervals.Tests.{zero-holds}
 use Rattle.math.proofs.Intervals.Instance.{geop-encloses}
 use Rattle.math.proofs.Intervals.Proper.{geop-in-order, zero-proper, one-proper, entire-proper, union-proper, intersect-proper, quotient-proper}
 use Rattle.model.specs.Vector.{Vector, coordinate}
-use Rattle.model.specs.NurbCurve.{point, weighted}
+use Rattle.model.specs.NurbCurve.{point, weightsPositive}
 use Rattle.model.specs.Aabb.{unions, place, aabb, couldOverlap, alongBy, along, meets, couldMeet}
 use Rattle.model.specs.Enclosure.{Every}
 use Rattle.model.specs.declared.fat_line.Hat.{Hat}
@@ -30,9 +24,10 @@ use Rattle.model.specs.Tested as tested
 use Rattle.model.specs.Tested.{Tested, fine, _>>=_}
 use Rattle.model.specs.Debug as debug
 use Rattle.model.proofs.Every.{every-map, every-at}
-use Rattle.model.proofs.Sound.Visit.Keeps.{Kept}
+use Rattle.model.proofs.Sound.Visit.Keeps.{OfHat}
 use Rattle.model.proofs.Sound.Visit.Door.{Bounded}
-use Rattle.model.proofs.Proper.Blend.{Weighs, Solid, coordinate-proper, known-proper}
+use Rattle.model.proofs.Proper.Blend.{Solid, coordinate-proper, known-proper}
+use Rattle.model.proofs.Proper.Weights.{weights-same}
 use Rattle.model.proofs.Debug.Ops.{sub-fine, div-fine, union-fine, intersect-fine}
 use Rattle.model.proofs.Debug.Lists.{tab-fine, map-fine, fold-fine}
 use Rattle.model.proofs.Debug.Insert.{known-fine}
@@ -41,27 +36,6 @@ pub unions-fine : (l : List Scalar) → Every Proper l → debug.unions l ≡ fi
 unfolding debug.unions unions
 unions-fine [] S = refl
 unions-fine (x ∷ xs) S = fold-fine Proper Proper tested.union unionS union-fine union-proper x xs (S .0) (S .1)
-
--- ---- a weight that is not below zero: it could be zero where its lo is not above zero
-weight-zero : (w : Scalar) → Weighs w → hasZero w ≡ not (lt zeroF (w .lo))
-weight-zero w s = go (lt zeroF (w .lo)) refl
-  where
-    high : T (le zeroF (w .hi))
-    high = meet-le zeroF (w .hi) 0ℚ (zero-holds .low) (above-mono (w .hi) 0ℚ (s .number) (s .from) (s .holds .high))
-
-    go : (z : Bool) → lt zeroF (w .lo) ≡ z → le (w .lo) zeroF && le zeroF (w .hi) ≡ not z
-    go true e = ap (λ (b : Bool). b && le zeroF (w .hi)) (never-le (le (w .lo) zeroF) (λ t. lt-not-le zeroF (w .lo) (subst T (sym e) tt) t))
-      where
-        never-le : (b : Bool) → (T b → ⊥) → b ≡ false
-        never-le true n = absurd (n tt)
-        never-le false n = refl
-    go false e =
-        ap (λ (b : Bool). b && le zeroF (w .hi)) (is-true (le (w .lo) zeroF) (total-order (w .lo) zeroF (below-number (w .lo) (s .number) (s .holds .low)) (below-number zeroF 0ℚ (zero-holds .low)) (subst (λ (b : Bool). T (not b)) (sym e) tt)))
-        ∙ is-true (le zeroF (w .hi)) high
-
-twice-not : (b : Bool) → not (not b) ≡ b
-twice-not true = refl
-twice-not false = refl
 
 -- a divisor that holds zero
 fails : (x y : Scalar) → hasZero y ≡ true → divS x y ≡ Failed
@@ -91,18 +65,9 @@ module _ (dim : ℕ) where
   before-solid [] S = tt
   before-solid (q ∷ qs) S = pick (Every (Solid dim)) (hasZero (coordinate q dim)) [] (q ∷ debug.before dim qs) (λ _. tt) (λ _. (S .0, before-solid qs (S .1)))
 
-  -- the Rust's panic and refusal 11 are one
-  weights-same : (points : List Vector) → Every (Solid dim) points → all (λ q. not (hasZero (coordinate q dim))) points ≡ weighted dim points
-  unfolding all weighted
-  weights-same [] S = refl
-  weights-same (q ∷ qs) S =
-      ap (λ (b : Bool). not b && all (λ q. not (hasZero (coordinate q dim))) qs) (weight-zero (coordinate q dim) (S .0 .weight))
-      ∙ ap (λ (b : Bool). b && all (λ q. not (hasZero (coordinate q dim))) qs) (twice-not (lt zeroF (coordinate q dim .lo)))
-      ∙ ap (λ (b : Bool). lt zeroF (coordinate q dim .lo) && b) (weights-same qs (S .1))
-
-  pub boxed-fine : (points : List Vector) → Every (Solid dim) points → debug.boxed dim points ≡ fine (weighted dim points)
+  pub boxed-fine : (points : List Vector) → Every (Solid dim) points → debug.boxed dim points ≡ fine (weightsPositive dim points)
   unfolding debug.boxed
-  boxed-fine points S = rw (aabb-fine (debug.before dim points) (before-solid points S)) (ap fine (weights-same points S))
+  boxed-fine points S = rw (aabb-fine (debug.before dim points) (before-solid points S)) (ap fine (sym (weights-same dim points S)))
 
   -- ---- the segment
   module _ (e a b : Scalar) (B : Bounded e) (A : Proper a) (C : Proper b) where
@@ -124,13 +89,13 @@ module _ (dim : ℕ) where
     from-hi : Proper (subS (sharp (e .hi)) a)
     from-hi = geop-in-order .sub-proper (sharp (e .hi)) a (known-proper (e .hi) (B .upto)) A
 
-    by-kept : (s t : Divided) → first ≡ s → second ≡ t → Kept Proper (alongBy s t)
+    by-kept : (s t : Divided) → first ≡ s → second ≡ t → OfHat Proper (alongBy s t)
     unfolding alongBy
     by-kept Failed t p q = tt
     by-kept (Value s) Failed p q = tt
     by-kept (Value s) (Value t) p q = union-proper s t (geop-in-order .div-proper (subS (sharp (e .lo)) a) d s from-lo moved p) (geop-in-order .div-proper (subS (sharp (e .hi)) a) d t from-hi moved q)
 
-    along-kept : Kept Proper (along geop e a b)
+    along-kept : OfHat Proper (along geop e a b)
     unfolding along
     along-kept = by-kept first second refl refl
 
@@ -175,7 +140,7 @@ module _ (dim : ℕ) where
         on t S rest true = rw (intersect-fine t range) (rest (intersectS t range) (intersect-proper t range S R))
         on t S rest false = refl
 
-        go : (h : Hat) → Kept Proper h → Rest
+        go : (h : Hat) → OfHat Proper h → Rest
             → _≡_ {A = Tested Bool} (elim h [ Missing ↦ debug.meets dim a b range (suc k) es | Over t ↦ elim (couldBeEqual t range) [ true ↦ (tested.intersect t range >>= λ r. debug.meets dim a b r (suc k) es) | false ↦ fine false ] ])
             (fine (elim h [ Missing ↦ meets geop dim a b range (suc k) es | Over t ↦ elim (couldBeEqual t range) [ true ↦ meets geop dim a b (intersectS t range) (suc k) es | false ↦ false ] ]))
         go Missing S rest = rest range R

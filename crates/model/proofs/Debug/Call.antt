@@ -14,7 +14,7 @@ use Rattle.model.specs.FatLine.{greville}
 use Rattle.model.specs.Subdivide.{Question, dropped, advance, answered}
 use Rattle.model.specs.Contains.{clipped, visit, begun, couldContain}
 use Rattle.model.specs.Layout.{scalarAt, scalarsOf}
-use Rattle.model.specs.Call.{Call, curve, boxOf, question, refusal, searchedBy, searched}
+use Rattle.model.specs.Call.{Call, asPiece, boxOf, question, refusal, searchedBy, searched}
 use Rattle.model.specs.Enclosure.{Doubles, Accepted}
 use Rattle.model.specs.declared.contains.Found.{Found}
 use Rattle.model.specs.declared.contains.Found.the-variants.{Nothing}
@@ -42,13 +42,13 @@ module _ (c : Call) (d : Doubles c) (acc : Accepted c) where
   q = question c
 
   abbrev s : Piece
-  s = curve c
+  s = asPiece (c .curve)
 
   -- ---- a search whose visits fire no test
-  by : (Good : Piece → Type 0) → Good (curve c) → ((r : Piece) → Good r → debug.visit (question c) r ≡ fine (visit geop (question c) r))
-      → ((r : Piece) → Good r → Fine (Told c d acc geop geop-encloses) Good (visit geop (question c) r)) → debug.couldContain (question c) (curve c) ≡ fine (couldContain geop (question c) (curve c))
+  by : (Good : Piece → Type 0) → Good (asPiece (c .curve)) → ((r : Piece) → Good r → debug.visit (question c) r ≡ fine (visit geop (question c) r))
+      → ((r : Piece) → Good r → Fine (Told c d acc geop geop-encloses) Good (visit geop (question c) r)) → debug.couldContain (question c) (asPiece (c .curve)) ≡ fine (couldContain geop (question c) (asPiece (c .curve)))
   unfolding debug.couldContain couldContain
-  by Good w sees fines = rw (door-fine (c .dim) (c .degree) (s .points) (boxOf c) (curve-held c d acc) (asked c d acc .long) (box-bounded c d acc)) (go (couldMeet geop (c .dim) (c .degree) (s .points) (boxOf c)))
+  by Good w sees fines = rw (door-fine (c .curve .dim) (c .curve .degree) (s .points) (boxOf c) (curve-held c d acc) (asked c d acc .long) (box-bounded c d acc)) (go (couldMeet geop (c .curve .dim) (c .curve .degree) (s .points) (boxOf c)))
     where
       go : (z : Bool) → cond z (debug.advance (debug.visit q) (c .nodes) (c .nodes) (begun s) >>= λ t. fine (answered t)) (fine (Nothing 0)) ≡ fine (cond z (answered (advance (visit geop q) (c .nodes) (c .nodes) (begun s))) (Nothing 0))
       go true = rw (advance-fine (visit geop q) (debug.visit q) (c .nodes) (Told c d acc geop geop-encloses) Good (λ _ t. t .1) (told-union c d acc geop geop-encloses) sees fines (c .nodes) (begun s) (record { pieces = (w, tt); inside = tt })) refl
@@ -56,40 +56,40 @@ module _ (c : Call) (d : Doubles c) (acc : Accepted c) where
 
   -- ---- degree 0: every piece is the curve
   flat-out : (p : ℕ) → p ≡ 0
-      → (debug.greville p (length (curve c .points)) (c .knots) >>= λ g. debug.clipped (question c) (curve c) g) ≡ fine (clipped geop (question c) (curve c) (greville geop p (length (curve c .points)) (c .knots)))
+      → (debug.greville p (length (asPiece (c .curve) .points)) (c .curve .knots) >>= λ g. debug.clipped (question c) (asPiece (c .curve)) g) ≡ fine (clipped geop (question c) (asPiece (c .curve)) (greville geop p (length (asPiece (c .curve) .points)) (c .curve .knots)))
   unfolding debug.greville greville debug.clipped clipped
-  flat-out zero e = rw (domain-fine (start (c .degree) s) (end s) (first c d acc) (final c d acc)) refl
+  flat-out zero e = rw (domain-fine (start (c .curve .degree) s) (end s) (first c d acc) (final c d acc)) refl
   flat-out (suc p) e = absurd (omega (arith, e))
 
-  flat-quiet : c .degree ≡ 0 → (r : Piece) → r ≡ curve c → debug.visit (question c) r ≡ fine (visit geop (question c) r)
+  flat-quiet : c .curve .degree ≡ 0 → (r : Piece) → r ≡ asPiece (c .curve) → debug.visit (question c) r ≡ fine (visit geop (question c) r)
   flat-quiet z r e = subst (λ (r : Piece). debug.visit q r ≡ fine (visit geop q r)) (sym e) whole
     where
       whole : debug.visit q s ≡ fine (visit geop q s)
-      whole = unfold debug.visit visit in rw (aabb-fine (c .dim) (s .points) (curve-held c d acc)) (go (couldOverlap (aabb geop (c .dim) (s .points)) (boxOf c)))
+      whole = unfold debug.visit visit in rw (aabb-fine (c .curve .dim) (s .points) (curve-held c d acc)) (go (couldOverlap (aabb geop (c .curve .dim) (s .points)) (boxOf c)))
         where
-          go : (b : Bool) → cond b (debug.greville (c .degree) (length (s .points)) (c .knots) >>= λ g. debug.clipped q s g) (fine dropped) ≡ fine (cond b (clipped geop q s (greville geop (c .degree) (length (s .points)) (c .knots))) dropped)
-          go true = flat-out (c .degree) z
+          go : (b : Bool) → cond b (debug.greville (c .curve .degree) (length (s .points)) (c .curve .knots) >>= λ g. debug.clipped q s g) (fine dropped) ≡ fine (cond b (clipped geop q s (greville geop (c .curve .degree) (length (s .points)) (c .curve .knots))) dropped)
+          go true = flat-out (c .curve .degree) z
           go false = refl
 
   -- ---- the search
-  quiet : debug.couldContain (question c) (curve c) ≡ fine (couldContain geop (question c) (curve c))
-  quiet = go (c .degree) refl
+  quiet : debug.couldContain (question c) (asPiece (c .curve)) ≡ fine (couldContain geop (question c) (asPiece (c .curve)))
+  quiet = go (c .curve .degree) refl
     where
-      go : (m : ℕ) → c .degree ≡ m → debug.couldContain (question c) (curve c) ≡ fine (couldContain geop (question c) (curve c))
-      go zero e = by (λ r. r ≡ curve c) refl (flat-quiet e) (flat-fine c d acc geop geop-encloses (Told c d acc geop geop-encloses) (whole-told c d acc geop geop-encloses) e)
+      go : (m : ℕ) → c .curve .degree ≡ m → debug.couldContain (question c) (asPiece (c .curve)) ≡ fine (couldContain geop (question c) (asPiece (c .curve)))
+      go zero e = by (λ r. r ≡ asPiece (c .curve)) refl (flat-quiet e) (flat-fine c d acc geop geop-encloses (Told c d acc geop geop-encloses) (whole-told c d acc geop geop-encloses) e)
       go (suc m) e =
-          let a = value (start (c .degree) s) in
+          let a = value (start (c .curve .degree) s) in
           let b = value (end s) in
-          by (Well (c .dim) (c .degree) (c .count) a b) (whole-ok c d acc (omega (arith, e)), curve-held c d acc) (λ r W. visit-quiet q (asked c d acc) (resolution-number c d acc) r (W .0 .knots) (W .1) (W .0 .weights))
-          (visit-well geop geop-encloses q (asked c d acc) (c .count) a b)
+          by (Well (c .curve .dim) (c .curve .degree) (c .curve .count) a b) (whole-ok c d acc (omega (arith, e)), curve-held c d acc) (λ r W. visit-quiet q (asked c d acc) (resolution-number c d acc) r (W .0 .knots) (W .1) (W .0 .weights))
+          (visit-well geop geop-encloses q (asked c d acc) (c .curve .count) a b)
 
   -- what is lent comes first
   accepted : debug.searchedBy c 0 ≡ fine (searchedBy geop c 0)
   unfolding debug.searchedBy searchedBy
   accepted = rw (
-    map-fine Proper (λ x. tested.formed (x .lo) (x .hi)) (λ x. x) proper-fine (scalarsOf (suc (c .dim) * c .count) (c .points)) (every-tab Proper (suc (c .dim) * c .count) (λ j. scalarAt (c .points) j) (point-proper c d acc)),
+    map-fine Proper (λ x. tested.formed (x .lo) (x .hi)) (λ x. x) proper-fine (scalarsOf (suc (c .curve .dim) * c .curve .count) (c .curve .points)) (every-tab Proper (suc (c .curve .dim) * c .curve .count) (λ j. scalarAt (c .curve .points) j) (point-proper c d acc)),
     map-fine Proper (λ x. tested.formed (x .lo) (x .hi)) (λ x. x) proper-fine (boxOf c) (asked c d acc .box),
-    map-fine Known tested.sharp (λ x. sharp x) known-fine (c .knots) (every-of Known (c .knots) nan (checked c d acc .known)),
+    map-fine Known tested.sharp (λ x. sharp x) known-fine (c .curve .knots) (every-of Known (c .curve .knots) nan (checked c d acc .known)),
     sharp-fine (c .resolution) (resolution-number c d acc),
   ) quiet
 

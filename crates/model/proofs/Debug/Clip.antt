@@ -28,7 +28,7 @@ use Rattle.model.specs.Tested.{Tested, fine, _>>=_}
 use Rattle.model.specs.Debug as debug
 use Rattle.model.proofs.Every.{every-zip}
 use Rattle.model.proofs.Sound.Base.{Known}
-use Rattle.model.proofs.Sound.Visit.Keeps.{Kept}
+use Rattle.model.proofs.Sound.Visit.Keeps.{OfHat}
 use Rattle.model.proofs.Sound.Visit.Weights.{weight-clear}
 use Rattle.model.proofs.Proper.Blend.{coordinate-proper, known-proper}
 use Rattle.model.proofs.Proper.Clip.{Given, Polygon, Weighty, degree-proper, sum-proper, total-proper, window-known, first-x, first-d, last-x, last-d, rises, runs, slope, far, clear, climb, chord, offset-proper, band-proper, reach-proper, zeros-proper, narrowed-proper, times-proper, polygon}
@@ -162,7 +162,7 @@ module _ (dim : ℕ) (points : List Vector) (S : Every (Weighty dim) points) whe
       rw (axis-fine k e (omega arith) (B .0), zeros-fine ξs ds P, narrowed-fine hat (fatLineZeros geop ξs ds))
       (go (narrowed hat (fatLineZeros geop ξs ds)) (narrowed-proper geop geop-encloses hat (fatLineZeros geop ξs ds) h (zeros-proper geop geop-encloses ξs ds P)) (λ g p. clip-fine ξs G some-p es (suc k) g (omega arith) (B .1) p))
     where
-      go : (z : Hat) → Kept Proper z → ((g : Scalar) → Proper g → debug.clip dim points ξs g (suc k) es ≡ fine (clip geop dim points ξs g (suc k) es))
+      go : (z : Hat) → OfHat Proper z → ((g : Scalar) → Proper g → debug.clip dim points ξs g (suc k) es ≡ fine (clip geop dim points ξs g (suc k) es))
           → _≡_ {A = Tested Hat} (elim z [ Missing ↦ fine Missing | Over h ↦ debug.clip dim points ξs h (suc k) es ]) (fine (elim z [ Missing ↦ Missing | Over h ↦ clip geop dim points ξs h (suc k) es ]))
       go Missing y rest = refl
       go (Over g) y rest = rest g y

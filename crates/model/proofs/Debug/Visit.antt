@@ -12,7 +12,7 @@ use Rattle.math.specs.declared.scalars.Scalar.{Scalar}
 use Rattle.math.specs.Scalars.{geop}
 use Rattle.math.proofs.Doubles.Order.{number, le-number-r}
 use Rattle.math.proofs.Intervals.Instance.{geop-encloses}
-use Rattle.model.specs.NurbCurve.{Piece, start, end, domain, weighted}
+use Rattle.model.specs.NurbCurve.{Piece, start, end, domain, weightsPositive}
 use Rattle.model.specs.Split.{Halves, uncut, both, splitMid, Restricted, restrict}
 use Rattle.model.specs.Aabb.{aabb, couldOverlap}
 use Rattle.model.specs.FatLine.{greville, extent, restricts, halves}
@@ -42,13 +42,13 @@ on-fine dim r S = rw (boxed-fine dim (r .piece .points) S) refl
 both-fine : (dim : ℕ) (hat : Scalar) (s : Halves) → Both (λ l r. Held dim l × Held dim r) s → debug.handBoth dim hat s ≡ fine (handBoth dim hat s)
 unfolding debug.handBoth handBoth
 both-fine dim hat uncut S = refl
-both-fine dim hat (both l r) S = rw (boxed-fine dim (l .points) (S .0), boxed-fine dim (r .points) (S .1)) (go (weighted dim (l .points)))
+both-fine dim hat (both l r) S = rw (boxed-fine dim (l .points) (S .0), boxed-fine dim (r .points) (S .1)) (go (weightsPositive dim (l .points)))
   where
-    go : (z : Bool) → cond z (fine (cond (weighted dim (r .points)) (halved l r) badWeight)) (fine badWeight) ≡ fine (cond (z && weighted dim (r .points)) (halved l r) badWeight)
+    go : (z : Bool) → cond z (fine (cond (weightsPositive dim (r .points)) (halved l r) badWeight)) (fine badWeight) ≡ fine (cond (z && weightsPositive dim (r .points)) (halved l r) badWeight)
     go true = refl
     go false = refl
 
-module _ (q : Question) (Q : Asked q) (R : T (number (q .resolution))) (c : Piece) (K : Knots (q .degree) (length (c .points)) (c .knots)) (S : Held (q .dim) c) (w : T (weighted (q .dim) (c .points))) where
+module _ (q : Question) (Q : Asked q) (R : T (number (q .resolution))) (c : Piece) (K : Knots (q .degree) (length (c .points)) (c .knots)) (S : Held (q .dim) c) (w : T (weightsPositive (q .dim) (c .points))) where
   abbrev dim : ℕ
   dim = q .dim
 

@@ -8,7 +8,8 @@ use lib.Dec.{T}
 use lib.ListN.{length}
 use lib.Ieee.{Float, eq}
 use Rattle.exact.specs.Rational.{ℚ, 0ℚ, 1ℚ, lerp, ratio, _≤ℚ_, _<ℚ_, lt→not-le, not-le→lt}
-use Rattle.exact.proofs.Order.{le-refl, le-antisym, lt→le, lt-le-trans, lerp-ge, ratio-ge, ratio-le}
+use Rattle.exact.proofs.Order.{le-refl, le-antisym, lt→le, lt-le-trans, ratio-ge, ratio-le}
+use Rattle.exact.proofs.Splines.Hull.{lerp-pos}
 use Rattle.lists.proofs.Each.{getD-zip, length-zip}
 use Rattle.math.specs.declared.scalars.Scalar.{Scalar}
 use Rattle.math.specs.declared.scalars.Divided.{Divided}
@@ -25,18 +26,13 @@ use Rattle.model.specs.Vector.{Vector, coordinate, interpolateV}
 use Rattle.model.specs.NurbCurve.{knot}
 use Rattle.model.specs.KnotInsertion.{alpha, blend}
 use Rattle.model.specs.Enclosure.{Every}
+use Rattle.model.specs.Weights.{Weighs}
 use Rattle.model.proofs.Sound.Base.{Known}
 use Rattle.model.proofs.Sound.Known.{sharp-known, eq-known, known-eq}
 use Rattle.model.proofs.Sound.Blend.{row, succeeds, fraction-holds, value-of}
 use Rattle.model.proofs.Every.{every-at, every-zip}
 
--- an interval that holds a number which is not below zero
-pub record Weighs (s : Scalar) : Type 0 where
-  pub number : ℚ
-  pub from : 0ℚ ≤ℚ number
-  pub holds : Holds s number
-
--- a point of dim coordinates and a weight, which are in order; the weight is not below zero
+-- a point of dim coordinates and a weight, which are in order; the weight holds one above zero
 pub record Solid (dim : ℕ) (q : Vector) : Type 0 where
   pub long : length q ≡ suc dim
   pub all : Every Proper q
@@ -71,7 +67,7 @@ module _ (ar : Arithmetic) (E : Encloses ar) where
     all = every-zip Proper Proper Proper (λ x y. interpolateS ar x y α) (λ x y X Y. interpolate-proper ar E x y α X Y (gentle-proper α g) (g .tame x y)) a b (A .all) (B .all);
     weight = subst Weighs (sym (getD-zip (λ x y. interpolateS ar x y α) a b dim absent absent absent (omega (arith, A .long)) (omega (arith, B .long)))) (record {
       number = lerp (g .number) (A .weight .number) (B .weight .number);
-      from = lerp-ge (g .from) (g .upto) (A .weight .from) (B .weight .from);
+      above = lerp-pos (g .number) (A .weight .number) (B .weight .number) (g .from) (g .upto) (A .weight .above) (B .weight .above);
       holds = interpolate-holds ar E (coordinate a dim) (coordinate b dim) α (g .number) (A .weight .number) (B .weight .number) (g .tame (coordinate a dim) (coordinate b dim)) (g .holds) (A .weight .holds) (B .weight .holds);
     });
   }

@@ -29,7 +29,7 @@ use Rattle.model.specs.declared.fat_line.Hat.{Hat}
 use Rattle.model.specs.declared.fat_line.Hat.the-variants.{Over, Missing}
 use Rattle.model.proofs.Sound.Base.{Known}
 use Rattle.model.proofs.Sound.Visit.Greville.{whole-holds}
-use Rattle.model.proofs.Sound.Visit.Keeps.{Kept, kept-if, kept-or, clip-keeps}
+use Rattle.model.proofs.Sound.Visit.Keeps.{OfHat, of-hat-if, of-hat-or, clip-keeps}
 use Rattle.model.proofs.Sound.Visit.Weights.{Heavy, weight-clear}
 use Rattle.model.proofs.Every.{every-at, every-take, every-drop, every-tab, every-map, every-zip, fold-keeps}
 use Rattle.model.proofs.Proper.Blend.{Solid, coordinate-proper, known-proper}
@@ -153,25 +153,25 @@ module _ (ar : Arithmetic) (E : Encloses ar) where
       pub reach-proper : Proper (ar .add (getD ds 0 absent) (unions (zipWith (λ x y. offset ar s (getD ξs 0 absent) (getD ds 0 absent) x y) ξs ds)))
       reach-proper = o .add-proper d₀ (unions offs) first-d band-proper
 
-      crossing-proper : (q : Divided) → ar .div (ar .add (getD ds 0 absent) (unions offs)) s ≡ q → Kept Proper (crossing ar (getD ξs 0 absent) q)
+      crossing-proper : (q : Divided) → ar .div (ar .add (getD ds 0 absent) (unions offs)) s ≡ q → OfHat Proper (crossing ar (getD ξs 0 absent) q)
       unfolding crossing
       crossing-proper (Value q) e = o .sub-proper ξ₀ q first-x (o .div-proper (ar .add d₀ (unions offs)) s q reach-proper slope e)
       crossing-proper Failed e = entire-proper
 
     -- THE FAT LINE
-    pub zeros-proper : Kept Proper (fatLineZeros ar ξs ds)
+    pub zeros-proper : OfHat Proper (fatLineZeros ar ξs ds)
     unfolding fatLineZeros zerosBy
     zeros-proper = go (ar .div rise run) refl
       where
-        go : (r : Divided) → ar .div rise run ≡ r → Kept Proper (zerosBy ar ξs ds ξ₀ d₀ r)
-        go (Value s) e = kept-or Proper (couldBeEqual (ar .add (unionS d₀ (lastD ds absent)) (unions (offs s e))) ZERO) _ (crossing-proper s e (ar .div (ar .add d₀ (unions (offs s e))) s) refl)
-        go Failed e = kept-if Proper (couldBeEqual (unions ds) ZERO) ENTIRE (λ _. entire-proper)
+        go : (r : Divided) → ar .div rise run ≡ r → OfHat Proper (zerosBy ar ξs ds ξ₀ d₀ r)
+        go (Value s) e = of-hat-or Proper (couldBeEqual (ar .add (unionS d₀ (lastD ds absent)) (unions (offs s e))) ZERO) _ (crossing-proper s e (ar .div (ar .add d₀ (unions (offs s e))) s) refl)
+        go Failed e = of-hat-if Proper (couldBeEqual (unions ds) ZERO) ENTIRE (λ _. entire-proper)
 
   -- ---- the clip
-  pub narrowed-proper : (hat : Scalar) (z : Hat) → Proper hat → Kept Proper z → Kept Proper (narrowed hat z)
+  pub narrowed-proper : (hat : Scalar) (z : Hat) → Proper hat → OfHat Proper z → OfHat Proper (narrowed hat z)
   unfolding narrowed
   narrowed-proper hat Missing h k = tt
-  narrowed-proper hat (Over z) h k = kept-if Proper (couldBeEqual z hat) (intersectS hat z) (λ _. intersect-proper hat z h k)
+  narrowed-proper hat (Over z) h k = of-hat-if Proper (couldBeEqual z hat) (intersectS hat z) (λ _. intersect-proper hat z h k)
 
   module _ (dim : ℕ) (points : List Vector) (S : Every (Weighty dim) points) where
     -- one axis
@@ -192,10 +192,10 @@ module _ (ar : Arithmetic) (E : Encloses ar) where
       }
 
     -- THE CLIP
-    pub clip-proper : (ξs : List Scalar) → Given (length points) ξs → 0 < length points → (es : List Scalar) (hat : Scalar) → length es ≤ dim → Every Proper es → Proper hat → Kept Proper (clip ar dim points ξs hat 0 es)
+    pub clip-proper : (ξs : List Scalar) → Given (length points) ξs → 0 < length points → (es : List Scalar) (hat : Scalar) → length es ≤ dim → Every Proper es → Proper hat → OfHat Proper (clip ar dim points ξs hat 0 es)
     clip-proper ξs G some-p es hat l B h = clip-keeps ar dim points ξs Proper (λ k e. (k < dim) × Proper e) step es 0 hat at h
       where
-        step : (k : ℕ) (e hat : Scalar) → (k < dim) × Proper e → Proper hat → Kept Proper (narrowed hat (fatLineZeros ar ξs (axis ar dim k e points)))
+        step : (k : ℕ) (e hat : Scalar) → (k < dim) × Proper e → Proper hat → OfHat Proper (narrowed hat (fatLineZeros ar ξs (axis ar dim k e points)))
         step k e hat y h = narrowed-proper hat _ h (zeros-proper ξs (axis ar dim k e points) (polygon k e (y .0) (y .1) ξs G some-p))
 
         at : (j : ℕ) → j < length es → (0 + j < dim) × Proper (getD es j absent)

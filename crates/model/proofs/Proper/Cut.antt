@@ -55,7 +55,7 @@ module _ (p : ℕ) (x : Float) (c : Piece) (K : Knots p (length (c .points)) (c 
     before-b = subst (λ (z : ℕ). value x <ℚ values (c .knots) z) full (i .upto)
 
 -- a row of the triangle: it has points, and they are in order
-pub record Row (dim : ℕ) (row : List Vector) : Type 0 where
+pub record RowSolid (dim : ℕ) (row : List Vector) : Type 0 where
   pub some : 0 < length row
   pub each : Every (Solid dim) row
 
@@ -67,17 +67,17 @@ module _ (ar : Arithmetic) (E : Encloses ar) (dim : ℕ) where
     level-solid [] S = tt
     level-solid (q ∷ qs) S = every-zip (Solid dim) (Solid dim) (Solid dim) (λ a b. interpolateV ar a b α) (λ a b A B. vector-solid ar E α g dim a b A B) (q ∷ qs) qs S (S .1)
 
-    triangle-rows : (n : ℕ) (row : List Vector) → n ≤ length row → Every (Solid dim) row → Every (Row dim) (triangle ar α n row)
+    triangle-rows : (n : ℕ) (row : List Vector) → n ≤ length row → Every (Solid dim) row → Every (RowSolid dim) (triangle ar α n row)
     unfolding triangle
     triangle-rows zero row h S = tt
     triangle-rows (suc n) row h S = (record { some = omega arith; each = S }, triangle-rows n (level ar α row) (omega (arith, length-level ar α row)) (level-solid row S))
 
-    sides-solid : (rows : List (List Vector)) → Every (Row dim) rows → Every (Solid dim) (sides rows)
+    sides-solid : (rows : List (List Vector)) → Every (RowSolid dim) rows → Every (Solid dim) (sides rows)
     unfolding sides
     sides-solid rows F = every-append (Solid dim) (map (λ row. getD row 0 []) rows) (reverse (map (λ row. lastD row []) rows))
-        (every-map (Row dim) (Solid dim) (λ row. getD row 0 []) (λ row f. every-at (Solid dim) row 0 [] (f .each) (f .some)) rows F)
+        (every-map (RowSolid dim) (Solid dim) (λ row. getD row 0 []) (λ row f. every-at (Solid dim) row 0 [] (f .each) (f .some)) rows F)
         (every-reverse (Solid dim) (map (λ row. lastD row []) rows)
-        (every-map (Row dim) (Solid dim) (λ row. lastD row []) (λ row f. every-at (Solid dim) row (length row - 1) [] (f .each) (omega (arith, f .some))) rows F))
+        (every-map (RowSolid dim) (Solid dim) (λ row. lastD row []) (λ row f. every-at (Solid dim) row (length row - 1) [] (f .each) (omega (arith, f .some))) rows F))
 
     bezier-solid : (p : ℕ) (x : Float) (c : Piece) → length (c .points) ≡ suc p → Every (Solid dim) (c .points) → Every (Solid dim) (bezierCut ar p x α c .piece .points)
     unfolding bezierCut

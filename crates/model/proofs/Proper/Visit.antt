@@ -17,7 +17,7 @@ use Rattle.math.specs.Encloses.{Encloses}
 use Rattle.math.proofs.Bools.{and-l, and-r, pick}
 use Rattle.math.proofs.Intervals.Proper.{union-proper}
 use Rattle.model.specs.Vector.{Vector, coordinate}
-use Rattle.model.specs.NurbCurve.{Piece, start, end, domain, weighted}
+use Rattle.model.specs.NurbCurve.{Piece, start, end, domain, weightsPositive}
 use Rattle.model.specs.Split.{Halves, uncut, both, splitMid, Restricted, restrict}
 use Rattle.model.specs.Aabb.{aabb, couldOverlap}
 use Rattle.model.specs.FatLine.{greville}
@@ -30,7 +30,7 @@ use Rattle.model.proofs.Sound.Base.{Known, Knots}
 use Rattle.model.proofs.Sound.Restrict.{Both}
 use Rattle.model.proofs.Sound.Search.{Fine, fine-both}
 use Rattle.model.proofs.Sound.Visits.{Ok, Inner, choices, visit-fine}
-use Rattle.model.proofs.Sound.Visit.Keeps.{Kept}
+use Rattle.model.proofs.Sound.Visit.Keeps.{OfHat}
 use Rattle.model.proofs.Sound.Visit.Within.{Within, clip-within, start-known, end-known}
 use Rattle.model.proofs.Every.{every-of}
 use Rattle.model.proofs.Proper.Blend.{Solid, known-proper}
@@ -53,8 +53,8 @@ module _ (p : ℕ) (c : Piece) (K : Knots p (length (c .points)) (c .knots)) whe
   whole-proper = domain-proper (start p c) (end c) (start-known p c K) (end-known p c K)
 
 -- points in order whose weights are above zero
-pub weighty : (dim : ℕ) (points : List Vector) → Every (Solid dim) points → T (weighted dim points) → Every (Weighty dim) points
-unfolding weighted all
+pub weighty : (dim : ℕ) (points : List Vector) → Every (Solid dim) points → T (weightsPositive dim points) → Every (Weighty dim) points
+unfolding weightsPositive all
 weighty dim [] S w = tt
 weighty dim (q ∷ qs) S w = (
   record { solid = S .0; heavy = and-l (lt zeroF (coordinate q dim .lo)) (all (λ q. lt zeroF (coordinate q dim .lo)) qs) w },
@@ -85,14 +85,14 @@ module _ (ar : Arithmetic) (E : Encloses ar) (q : Question) (Q : Asked q) where
   -- ---- what is handed on
   on-held : (r : Restricted) → Held (q .dim) (r .piece) → Fine Proper (Held (q .dim)) (handOn (q .dim) r)
   unfolding handOn
-  on-held r S = pick (Fine Proper (Held dim)) (weighted dim (r .piece .points)) (restricted (r .cuts) (r .piece)) badWeight (λ _. S) (λ _. tt)
+  on-held r S = pick (Fine Proper (Held dim)) (weightsPositive dim (r .piece .points)) (restricted (r .cuts) (r .piece)) badWeight (λ _. S) (λ _. tt)
 
   both-held : (hat : Scalar) (s : Halves) → Proper hat → Both (λ l r. Held (q .dim) l × Held (q .dim) r) s → Fine Proper (Held (q .dim)) (handBoth (q .dim) hat s)
   unfolding handBoth
   both-held hat uncut h S = h
-  both-held hat (both l r) h S = pick (Fine Proper (Held dim)) (weighted dim (l .points) && weighted dim (r .points)) (halved l r) badWeight (λ _. S) (λ _. tt)
+  both-held hat (both l r) h S = pick (Fine Proper (Held dim)) (weightsPositive dim (l .points) && weightsPositive dim (r .points)) (halved l r) badWeight (λ _. S) (λ _. tt)
 
-  module _ (c : Piece) (K : Knots (q .degree) (length (c .points)) (c .knots)) (S : Held (q .dim) c) (w : T (weighted (q .dim) (c .points))) where
+  module _ (c : Piece) (K : Knots (q .degree) (length (c .points)) (c .knots)) (S : Held (q .dim) c) (w : T (weightsPositive (q .dim) (c .points))) where
     abbrev a : Float
     a = start (q .degree) c
 
@@ -105,12 +105,12 @@ module _ (ar : Arithmetic) (E : Encloses ar) (q : Question) (Q : Asked q) where
         (on-held (restrict ar p (hat .lo) (hat .hi) c) (restrict-solid ar E dim p c K S (hat .lo) (hat .hi) (at .double-lo) (at .double-hi)))
         (both-held hat (splitMid ar p c) h (split-solid ar E dim p c K S)) h
 
-    shrink-held : (z : Hat) → Kept Proper z → ((hat : Scalar) → z ≡ Over hat → Within (start (q .degree) c) (end c) hat) → Fine Proper (Held (q .dim)) (shrink ar q c z)
+    shrink-held : (z : Hat) → OfHat Proper z → ((hat : Scalar) → z ≡ Over hat → Within (start (q .degree) c) (end c) hat) → Fine Proper (Held (q .dim)) (shrink ar q c z)
     shrink-held Missing h at = unfold shrink in tt
     shrink-held (Over hat) h at = hat-held hat h (at hat refl)
 
     -- ---- its hat
-    hat-proper : (ξs : List Scalar) → Given (length (c .points)) ξs → Kept Proper (clip ar (q .dim) (c .points) ξs (domain (start (q .degree) c) (end c)) 0 (q .box))
+    hat-proper : (ξs : List Scalar) → Given (length (c .points)) ξs → OfHat Proper (clip ar (q .dim) (c .points) ξs (domain (start (q .degree) c) (end c)) 0 (q .box))
     hat-proper ξs G = clip-proper ar E dim (c .points) (weighty dim (c .points) S w) ξs G (some-points p c K) (q .box) (domain a b) (omega (arith, Q .long)) (Q .box) (whole-proper p c K)
 
     clipped-held : (g : Option (List Scalar)) → Givens (length (c .points)) g → Fine Proper (Held (q .dim)) (clipped ar q c g)

@@ -20,10 +20,10 @@ use Rattle.lists.specs.Lists.{all, count}
 use Rattle.lists.proofs.Fold.{all-getD}
 use Rattle.math.specs.Scalars.{zeroF}
 use Rattle.math.proofs.Bools.{and-l, and-r, and-i, or-l, or-r, or-split}
-use Rattle.model.specs.NurbCurve.{knot, weighted}
-use Rattle.model.specs.Call.{Call, AllDoubles, curve, dimFits, degreeFits, countFits, lengthsFit, usable, numbersUsable, weightsAbove, rising, seldom, sound, knotsSound, nodesFit, stated, areaFits, checks, refusal}
-use Rattle.model.specs.Enclosure.{Doubles, Every}
-use Rattle.model.proofs.Checks.{passed}
+use Rattle.model.specs.NurbCurve.{knot, weightsPositive}
+use Rattle.model.specs.Call.{Curve, Call, AllDoubles, asPiece, lengthsFit, usable, numbersUsable, weightsFit, rising, multiplicityOk, knotsValid, knotsFit, nodesFit, stated, areaFits, refusal}
+use Rattle.model.specs.Enclosure.{Doubles}
+use Rattle.model.proofs.Checks.{SmallSizes, small-sizes, CurvePasses, CallPasses, call-passes, curve-accepted, sizes-accepted}
 use Rattle.model.proofs.Sound.Base.{values, Known}
 use Rattle.model.proofs.Sound.Known.{lt-known, eq-known, known-eq, lt-value, le-value}
 use Rattle.model.proofs.Sound.Boehm.{counted}
@@ -47,16 +47,16 @@ occurs u v (suc k) = go (eq-dec (u k) v) (occurs u v k)
     go (no h) (inl e) = inl (ap (λ (b : Bool). choose b (suc (tally u v k)) (tally u v k)) (eqℚ-no (u k) v h) ∙ e)
     go (no h) (inr z) = inr (z .0, (omega (arith, z .1 .0), z .1 .1))
 
-module _ (p n : ℕ) (ks : List Float) (long : length ks ≡ suc (n + p)) (room : p < n) (known : (i : ℕ) → i < length ks → Known (knot ks i)) (ok : T (sound p n ks)) where
+module _ (p n : ℕ) (ks : List Float) (long : length ks ≡ suc (n + p)) (room : p < n) (known : (i : ℕ) → i < length ks → Known (knot ks i)) (ok : T (knotsValid p n ks)) where
   abbrev a : Float
   a = getD ks p nan
 
   abbrev b : Float
   b = getD ks n nan
 
-  parts : T (rising ks) × (T (lt (getD ks p nan) (getD ks n nan)) × T (all (λ u. seldom p (getD ks p nan) (getD ks n nan) ks u) ks))
-  unfolding sound
-  parts = let h = and-l (rising ks && lt a b) (all (λ u. seldom p a b ks u) ks) ok in (and-l (rising ks) (lt a b) h, (and-r (rising ks) (lt a b) h, and-r (rising ks && lt a b) (all (λ u. seldom p a b ks u) ks) ok))
+  parts : T (rising ks) × (T (lt (getD ks p nan) (getD ks n nan)) × T (all (λ u. multiplicityOk p (getD ks p nan) (getD ks n nan) ks u) ks))
+  unfolding knotsValid
+  parts = let h = and-l (rising ks && lt a b) (all (λ u. multiplicityOk p a b ks u) ks) ok in (and-l (rising ks) (lt a b) h, (and-r (rising ks) (lt a b) h, and-r (rising ks && lt a b) (all (λ u. multiplicityOk p a b ks u) ks) ok))
 
   pub sorted : Sorted (values ks) (n + p)
   sorted = sorted-steps (values ks) (n + p) (λ i h. le-value (knot ks i) (knot ks (suc i)) (known i (omega arith)) (known (suc i) (omega arith)) (rises ks i (parts .0) (omega arith)))
@@ -64,12 +64,12 @@ module _ (p n : ℕ) (ks : List Float) (long : length ks ≡ suc (n + p)) (room 
   pub wide : values ks p <ℚ values ks n
   wide = lt-value a b (known p (omega arith)) (known n (omega arith)) (parts .1 .0)
 
-  -- a knot's value occurs as seldom as it has to
-  rare : (i : ℕ) → i < length ks → T (seldom p (getD ks p nan) (getD ks n nan) ks (knot ks i))
-  rare i h = subst T (sym (all-getD (λ u. seldom p a b ks u) ks i nan (is-true _ (parts .1 .1)) h)) tt
+  -- a knot's value occurs as multiplicityOk as it has to
+  rare : (i : ℕ) → i < length ks → T (multiplicityOk p (getD ks p nan) (getD ks n nan) ks (knot ks i))
+  rare i h = subst T (sym (all-getD (λ u. multiplicityOk p a b ks u) ks i nan (is-true _ (parts .1 .1)) h)) tt
 
   end-rare : (i : ℕ) → i < length ks → T (eq (knot ks i) (getD ks p nan) || eq (knot ks i) (getD ks n nan)) → tally (values ks) (values ks i) (suc (n + p)) ≤ suc p
-  unfolding seldom
+  unfolding multiplicityOk
   end-rare i h e =
       subst (λ (k : ℕ). k ≤ suc p) (counted ks (knot ks i) (known i h) known ∙ ap (tally (values ks) (values ks i)) long) (go (eq (knot ks i) a || eq (knot ks i) b) e (rare i h))
     where
@@ -81,7 +81,7 @@ module _ (p n : ℕ) (ks : List Float) (long : length ks ≡ suc (n + p)) (room 
       go false y t = absurd y
 
   inner-rare : 1 ≤ p → (i : ℕ) → i < length ks → values ks p <ℚ values ks i → values ks i <ℚ values ks n → tally (values ks) (values ks i) (suc (n + p)) ≤ p
-  unfolding seldom
+  unfolding multiplicityOk
   inner-rare one i h ai ib =
       subst (λ (k : ℕ). k ≤ p) (counted ks (knot ks i) (known i h) known ∙ ap (tally (values ks) (values ks i)) long)
       (go (eq (knot ks i) a || eq (knot ks i) b) none-of (lt a (knot ks i) && lt (knot ks i) b) between (rare i h))
@@ -120,86 +120,86 @@ module _ (p n : ℕ) (ks : List Float) (long : length ks ≡ suc (n + p)) (room 
 
 -- Its sizes.
 pub record Sizes (c : Call) : Type 0 where
-  pub dim : c .dim ≤ 3
-  pub degree : c .degree ≤ 7
-  pub room : c .degree < c .count
-  pub count : c .count ≤ 32
-  pub knots : length (c .knots) ≡ c .count + c .degree + 1
-  pub points : length (c .points) ≡ 2 * suc (c .dim) * c .count
-  pub box : length (c .box) ≡ 2 * c .dim
+  pub dim : c .curve .dim ≤ 3
+  pub degree : c .curve .degree ≤ 7
+  pub room : c .curve .degree < c .curve .count
+  pub count : c .curve .count ≤ 32
+  pub knots : length (c .curve .knots) ≡ c .curve .count + c .curve .degree + 1
+  pub points : length (c .curve .points) ≡ 2 * suc (c .curve .dim) * c .curve .count
+  pub box : length (c .box) ≡ 2 * c .curve .dim
   pub nodes : c .nodes ≤ 4096
-  pub area : stated c ≤ c .room
-
-dim-least : (d : ℕ) → T (eqb d 2 || eqb d 3) → d ≤ 3
-dim-least d t = elim (or-split (eqb d 2) (eqb d 3) t) [ inl e ↦ omega (arith, eqb→eq d 2 e) | inr e ↦ omega (arith, eqb→eq d 3 e) ]
+  pub area : stated c ≤ c .workLen
 
 pub sizes : (c : Call) → refusal c ≡ 0 → Sizes c
-unfolding refusal dimFits degreeFits countFits lengthsFit nodesFit areaFits
+unfolding lengthsFit nodesFit areaFits
 sizes c e = record {
-  dim = dim-least (c .dim) (h .0);
-  degree = leb→le (c .degree) 7 (h .1 .0);
-  room = omega (arith, leb→le (c .degree + 1) (c .count) (and-l (leb (c .degree + 1) (c .count)) (leb (c .count) 32) (h .1 .1 .0)));
-  count = leb→le (c .count) 32 (and-r (leb (c .degree + 1) (c .count)) (leb (c .count) 32) (h .1 .1 .0));
-  knots = eqb→eq (length (c .knots)) (c .count + c .degree + 1) (and-l KL PL (and-l (KL && PL) BL lengths));
-  points = eqb→eq (length (c .points)) (2 * suc (c .dim) * c .count) (and-r KL PL (and-l (KL && PL) BL lengths));
-  box = eqb→eq (length (c .box)) (2 * c .dim) (and-r (KL && PL) BL lengths);
-  nodes = leb→le (c .nodes) 4096 (h .1 .1 .1 .1 .1 .1 .1 .1 .0);
-  area = leb→le (stated c) (c .room) (h .1 .1 .1 .1 .1 .1 .1 .1 .1 .0);
+  dim = k .dim;
+  degree = k .degree;
+  room = k .room;
+  count = k .count;
+  knots = eqb→eq (length (v .knots)) (v .count + v .degree + 1) (and-l KL PL (and-l (KL && PL) BL (h .curve .lengths)));
+  points = eqb→eq (length (v .points)) (2 * suc (v .dim) * v .count) (and-r KL PL (and-l (KL && PL) BL (h .curve .lengths)));
+  box = eqb→eq (length (c .box)) (2 * v .dim) (and-r (KL && PL) BL (h .curve .lengths));
+  nodes = leb→le (c .nodes) 4096 (h .nodes);
+  area = leb→le (stated c) (c .workLen) (h .area);
 }
   where
-    h : Every (λ check. T (check c)) checks
-    h = passed c 0 checks e
+    h : CallPasses c
+    h = call-passes c e
+
+    k : SmallSizes (c .curve .dim) (c .curve .degree) (c .curve .count)
+    k = small-sizes _ _ _ (sizes-accepted _ _ _ _ (curve-accepted c e))
+
+    v : Curve
+    v = c .curve
 
     KL : Bool
-    KL = eqb (length (c .knots)) (c .count + c .degree + 1)
+    KL = eqb (length (c .curve .knots)) (c .curve .count + c .curve .degree + 1)
 
     PL : Bool
-    PL = eqb (length (c .points)) (2 * suc (c .dim) * c .count)
+    PL = eqb (length (c .curve .points)) (2 * suc (c .curve .dim) * c .curve .count)
 
     BL : Bool
-    BL = eqb (length (c .box)) (2 * c .dim)
-
-    lengths : T (eqb (length (c .knots)) (c .count + c .degree + 1) && eqb (length (c .points)) (2 * suc (c .dim) * c .count) && eqb (length (c .box)) (2 * c .dim))
-    lengths = h .1 .1 .1 .0
+    BL = eqb (length (c .box)) (2 * c .curve .dim)
 
 -- Its numbers.
 pub record Checked (c : Call) : Type 0 where
-  pub low-degree : c .degree ≤ 7
-  pub room : c .degree < c .count
-  pub long : length (c .knots) ≡ suc (c .count + c .degree)
-  pub box-long : length (c .box) ≡ 2 * c .dim
-  pub known : (i : ℕ) → i < length (c .knots) → Known (getD (c .knots) i nan)
+  pub low-degree : c .curve .degree ≤ 7
+  pub room : c .curve .degree < c .curve .count
+  pub long : length (c .curve .knots) ≡ suc (c .curve .count + c .curve .degree)
+  pub box-long : length (c .box) ≡ 2 * c .curve .dim
+  pub known : (i : ℕ) → i < length (c .curve .knots) → Known (getD (c .curve .knots) i nan)
   pub box-known : (i : ℕ) → i < length (c .box) → Known (getD (c .box) i nan)
-  pub weights : T (weighted (c .dim) (curve c .points))
-  pub sound-knots : T (sound (c .degree) (c .count) (c .knots))
+  pub weights : T (weightsPositive (c .curve .dim) (asPiece (c .curve) .points))
+  pub valid : T (knotsValid (c .curve .degree) (c .curve .count) (c .curve .knots))
 
 usables : (l : List Float) → AllDoubles l → T (all usable l) → (i : ℕ) → i < length l → Known (getD l i nan)
 usables l f u i h = record { double = f i h; moderate = subst T (sym (all-getD usable l i nan (is-true _ u) h)) tt }
 
 pub checked : (c : Call) → Doubles c → refusal c ≡ 0 → Checked c
-unfolding refusal numbersUsable weightsAbove knotsSound
+unfolding numbersUsable weightsFit knotsFit
 checked c d e = record {
   low-degree = z .degree;
   room = z .room;
   long = omega (arith, z .knots);
   box-long = z .box;
-  known = usables (c .knots) (d .knots) (and-l KN PN (and-l (KN && PN) BN (and-l (KN && PN && BN) RN (and-l (KN && PN && BN && RN) RP numbers))));
-  box-known = usables (c .box) (d .box) (and-r (KN && PN) BN (and-l (KN && PN && BN) RN (and-l (KN && PN && BN && RN) RP numbers)));
-  weights = h .1 .1 .1 .1 .1 .1 .0;
-  sound-knots = h .1 .1 .1 .1 .1 .1 .1 .0;
+  known = usables (c .curve .knots) (d .knots) (and-l KN PN (and-l (KN && PN) BN (and-l (KN && PN && BN) RN (and-l (KN && PN && BN && RN) RP (h .numbers)))));
+  box-known = usables (c .box) (d .box) (and-r (KN && PN) BN (and-l (KN && PN && BN) RN (and-l (KN && PN && BN && RN) RP (h .numbers))));
+  weights = h .weights;
+  valid = h .knots;
 }
   where
     z : Sizes c
     z = sizes c e
 
-    h : Every (λ check. T (check c)) checks
-    h = passed c 0 checks e
+    h : CurvePasses (c .curve .dim) (c .box) (c .resolution) (c .curve)
+    h = call-passes c e .curve
 
     KN : Bool
-    KN = all usable (c .knots)
+    KN = all usable (c .curve .knots)
 
     PN : Bool
-    PN = all usable (c .points)
+    PN = all usable (c .curve .points)
 
     BN : Bool
     BN = all usable (c .box)
@@ -209,6 +209,3 @@ checked c d e = record {
 
     RP : Bool
     RP = le zeroF (c .resolution)
-
-    numbers : T (all usable (c .knots) && all usable (c .points) && all usable (c .box) && usable (c .resolution) && le zeroF (c .resolution))
-    numbers = h .1 .1 .1 .1 .0

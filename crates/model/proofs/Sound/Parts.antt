@@ -53,9 +53,6 @@ module _ (D p n : ℕ) (u : ℕ → ℚ) (C : ℕ → ℕ → ℚ) (x : Float) (
   abbrev ps : List Vector
   ps = z .points
 
-  n′ : ℕ
-  n′ = length (z .points)
-
   lefts : (p < m) × (m ≤ n)
   lefts = count-left p n u C (value x) m s e (length ps) (values ks) (r .exact) good (r .raised) se px xn
 
@@ -64,12 +61,6 @@ module _ (D p n : ℕ) (u : ℕ → ℚ) (C : ℕ → ℕ → ℚ) (x : Float) (
 
   pub m<n′ : m < length (z .points)
   m<n′ = omega (arith, rights .0)
-
-  abbrev L : Piece
-  L = record { knots = take (m + suc p) ks; points = take m ps }
-
-  abbrev R : Piece
-  R = record { knots = drop m ks; points = drop m ps }
 
   lenL : length (take m ps) ≡ m
   lenL = length-take-le m ps (omega (arith, m<n′))

@@ -11,7 +11,7 @@ use Rattle.math.specs.declared.scalars.Scalar.{Scalar}
 use Rattle.math.specs.Scalars.{unionS}
 use Rattle.math.proofs.Bools.{pick}
 use Rattle.model.specs.NurbCurve.{Piece}
-use Rattle.model.specs.Subdivide.{Visit, dropped, reported, restricted, halved, badWeight, State, Step, going, over, plain, joined, complete, after, ended, step, stop, advance, answered}
+use Rattle.model.specs.Subdivide.{Visit, dropped, reported, restricted, halved, badWeight, State, Step, going, over, positiveZero, joined, complete, after, ended, step, stop, advance, answered}
 use Rattle.model.specs.Enclosure.{Every}
 use Rattle.model.specs.declared.contains.Found.{Found}
 use Rattle.model.specs.declared.contains.Found.the-variants.{Nothing, Enclosed, Spent, Refused}
@@ -34,14 +34,14 @@ some-right P (x ∷ l) m h = inr (some-right P l m h)
 -- ---- what is asked of an answer, where In is asked of what is reported
 abbrev pub Right : (Scalar → Type 0) → Found → Type 0
 Right In (Nothing v) = Unit {0}
-Right In (Enclosed lo hi v) = (t : Scalar) × (In t × ((lo ≡ plain (t .lo)) × (hi ≡ plain (t .hi))))
+Right In (Enclosed lo hi v) = (t : Scalar) × (In t × ((lo ≡ positiveZero (t .lo)) × (hi ≡ positiveZero (t .hi))))
 Right In (Spent n v) = Unit {0}
 Right In (Refused n v) = n ≡ 11
 
 -- and what is asked of it besides, where there is a hit
 abbrev pub Hit : (Scalar → Type 0) → Found → Type 0
 Hit At (Nothing v) = ⊥
-Hit At (Enclosed lo hi v) = (t : Scalar) × (At t × ((lo ≡ plain (t .lo)) × (hi ≡ plain (t .hi))))
+Hit At (Enclosed lo hi v) = (t : Scalar) × (At t × ((lo ≡ positiveZero (t .lo)) × (hi ≡ positiveZero (t .hi))))
 Hit At (Spent n v) = Unit {0}
 Hit At (Refused n v) = Unit {0}
 

@@ -19,7 +19,7 @@ use Rattle.math.specs.Encloses.{Encloses}
 use Rattle.math.proofs.Bools.{and-l, and-r, and-i, pick, taken}
 use Rattle.math.proofs.Doubles.Order.{le-trans as before}
 use Rattle.math.proofs.Doubles.Least.{min-either, max-either}
-use Rattle.model.specs.NurbCurve.{Piece, start, end, domain, weighted, midParameter}
+use Rattle.model.specs.NurbCurve.{Piece, start, end, domain, weightsPositive, midParameter}
 use Rattle.model.specs.Split.{Halves, uncut, both, splitMid, Restricted, restrict}
 use Rattle.model.specs.Aabb.{aabb, couldOverlap}
 use Rattle.model.specs.FatLine.{greville, restricts, halves, extent}
@@ -70,9 +70,9 @@ pub record Ok (dim p N : ℕ) (a b : ℚ) (c : Piece) : Type 0 where
   pub small : length (c .points) ≤ N
   pub from : a ≤ℚ values (c .knots) p
   pub upto : values (c .knots) (length (c .points)) ≤ℚ b
-  pub weights : T (weighted dim (c .points))
+  pub weights : T (weightsPositive dim (c .points))
 
-sub-ok : (dim p N : ℕ) (a b : ℚ) (c s : Piece) → Ok dim p N a b c → Sub p c s → T (weighted dim (s .points)) → Ok dim p N a b s
+sub-ok : (dim p N : ℕ) (a b : ℚ) (c s : Piece) → Ok dim p N a b c → Sub p c s → T (weightsPositive dim (s .points)) → Ok dim p N a b s
 sub-ok dim p N a b c s h k w = record { knots = k .knots; small = omega (arith, h .small, k .small); from = le-trans (h .from) (k .from); upto = le-trans (k .upto) (h .upto); weights = w }
 
 -- ---- what holds of each choice that a hat leaves holds of the one that is made
@@ -97,14 +97,14 @@ module _ (ar : Arithmetic) (E : Encloses ar) (q : Question) (N : ℕ) (a b : ℚ
   -- ---- what is handed on is accepted
   on-fine : (c : Piece) (r : Restricted) → Ok (q .dim) (q .degree) N a b c → Sub (q .degree) c (r .piece) → Fine (Inner a b) (Ok (q .dim) (q .degree) N a b) (handOn (q .dim) r)
   unfolding handOn
-  on-fine c r h s = pick (Fine (Inner a b) Good) (weighted dim (r .piece .points)) (restricted (r .cuts) (r .piece)) badWeight (λ w. sub-ok dim p N a b c (r .piece) h s w) (λ _. tt)
+  on-fine c r h s = pick (Fine (Inner a b) Good) (weightsPositive dim (r .piece .points)) (restricted (r .cuts) (r .piece)) badWeight (λ w. sub-ok dim p N a b c (r .piece) h s w) (λ _. tt)
 
   both-fine : (c : Piece) (hat : Scalar) (s : Halves) → Ok (q .dim) (q .degree) N a b c → Inner a b hat → Both (λ l r. Sub (q .degree) c l × Sub (q .degree) c r) s
       → Fine (Inner a b) (Ok (q .dim) (q .degree) N a b) (handBoth (q .dim) hat s)
   unfolding handBoth
   both-fine c hat uncut h i s = i
-  both-fine c hat (both l r) h i s = pick (Fine (Inner a b) Good) (weighted dim (l .points) && weighted dim (r .points)) (halved l r) badWeight
-      (λ w. (sub-ok dim p N a b c l h (s .0) (and-l (weighted dim (l .points)) (weighted dim (r .points)) w), sub-ok dim p N a b c r h (s .1) (and-r (weighted dim (l .points)) (weighted dim (r .points)) w))) (λ _. tt)
+  both-fine c hat (both l r) h i s = pick (Fine (Inner a b) Good) (weightsPositive dim (l .points) && weightsPositive dim (r .points)) (halved l r) badWeight
+      (λ w. (sub-ok dim p N a b c l h (s .0) (and-l (weightsPositive dim (l .points)) (weightsPositive dim (r .points)) w), sub-ok dim p N a b c r h (s .1) (and-r (weightsPositive dim (l .points)) (weightsPositive dim (r .points)) w))) (λ _. tt)
 
   shrink-fine : (c : Piece) (h : Hat) → Ok (q .dim) (q .degree) N a b c → ((hat : Scalar) → h ≡ Over hat → Within (start (q .degree) c) (end c) hat)
       → Fine (Inner a b) (Ok (q .dim) (q .degree) N a b) (shrink ar q c h)
@@ -145,13 +145,13 @@ module _ (ar : Arithmetic) (E : Encloses ar) (q : Question) (N : ℕ) (a b : ℚ
 
     on-kept : (r : Restricted) → Carries (suc (q .dim)) (q .degree) t v (r .piece) → Kept (λ s. Holds s t) (Carries (suc (q .dim)) (q .degree) t v) (handOn (q .dim) r)
     unfolding handOn
-    on-kept r h = pick (Kept At Has) (weighted dim (r .piece .points)) (restricted (r .cuts) (r .piece)) badWeight (λ _. h) (λ _. tt)
+    on-kept r h = pick (Kept At Has) (weightsPositive dim (r .piece .points)) (restricted (r .cuts) (r .piece)) badWeight (λ _. h) (λ _. tt)
 
     both-kept : (hat : Scalar) (s : Halves) → Holds hat t → Both (λ l r. Carries (suc (q .dim)) (q .degree) t v l ⊎ Carries (suc (q .dim)) (q .degree) t v r) s
         → Kept (λ s. Holds s t) (Carries (suc (q .dim)) (q .degree) t v) (handBoth (q .dim) hat s)
     unfolding handBoth
     both-kept hat uncut h s = h
-    both-kept hat (both l r) h s = pick (Kept At Has) (weighted dim (l .points) && weighted dim (r .points)) (halved l r) badWeight (λ _. s) (λ _. tt)
+    both-kept hat (both l r) h s = pick (Kept At Has) (weightsPositive dim (l .points) && weightsPositive dim (r .points)) (halved l r) badWeight (λ _. s) (λ _. tt)
 
     shrink-kept : (c : Piece) (hat : Scalar) → Ok (q .dim) (q .degree) N a b c → Carries (suc (q .dim)) (q .degree) t v c → Within (start (q .degree) c) (end c) hat → Holds hat t
         → Kept (λ s. Holds s t) (Carries (suc (q .dim)) (q .degree) t v) (shrink ar q c (Over hat))

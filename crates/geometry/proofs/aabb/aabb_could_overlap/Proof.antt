@@ -6,7 +6,7 @@ use borrow.Author.Tests.{not-true, not-false}
 use Rattle.lists.specs.Lists.{tab}
 use Rattle.model.specs.Layout.{scalarAt}
 use Rattle.model.specs.Aabb.{aabb, couldOverlap}
-use Rattle.geometry.proofs.Kernels.Boxes.{axisAt, overlapFrom, overlap-start, overlap-keep, overlap-stop, overlap-end}
+use Rattle.geometry.proofs.aabb.Box.{axisAt, overlapFrom, overlap-start, overlap-keep, overlap-stop, overlap-end}
 use Rattle.geometry.proofs.aabb.aabb_could_overlap.Statement.{statement}
 use Rattle.geometry.proofs.aabb.aabb_could_overlap.Tie as tie
 

@@ -3,7 +3,7 @@ use mathlib.Core.Path.{ap, _∙_}
 use Rattle.math.specs.Scalars.{subS}
 use Rattle.math.specs.declared.scalars.Scalar.{Scalar}
 use borrow.Author.Needs.{needs}
-use Rattle.geometry.proofs.Kernels.Boxes.{along-first, along-second, along-both}
+use Rattle.geometry.proofs.aabb.Box.{along-first, along-second, along-both}
 use Rattle.geometry.proofs.aabb.along.Statement.{statement}
 use Rattle.geometry.proofs.aabb.along.Tie as tie
 

@@ -7,9 +7,9 @@ use Rattle.lists.specs.Lists.{tab}
 use Rattle.math.specs.Scalars.{geop, widened, inverseS}
 use Rattle.model.specs.Layout.{pointAt}
 use Rattle.model.specs.Aabb.{unions, place}
-use Rattle.geometry.proofs.Kernels.Points.{point-in}
-use Rattle.geometry.proofs.Kernels.Widening.{Bounds}
-use Rattle.geometry.proofs.Kernels.Boxes.{raw-first, raw-turn, axis-of}
+use Rattle.geometry.proofs.nurb_curve.Points.{point-in}
+use Rattle.geometry.proofs.aabb.Widening.{Bounds}
+use Rattle.geometry.proofs.aabb.Box.{raw-first, raw-turn, axis-of}
 use Rattle.geometry.proofs.aabb.axis_box.Statement.{statement}
 use Rattle.geometry.proofs.aabb.axis_box.Tie as tie
 

@@ -4,8 +4,8 @@ use native.Mathlib.Omega.{arith}
 use lib.ListN.{length}
 use borrow.Author.Needs.{needs}
 use borrow.Author.Tests.{eqb-true, not-true, not-false}
-use Rattle.geometry.proofs.Kernels.Points.{point-in}
-use Rattle.geometry.proofs.Kernels.Boxes.{door-miss, door-degree, door-count, door-segment}
+use Rattle.geometry.proofs.nurb_curve.Points.{point-in}
+use Rattle.geometry.proofs.aabb.Box.{door-miss, door-degree, door-count, door-segment}
 use Rattle.geometry.proofs.aabb.curve_could_meet_aabb.Statement.{statement}
 use Rattle.geometry.proofs.aabb.curve_could_meet_aabb.Tie as tie
 

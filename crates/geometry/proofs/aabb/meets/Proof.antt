@@ -11,7 +11,7 @@ use Rattle.math.specs.Scalars.{geop, ZERO, ONE, unionS}
 use Rattle.math.specs.declared.scalars.Scalar.{Scalar}
 use Rattle.model.specs.Layout.{scalarsOf, pointAt}
 use Rattle.model.specs.Aabb.{meets}
-use Rattle.geometry.proofs.Kernels.Boxes.{segment-skip, segment-narrow, segment-stop, segment-end}
+use Rattle.geometry.proofs.aabb.Box.{segment-skip, segment-narrow, segment-stop, segment-end}
 use Rattle.geometry.proofs.aabb.meets.Statement.{statement}
 use Rattle.geometry.proofs.aabb.meets.Tie as tie
 

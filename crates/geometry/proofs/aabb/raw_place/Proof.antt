@@ -3,7 +3,7 @@ use mathlib.Core.Path.{sym, ap, _∙_}
 use Rattle.math.specs.Scalars.{hasZero, corners, inverseS}
 use Rattle.math.specs.declared.scalars.Scalar.{Scalar}
 use Rattle.math.proofs.Bools.{pick-yes, pick-no}
-use Rattle.geometry.specs.Boxes.{rawPlace}
+use Rattle.geometry.specs.Aabb.{rawPlace}
 use borrow.Author.Needs.{needs}
 use Rattle.geometry.proofs.aabb.raw_place.Statement.{statement}
 use Rattle.geometry.proofs.aabb.raw_place.Tie as tie

@@ -7,7 +7,7 @@ use lib.Ieee.{nan}
 use Rattle.lists.specs.Lists.{all}
 use Rattle.model.specs.Call.{ordered}
 use Rattle.model.specs.Layout.{scalarsOf}
-use Rattle.geometry.proofs.Kernels.Walks.{all-keep, all-stop, all-end}
+use Rattle.geometry.proofs.Lists.Walks.{all-keep, all-stop, all-end}
 use borrow.Author.Tests.{not-true, not-false}
 use Rattle.lists.proofs.Tab.{length-tab, getD-tab}
 use Rattle.math.specs.Scalars.{absent}

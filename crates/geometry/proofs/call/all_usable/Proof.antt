@@ -8,7 +8,7 @@ use lib.Dec.{T}
 use lib.Ieee.{nan, binary64, fits}
 use Rattle.lists.specs.Lists.{all}
 use Rattle.model.specs.Call.{usable}
-use Rattle.geometry.proofs.Kernels.Walks.{all-keep, all-stop, all-end, KnownTo, known-on}
+use Rattle.geometry.proofs.Lists.Walks.{all-keep, all-stop, all-end, KnownTo, known-on}
 use Rattle.math.proofs.Bools.{yes}
 use borrow.Author.Tests.{not-true, not-false}
 use Rattle.geometry.proofs.call.all_usable.Statement.{statement}

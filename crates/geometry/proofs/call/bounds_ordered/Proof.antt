@@ -1,6 +1,6 @@
 -- `bounds_ordered` equals its definition.
 use borrow.Author.Needs.{needs}
-use Rattle.geometry.proofs.Kernels.Call.{and-stop, and-go}
+use Rattle.geometry.proofs.call.Checks.{and-stop, and-go}
 use borrow.Author.Tests.{not-true, not-false}
 use Rattle.model.specs.Layout.{scalarsOf}
 use Rattle.model.specs.Call.{ordered}

@@ -1,6 +1,6 @@
 -- `count_fits` equals its definition.
 use borrow.Author.Needs.{needs}
-use Rattle.geometry.proofs.Kernels.Call.{and-go}
+use Rattle.geometry.proofs.call.Checks.{and-go}
 use Rattle.math.proofs.Bools.{and-no}
 use borrow.Author.Tests.{le-leb, lt-leb}
 use Rattle.geometry.proofs.call.count_fits.Statement.{statement}

@@ -1,5 +1,5 @@
 -- `dim_fits` equals its definition.
-use Rattle.geometry.proofs.Kernels.Call.{or-yes, or-no}
+use Rattle.geometry.proofs.call.Checks.{or-yes, or-no}
 use borrow.Author.Tests.{eq-eqb, ne-eqb}
 use Rattle.geometry.proofs.call.dim_fits.Statement.{statement}
 use Rattle.geometry.proofs.call.dim_fits.Tie as tie

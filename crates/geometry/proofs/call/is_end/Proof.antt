@@ -1,5 +1,5 @@
 -- `is_end` equals its definition.
-use Rattle.geometry.proofs.Kernels.Call.{or-yes, or-no}
+use Rattle.geometry.proofs.call.Checks.{or-yes, or-no}
 use Rattle.geometry.proofs.call.is_end.Statement.{statement}
 use Rattle.geometry.proofs.call.is_end.Tie as tie
 use Rattle.geometry.proofs.call.is_end.Reads as reads

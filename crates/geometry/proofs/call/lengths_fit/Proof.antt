@@ -1,6 +1,6 @@
 -- `lengths_fit` equals its definition.
 use borrow.Author.Needs.{needs}
-use Rattle.geometry.proofs.Kernels.Call.{few-points, fails-1, fails-2, passes-2}
+use Rattle.geometry.proofs.call.Checks.{few-points, fails-1, fails-2, passes-2}
 use borrow.Author.Tests.{eq-eqb, ne-eqb}
 use native.Mathlib.Omega.{arith}
 use mathlib.Core.Path.{_≡_, sym, ap, _∙_}
@@ -31,7 +31,7 @@ add-if1-2 c = search needs
 returns : tie.Need-returns
 returns c =
     let g = c .before .args in
-    fails-1 (eqb (length (g .knots .now)) (g .count + g .degree + 1)) (eqb (length (g .points .now)) (2 * suc (g .dim) * g .count)) (eqb (length (g .point-box .now)) (2 * g .dim)) (ne-eqb _ _ (c .if1 .taken))
+    fails-1 (eqb (length (g .knots .now)) (g .count + g .degree + 1)) (eqb (length (g .points .now)) (2 * suc (g .dim) * g .count)) (eqb (length (g .point-box .now)) (2 * g .sides)) (ne-eqb _ _ (c .if1 .taken))
 
 -- src/call.rt:156:29
 add-if2 : tie.Need-add-if2
@@ -49,7 +49,7 @@ mul-if2-2 c = omega (arith, few-points (c .before .args .dim) (c .before .args .
 returns-2 : tie.Need-returns-2
 returns-2 c =
     let g = c .before .before .args in
-    fails-2 (eqb (length (g .knots .now)) (g .count + g .degree + 1)) (eqb (length (g .points .now)) (2 * suc (g .dim) * g .count)) (eqb (length (g .point-box .now)) (2 * g .dim)) (ne-eqb _ _ (λ e. c .if2 .taken (e ∙ sym (words (g .dim) (g .count)))))
+    fails-2 (eqb (length (g .knots .now)) (g .count + g .degree + 1)) (eqb (length (g .points .now)) (2 * suc (g .dim) * g .count)) (eqb (length (g .point-box .now)) (2 * g .sides)) (ne-eqb _ _ (λ e. c .if2 .taken (e ∙ sym (words (g .dim) (g .count)))))
 
 -- src/call.rt:159:24
 mul-result : tie.Need-mul-result
@@ -59,7 +59,7 @@ mul-result c = search needs
 returns-3 : tie.Need-returns-3
 returns-3 c =
     let g = c .before .before .args in
-    passes-2 (eqb (length (g .knots .now)) (g .count + g .degree + 1)) (eqb (length (g .points .now)) (2 * suc (g .dim) * g .count)) (eqb (length (g .point-box .now)) (2 * g .dim)) (eq-eqb _ _ (c .before .if1 .left)) (eq-eqb _ _ (c .if2 .left ∙ words (g .dim) (g .count)))
+    passes-2 (eqb (length (g .knots .now)) (g .count + g .degree + 1)) (eqb (length (g .points .now)) (2 * suc (g .dim) * g .count)) (eqb (length (g .point-box .now)) (2 * g .sides)) (eq-eqb _ _ (c .before .if1 .left)) (eq-eqb _ _ (c .if2 .left ∙ words (g .dim) (g .count)))
 
 pub lengths-fit-spec : {M : Type 1} → statement M
 lengths-fit-spec =

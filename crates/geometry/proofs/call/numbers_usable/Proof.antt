@@ -1,6 +1,6 @@
 -- `numbers_usable` equals its definition.
 use borrow.Author.Needs.{needs}
-use Rattle.geometry.proofs.Kernels.Call.{five-1, five-2, five-3, five-4, five-rest}
+use Rattle.geometry.proofs.call.Checks.{five-1, five-2, five-3, five-4, five-rest}
 use Rattle.model.specs.Call.{usable}
 use Rattle.math.specs.Scalars.{zeroF}
 use Rattle.lists.specs.Lists.{all}

@@ -1,6 +1,6 @@
 -- `repeats_at` equals its definition, whether there is a knot k places on or not.
 use borrow.Author.Needs.{needs}
-use Rattle.geometry.proofs.Kernels.Runs.{repeats-there, repeats-past}
+use Rattle.geometry.proofs.call.Multiplicity.{repeats-there, repeats-past}
 use Rattle.geometry.proofs.call.repeats_at.Statement.{statement}
 use Rattle.geometry.proofs.call.repeats_at.Tie as tie
 use Rattle.geometry.proofs.call.repeats_at.Reads as reads

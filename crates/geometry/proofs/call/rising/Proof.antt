@@ -7,7 +7,7 @@ use lib.Ieee.{nan}
 use Rattle.lists.specs.Lists.{all}
 use Rattle.model.specs.Call.{rising}
 use borrow.Author.Tests.{not-true, not-false}
-use Rattle.geometry.proofs.Kernels.Call.{rising-keep, rising-stop, rising-end}
+use Rattle.geometry.proofs.call.Checks.{rising-keep, rising-stop, rising-end}
 use Rattle.geometry.proofs.call.rising.Statement.{statement}
 use Rattle.geometry.proofs.call.rising.Tie as tie
 use Rattle.geometry.proofs.call.rising.Reads as reads

@@ -1,6 +1,6 @@
 -- `slot_words` equals its definition.
 use borrow.Author.Needs.{needs}
-use Rattle.geometry.proofs.Kernels.Call.{few-points, slot-words}
+use Rattle.geometry.proofs.call.Checks.{few-points, slot-words}
 use native.Mathlib.Omega.{arith}
 use Rattle.geometry.proofs.call.slot_words.Statement.{statement}
 use Rattle.geometry.proofs.call.slot_words.Tie as tie

@@ -6,7 +6,7 @@ use lib.ListN.{length, drop}
 use lib.Ieee.{ofBits}
 use Rattle.math.specs.Scalars.{ZERO, mulS}
 use Rattle.math.specs.declared.scalars.Scalar.{Scalar}
-use Rattle.geometry.proofs.Kernels.Zeros.{summed, sum-turn, sum-done}
+use Rattle.geometry.proofs.fat_line.Zeros.{summed, sum-turn, sum-done}
 use borrow.Author.Needs.{needs}
 use Rattle.geometry.proofs.fat_line.abscissa.Statement.{statement}
 use Rattle.geometry.proofs.fat_line.abscissa.Tie as tie

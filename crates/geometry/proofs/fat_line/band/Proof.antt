@@ -1,7 +1,7 @@
 -- `band` equals its definition: each turn takes in the offset of one more point, and the neighbours of the bounds are taken once.
 use Prim.Native.Nat.{_-_, _≤_, _<_}
 use native.Mathlib.Omega.{arith}
-use Rattle.geometry.proofs.Kernels.Zeros.{Banded, band-first, band-turn, band-done}
+use Rattle.geometry.proofs.fat_line.Zeros.{Banded, band-first, band-turn, band-done}
 use borrow.Author.Needs.{needs}
 use Rattle.geometry.proofs.fat_line.band.Statement.{statement}
 use Rattle.geometry.proofs.fat_line.band.Tie as tie

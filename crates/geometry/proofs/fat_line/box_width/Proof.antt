@@ -4,7 +4,7 @@ use Prim.Native.Nat.{_≤_, _-_}
 use native.Mathlib.Omega.{arith}
 use lib.Ieee.{ofBits}
 use Rattle.lists.specs.Lists.{foldl}
-use Rattle.geometry.proofs.Kernels.Sizes.{widestOf, widest-turn, widest-end}
+use Rattle.geometry.proofs.fat_line.Sizes.{widestOf, widest-turn, widest-end}
 use Rattle.geometry.proofs.fat_line.box_width.Statement.{statement}
 use Rattle.geometry.proofs.fat_line.box_width.Tie as tie
 

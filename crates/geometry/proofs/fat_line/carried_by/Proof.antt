@@ -10,7 +10,7 @@ use Rattle.math.specs.Scalars.{middle, widthS}
 use Rattle.model.specs.Vector.{coordinate}
 use Rattle.model.specs.Layout.{pointAt}
 use Rattle.model.specs.FatLine.{toF64, carriedBy}
-use Rattle.geometry.proofs.Kernels.Sizes.{fold-three}
+use Rattle.geometry.proofs.fat_line.Sizes.{fold-three}
 use borrow.Author.Needs.{needs}
 use Rattle.geometry.proofs.fat_line.carried_by.Statement.{statement}
 use Rattle.geometry.proofs.fat_line.carried_by.Tie as tie

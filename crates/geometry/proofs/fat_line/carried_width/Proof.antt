@@ -5,8 +5,8 @@ use native.Mathlib.Omega.{arith}
 use lib.ListN.{length}
 use lib.Ieee.{ofBits}
 use Rattle.lists.specs.Lists.{foldl}
-use Rattle.geometry.proofs.Kernels.Points.{point-in}
-use Rattle.geometry.proofs.Kernels.Sizes.{carriedOf, carried-turn, carried-end}
+use Rattle.geometry.proofs.nurb_curve.Points.{point-in}
+use Rattle.geometry.proofs.fat_line.Sizes.{carriedOf, carried-turn, carried-end}
 use Rattle.geometry.proofs.fat_line.carried_width.Statement.{statement}
 use Rattle.geometry.proofs.fat_line.carried_width.Tie as tie
 

@@ -9,7 +9,7 @@ use Rattle.math.specs.Scalars.{zeroF, middle}
 use Rattle.model.specs.Vector.{coordinate}
 use Rattle.model.specs.Layout.{pointAt}
 use Rattle.model.specs.FatLine.{cartesian}
-use Rattle.geometry.proofs.Kernels.Sizes.{three}
+use Rattle.geometry.proofs.fat_line.Sizes.{three}
 use borrow.Author.Needs.{needs}
 use Rattle.geometry.proofs.fat_line.cartesian.Statement.{statement}
 use Rattle.geometry.proofs.fat_line.cartesian.Tie as tie

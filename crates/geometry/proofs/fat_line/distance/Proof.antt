@@ -1,7 +1,7 @@
 -- `distance` equals its definition: the root of the square.
 use mathlib.Core.Path.{ap, _∙_}
 use Rattle.math.specs.Root.{sqrtF}
-use Rattle.geometry.proofs.Kernels.Sizes.{distance-is}
+use Rattle.geometry.proofs.fat_line.Sizes.{distance-is}
 use borrow.Author.Needs.{needs}
 use Rattle.geometry.proofs.fat_line.distance.Statement.{statement}
 use Rattle.geometry.proofs.fat_line.distance.Tie as tie

@@ -3,8 +3,8 @@ use mathlib.Core.Path.{sym, ap, subst}
 use native.Mathlib.Omega.{arith}
 use lib.Dec.{T}
 use lib.Ieee.{Float, binary64, fits, lt}
-use Rattle.geometry.proofs.Kernels.Sizes.{places, places-of}
-use Rattle.geometry.proofs.Kernels.Far.{exceeds-yes}
+use Rattle.geometry.proofs.fat_line.Sizes.{places, places-of}
+use Rattle.geometry.proofs.fat_line.PathLength.{exceeds-yes}
 use borrow.Author.Needs.{needs}
 use Rattle.geometry.proofs.fat_line.exceeds.Statement.{statement}
 use Rattle.geometry.proofs.fat_line.exceeds.Tie as tie

@@ -7,8 +7,8 @@ use lib.Ieee.{binary64, add, ofBits}
 use Rattle.lists.specs.Lists.{tab, foldl}
 use Rattle.math.specs.Scalars.{zeroF}
 use Rattle.geometry.specs.Sizes.{positionOf, squares}
-use Rattle.geometry.proofs.Kernels.Points.{point-in}
-use Rattle.geometry.proofs.Kernels.Sizes.{places, withRoot, stepsFrom, steps-start, steps-turn, distance-is, extent-end}
+use Rattle.geometry.proofs.nurb_curve.Points.{point-in}
+use Rattle.geometry.proofs.fat_line.Sizes.{places, withRoot, stepsFrom, steps-start, steps-turn, distance-is, extent-end}
 use Rattle.geometry.proofs.fat_line.extent.Statement.{statement}
 use Rattle.geometry.proofs.fat_line.extent.Tie as tie
 

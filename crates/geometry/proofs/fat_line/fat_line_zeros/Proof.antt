@@ -1,5 +1,5 @@
 -- `fat_line_zeros` equals its definition: the slope is what its calls ensure, and each of its two answers is that of the definition for it.
-use Rattle.geometry.proofs.Kernels.Zeros.{zeros-level, zeros-sloped}
+use Rattle.geometry.proofs.fat_line.Zeros.{zeros-level, zeros-sloped}
 use borrow.Author.Needs.{needs}
 use Rattle.geometry.proofs.fat_line.fat_line_zeros.Statement.{statement}
 use Rattle.geometry.proofs.fat_line.fat_line_zeros.Tie as tie

@@ -8,8 +8,8 @@ use Rattle.lists.specs.Lists.{put, tab}
 use Rattle.math.specs.Scalars.{geop}
 use Rattle.model.specs.Layout.{flat}
 use Rattle.model.specs.FatLine.{window, abscissa}
-use Rattle.geometry.proofs.Kernels.Flat.{flat-none, flat-next}
-use Rattle.geometry.proofs.Kernels.Zeros.{in-float, mean-is, held-none, held-some}
+use Rattle.geometry.proofs.Lists.Flat.{flat-none, flat-next}
+use Rattle.geometry.proofs.fat_line.Zeros.{in-float, mean-is, held-none, held-some}
 use Rattle.geometry.proofs.fat_line.greville_abscissae.Statement.{statement}
 use Rattle.geometry.proofs.fat_line.greville_abscissae.Tie as tie
 

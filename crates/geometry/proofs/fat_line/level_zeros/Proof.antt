@@ -1,6 +1,6 @@
 -- `level_zeros` equals its definition: it asks whether the range could be zero.
 use lib.Ieee.{ofBits}
-use Rattle.geometry.proofs.Kernels.Zeros.{level-yes, level-no}
+use Rattle.geometry.proofs.fat_line.Zeros.{level-yes, level-no}
 use borrow.Author.Needs.{needs}
 use Rattle.geometry.proofs.fat_line.level_zeros.Statement.{statement}
 use Rattle.geometry.proofs.fat_line.level_zeros.Tie as tie

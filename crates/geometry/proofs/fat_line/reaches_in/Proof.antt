@@ -1,5 +1,5 @@
 -- `reaches_in` equals its definition: both tests, the second where the first failed.
-use Rattle.geometry.proofs.Kernels.Sizes.{or-yes, or-no}
+use Rattle.geometry.proofs.fat_line.Sizes.{or-yes, or-no}
 use borrow.Author.Needs.{needs}
 use Rattle.geometry.proofs.fat_line.reaches_in.Statement.{statement}
 use Rattle.geometry.proofs.fat_line.reaches_in.Tie as tie

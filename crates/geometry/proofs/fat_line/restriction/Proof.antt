@@ -3,7 +3,7 @@ use mathlib.Core.Path.{sym, _∙_}
 use lib.Ieee.{lt}
 use borrow.Author.Tests.{not-true, not-false}
 use Rattle.model.specs.FatLine.{restricts}
-use Rattle.geometry.proofs.Kernels.Sizes.{first-failed, second-failed, both-passed}
+use Rattle.geometry.proofs.fat_line.Sizes.{first-failed, second-failed, both-passed}
 use borrow.Author.Needs.{needs}
 use Rattle.geometry.proofs.fat_line.restriction.Statement.{statement}
 use Rattle.geometry.proofs.fat_line.restriction.Tie as tie

@@ -1,6 +1,6 @@
 -- `sloped_zeros` equals its definition: where the band reaches zero it is what `crossing` ensures, and else nowhere.
 use lib.Ieee.{ofBits}
-use Rattle.geometry.proofs.Kernels.Zeros.{sloped-yes, sloped-no}
+use Rattle.geometry.proofs.fat_line.Zeros.{sloped-yes, sloped-no}
 use borrow.Author.Needs.{needs}
 use Rattle.geometry.proofs.fat_line.sloped_zeros.Statement.{statement}
 use Rattle.geometry.proofs.fat_line.sloped_zeros.Tie as tie

@@ -1,7 +1,7 @@
 -- `squared` equals its definition: the sum of at most three squares.
 use native.Mathlib.Omega.{arith}
 use lib.Ieee.{ofBits}
-use Rattle.geometry.proofs.Kernels.Sizes.{squared-three}
+use Rattle.geometry.proofs.fat_line.Sizes.{squared-three}
 use borrow.Author.Needs.{needs}
 use Rattle.geometry.proofs.fat_line.squared.Statement.{statement}
 use Rattle.geometry.proofs.fat_line.squared.Tie as tie

@@ -5,7 +5,7 @@ use borrow.Author.Tests.{not-true, not-false}
 use Rattle.math.specs.Scalars.{sharp, widthS}
 use Rattle.math.specs.declared.scalars.Scalar.{Scalar}
 use Rattle.model.specs.FatLine.{halves}
-use Rattle.geometry.proofs.Kernels.Sizes.{first-failed, second-failed, both-passed}
+use Rattle.geometry.proofs.fat_line.Sizes.{first-failed, second-failed, both-passed}
 use borrow.Author.Needs.{needs}
 use Rattle.geometry.proofs.fat_line.stalled.Statement.{statement}
 use Rattle.geometry.proofs.fat_line.stalled.Tie as tie

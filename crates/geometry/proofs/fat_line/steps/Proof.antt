@@ -8,8 +8,8 @@ use Rattle.lists.specs.Lists.{tab, foldl}
 use Rattle.math.specs.Picks.{maxF}
 use Rattle.math.specs.Scalars.{zeroF}
 use Rattle.geometry.specs.Sizes.{positionOf, squares}
-use Rattle.geometry.proofs.Kernels.Points.{point-in}
-use Rattle.geometry.proofs.Kernels.Sizes.{places, stepsFrom, steps-start, steps-turn, steps-done}
+use Rattle.geometry.proofs.nurb_curve.Points.{point-in}
+use Rattle.geometry.proofs.fat_line.Sizes.{places, stepsFrom, steps-start, steps-turn, steps-done}
 use Rattle.geometry.proofs.fat_line.steps.Statement.{statement}
 use Rattle.geometry.proofs.fat_line.steps.Tie as tie
 

@@ -5,7 +5,7 @@ use lib.Ieee.{nan, eq}
 use lib.ListN.{length, drop}
 use Rattle.lists.specs.Lists.{all}
 use Rattle.lists.proofs.Fold.{all-turn, all-done}
-use Rattle.geometry.proofs.Memory.Spans.{all-on, all-off}
+use Rattle.geometry.proofs.knot_insertion.Spans.{all-on, all-off}
 use native.Mathlib.Omega.{arith}
 use Rattle.geometry.proofs.knot_insertion.all_are.Statement.{statement}
 use Rattle.geometry.proofs.knot_insertion.all_are.Tie as tie

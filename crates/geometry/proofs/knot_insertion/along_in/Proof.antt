@@ -1,6 +1,6 @@
 -- `along_in` equals its definition: the quotient of two differences of knots.
-use Rattle.geometry.proofs.Memory.Counts.{from-room}
-use Rattle.geometry.proofs.Memory.Cuts.{along-done}
+use Rattle.geometry.proofs.slots.Counts.{from-room}
+use Rattle.geometry.proofs.knot_insertion.Cuts.{along-done}
 use borrow.Author.Needs.{needs}
 use native.Mathlib.Omega.{arith}
 use Rattle.geometry.proofs.knot_insertion.along_in.Statement.{statement}

@@ -1,7 +1,7 @@
 -- `alpha_at` equals its definition: 0 or 1 where t is one of the two knots, and else what the division gives.
 use mathlib.Core.Path.{refl}
 use lib.Ieee.{ofBits}
-use Rattle.geometry.proofs.Memory.Spans.{alpha-start, alpha-end, alpha-between, alpha-value, alpha-failed}
+use Rattle.geometry.proofs.knot_insertion.Spans.{alpha-start, alpha-end, alpha-between, alpha-value, alpha-failed}
 use borrow.Author.Needs.{needs}
 use Rattle.geometry.proofs.knot_insertion.alpha_at.Statement.{statement}
 use Rattle.geometry.proofs.knot_insertion.alpha_at.Tie as tie

@@ -1,6 +1,6 @@
 -- `between_point` equals its definition: the point between two neighbouring points, in the place of the upper one.
-use Rattle.geometry.proofs.Memory.Between.{clear-of}
-use Rattle.geometry.proofs.Memory.Triangle.{between-fits, between-done}
+use Rattle.geometry.proofs.vector.Between.{clear-of}
+use Rattle.geometry.proofs.knot_insertion.Triangle.{between-fits, between-done}
 use borrow.Author.Needs.{needs}
 use native.Mathlib.Omega.{arith}
 use Rattle.geometry.proofs.knot_insertion.between_point.Statement.{statement}

@@ -1,5 +1,5 @@
 -- `bezier_knots` equals its definition: three stretches, one behind the other.
-use Rattle.geometry.proofs.Memory.Cuts.{bezier-filled}
+use Rattle.geometry.proofs.knot_insertion.Cuts.{bezier-filled}
 use borrow.Author.Needs.{needs}
 use Rattle.geometry.proofs.knot_insertion.bezier_knots.Statement.{statement}
 use Rattle.geometry.proofs.knot_insertion.bezier_knots.Tie as tie

@@ -2,7 +2,7 @@
 use mathlib.Core.Path.{sym, _∙_}
 use mathlib.Core.Logic.{inl, inr}
 use lib.Ieee.{ofBits}
-use Rattle.geometry.proofs.Memory.Insert.{blend-zero, blend-one, blend-mid}
+use Rattle.geometry.proofs.knot_insertion.Insert.{blend-zero, blend-one, blend-mid}
 use borrow.Author.Needs.{needs}
 use native.Mathlib.Omega.{arith}
 use Rattle.geometry.proofs.knot_insertion.blend_into.Statement.{statement}

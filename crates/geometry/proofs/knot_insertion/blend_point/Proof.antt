@@ -1,5 +1,5 @@
 -- `blend_point` equals its definition: alpha from the slot's knots, and the blend of two neighbouring points.
-use Rattle.geometry.proofs.Memory.Insert.{knots-within, blend-fits, blend-done}
+use Rattle.geometry.proofs.knot_insertion.Insert.{knots-within, blend-fits, blend-done}
 use borrow.Author.Needs.{needs}
 use native.Mathlib.Omega.{arith}
 use Rattle.geometry.proofs.knot_insertion.blend_point.Statement.{statement}

@@ -4,8 +4,8 @@ use Prim.Native.Nat.{suc, _+_, _-_, _≤_}
 use lib.ListN.{length}
 use Rattle.lists.specs.Lists.{put, tab}
 use Rattle.geometry.specs.Slots.{placeOf, blendAt, numbers}
-use Rattle.geometry.proofs.Memory.Counts.{place-within, inside-of}
-use Rattle.geometry.proofs.Memory.Blends.{makes-none, makes-turn, makes-done, blend-made}
+use Rattle.geometry.proofs.slots.Counts.{place-within, inside-of}
+use Rattle.geometry.proofs.knot_insertion.Blends.{makes-none, makes-turn, makes-done, blend-made}
 use native.Mathlib.Omega.{arith}
 use Rattle.geometry.proofs.knot_insertion.blend_points.Statement.{statement}
 use Rattle.geometry.proofs.knot_insertion.blend_points.Tie as tie

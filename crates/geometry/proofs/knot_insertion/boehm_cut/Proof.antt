@@ -1,5 +1,5 @@
 -- `boehm_cut` equals its definition: the insertions that are missing, and the first place of t.
-use Rattle.geometry.proofs.Memory.Cuts.{boehm-held, boehm-cut}
+use Rattle.geometry.proofs.knot_insertion.Cuts.{boehm-held, boehm-cut}
 use borrow.Author.Needs.{needs}
 use Rattle.geometry.proofs.knot_insertion.boehm_cut.Statement.{statement}
 use Rattle.geometry.proofs.knot_insertion.boehm_cut.Tie as tie

@@ -1,6 +1,6 @@
 -- `copy_point` copies the words of one point.
 use mathlib.Core.Logic.{inl}
-use Rattle.geometry.proofs.Memory.Triangle.{copied-fits, copied-done}
+use Rattle.geometry.proofs.knot_insertion.Triangle.{copied-fits, copied-done}
 use borrow.Author.Needs.{needs}
 use native.Mathlib.Omega.{arith}
 use Rattle.geometry.proofs.knot_insertion.copy_point.Statement.{statement}

@@ -2,7 +2,7 @@
 use mathlib.Core.Path.{_≡_, refl, sym, _∙_}
 use Prim.Native.Nat.{_-_, _≤_}
 use Rattle.model.specs.KnotInsertion.{highest, insertionSpan}
-use Rattle.geometry.proofs.Memory.Spans.{span-here, span-down, span-none}
+use Rattle.geometry.proofs.knot_insertion.Spans.{span-here, span-down, span-none}
 use native.Mathlib.Omega.{arith}
 use Rattle.geometry.proofs.knot_insertion.find_insertion_span.Statement.{statement}
 use Rattle.geometry.proofs.knot_insertion.find_insertion_span.Tie as tie

@@ -1,5 +1,5 @@
 -- `insert_knot` equals its definition: the knots behind the place move up, and t is stored there.
-use Rattle.geometry.proofs.Memory.Insert.{knot-in}
+use Rattle.geometry.proofs.knot_insertion.Insert.{knot-in}
 use borrow.Author.Needs.{needs}
 use Rattle.geometry.proofs.knot_insertion.insert_knot.Statement.{statement}
 use Rattle.geometry.proofs.knot_insertion.insert_knot.Tie as tie

@@ -1,6 +1,6 @@
 -- `insert_once` equals its definition: the points move up and are blended, then the knot is put in, then the count is raised.
-use Rattle.geometry.proofs.Memory.Counts.{count-readable, few-points, knot-room}
-use Rattle.geometry.proofs.Memory.Once.{once-code}
+use Rattle.geometry.proofs.slots.Counts.{count-readable, few-points, knot-room}
+use Rattle.geometry.proofs.knot_insertion.Once.{once-code}
 use borrow.Author.Needs.{needs}
 use native.Mathlib.Omega.{arith}
 use Rattle.geometry.proofs.knot_insertion.insert_once.Statement.{statement}

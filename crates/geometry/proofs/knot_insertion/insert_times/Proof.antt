@@ -1,6 +1,6 @@
 -- `insert_times` equals its definition. Invariant: what is left to insert makes of the piece that is there what all of it makes of the first.
 use Prim.Native.Nat.{_-_}
-use Rattle.geometry.proofs.Memory.Times.{After, after-none, after-turn, after-all, span-in-bounds}
+use Rattle.geometry.proofs.knot_insertion.Times.{After, after-none, after-turn, after-all, span-in-bounds}
 use native.Mathlib.Omega.{arith}
 use Rattle.geometry.proofs.knot_insertion.insert_times.Statement.{statement}
 use Rattle.geometry.proofs.knot_insertion.insert_times.Tie as tie

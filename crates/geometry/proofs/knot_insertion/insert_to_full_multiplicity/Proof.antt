@@ -1,7 +1,7 @@
 -- `insert_to_full_multiplicity` equals its definition: the triangle or the insertions, as the two tests say.
 use mathlib.Core.Path.{sym, _∙_}
 use borrow.Author.Tests.{not-true, not-false}
-use Rattle.geometry.proofs.Memory.Cuts.{full-bezier, full-failed, full-boehm, single-held, full-from, bezier-cut}
+use Rattle.geometry.proofs.knot_insertion.Cuts.{full-bezier, full-failed, full-boehm, single-held, full-from, bezier-cut}
 use borrow.Author.Needs.{needs}
 use native.Mathlib.Omega.{arith}
 use Rattle.geometry.proofs.knot_insertion.insert_to_full_multiplicity.Statement.{statement}

@@ -2,9 +2,9 @@
 use borrow.Author.Tests.{ne-eqb}
 use mathlib.Core.Path.{ap}
 use lib.ListN.{length}
-use Rattle.geometry.proofs.Memory.Counts.{count-readable}
-use Rattle.geometry.proofs.Memory.Piece.{knots-long}
-use Rattle.geometry.proofs.Memory.Cuts.{single-yes, single-no}
+use Rattle.geometry.proofs.slots.Counts.{count-readable}
+use Rattle.geometry.proofs.slots.Piece.{knots-long}
+use Rattle.geometry.proofs.knot_insertion.Cuts.{single-yes, single-no}
 use borrow.Author.Needs.{needs}
 use native.Mathlib.Omega.{arith}
 use Rattle.geometry.proofs.knot_insertion.is_bezier_in.Statement.{statement}

@@ -1,6 +1,6 @@
 -- `is_bezier_span` equals its definition: one test after the other.
 use lib.ListN.{length-take}
-use Rattle.geometry.proofs.Memory.Spans.{bezier-few, bezier-not, bezier-last}
+use Rattle.geometry.proofs.knot_insertion.Spans.{bezier-few, bezier-not, bezier-last}
 use borrow.Author.Needs.{needs}
 use native.Mathlib.Omega.{arith}
 use Rattle.geometry.proofs.knot_insertion.is_bezier_span.Statement.{statement}

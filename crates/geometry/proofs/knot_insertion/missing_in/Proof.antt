@@ -1,7 +1,7 @@
 -- `missing_in` equals its definition: what is left of degree + 1, or nothing.
 use mathlib.Core.Path.{ap, _∙_}
 use Rattle.model.specs.KnotInsertion.{multiplicity}
-use Rattle.geometry.proofs.Memory.Cuts.{missing-some, missing-none}
+use Rattle.geometry.proofs.knot_insertion.Cuts.{missing-some, missing-none}
 use borrow.Author.Needs.{needs}
 use native.Mathlib.Omega.{arith}
 use Rattle.geometry.proofs.knot_insertion.missing_in.Statement.{statement}

@@ -7,7 +7,7 @@ use lib.Ieee.{nan, eq}
 use lib.ListN.{length, drop, length-drop}
 use Rattle.lists.specs.Lists.{count}
 use Rattle.lists.proofs.Fold.{count-done}
-use Rattle.geometry.proofs.Memory.Spans.{count-one, count-same}
+use Rattle.geometry.proofs.knot_insertion.Spans.{count-one, count-same}
 use native.Mathlib.Omega.{arith}
 use Rattle.geometry.proofs.knot_insertion.multiplicity_of.Statement.{statement}
 use Rattle.geometry.proofs.knot_insertion.multiplicity_of.Tie as tie

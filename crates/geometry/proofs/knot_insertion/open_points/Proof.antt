@@ -1,5 +1,5 @@
 -- `open_points` moves the words of the points from number k on up by those of one point.
-use Rattle.geometry.proofs.Memory.Insert.{open-order, open-fits, open-done}
+use Rattle.geometry.proofs.knot_insertion.Insert.{open-order, open-fits, open-done}
 use borrow.Author.Needs.{needs}
 use Rattle.geometry.proofs.knot_insertion.open_points.Statement.{statement}
 use Rattle.geometry.proofs.knot_insertion.open_points.Tie as tie

@@ -4,8 +4,8 @@ use lib.ListN.{length}
 use lib.Ieee.{Float}
 use mathlib.Core.List.{List}
 use Rattle.model.specs.KnotInsertion.{insertionSpan}
-use Rattle.geometry.proofs.Memory.Counts.{count-readable}
-use Rattle.geometry.proofs.Memory.Piece.{count-points, knots-long}
+use Rattle.geometry.proofs.slots.Counts.{count-readable}
+use Rattle.geometry.proofs.slots.Piece.{count-points, knots-long}
 use borrow.Author.Needs.{needs}
 use native.Mathlib.Omega.{arith}
 use Rattle.geometry.proofs.knot_insertion.span_in.Statement.{statement}

@@ -1,6 +1,6 @@
 -- `split_bezier_span` equals its definition: the sides of the triangle, then the knots, then the count.
-use Rattle.geometry.proofs.Memory.Counts.{from-room, count-readable}
-use Rattle.geometry.proofs.Memory.Cuts.{bezier-done}
+use Rattle.geometry.proofs.slots.Counts.{from-room, count-readable}
+use Rattle.geometry.proofs.knot_insertion.Cuts.{bezier-done}
 use borrow.Author.Needs.{needs}
 use native.Mathlib.Omega.{arith}
 use Rattle.geometry.proofs.knot_insertion.split_bezier_span.Statement.{statement}

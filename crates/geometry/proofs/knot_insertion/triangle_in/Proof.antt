@@ -2,8 +2,8 @@
 use mathlib.Core.Path.{_≡_, refl, sym, _∙_}
 use Prim.Native.Nat.{_+_, _-_, _*_, _≤_}
 use lib.ListN.{length}
-use Rattle.geometry.proofs.Memory.Counts.{inside-of}
-use Rattle.geometry.proofs.Memory.Triangle.{withRow, triangle-start, triangle-copy, triangle-row, triangle-done}
+use Rattle.geometry.proofs.slots.Counts.{inside-of}
+use Rattle.geometry.proofs.knot_insertion.Triangle.{withRow, triangle-start, triangle-copy, triangle-row, triangle-done}
 use native.Mathlib.Omega.{arith}
 use Rattle.geometry.proofs.knot_insertion.triangle_in.Statement.{statement}
 use Rattle.geometry.proofs.knot_insertion.triangle_in.Tie as tie

@@ -1,7 +1,7 @@
 -- `coordinate` equals its definition: it reads where `coordinate-at` says that the interval stands.
 use mathlib.Core.Path.{_∙_}
 use native.Mathlib.Omega.{arith}
-use Rattle.geometry.proofs.Kernels.Points.{coordinate-at}
+use Rattle.geometry.proofs.nurb_curve.Points.{coordinate-at}
 use borrow.Author.Needs.{needs}
 use Rattle.geometry.proofs.nurb_curve.coordinate.Statement.{statement}
 use Rattle.geometry.proofs.nurb_curve.coordinate.Tie as tie

@@ -2,7 +2,7 @@
 use mathlib.Core.Path.{sym, _∙_}
 use mathlib.Core.Logic.{⊎-elim}
 use mathlib.Core.Bool.{false≢true}
-use Rattle.geometry.proofs.Kernels.Repeats.{repeats-one, repeats-yes, repeats-first, repeats-second}
+use Rattle.geometry.proofs.nurb_curve.Same.{repeats-one, repeats-yes, repeats-first, repeats-second}
 use borrow.Author.Needs.{needs}
 use Rattle.geometry.proofs.nurb_curve.repeats.Statement.{statement}
 use Rattle.geometry.proofs.nurb_curve.repeats.Tie as tie

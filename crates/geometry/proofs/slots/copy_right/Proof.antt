@@ -1,6 +1,6 @@
 -- `copy_right` copies the knots and the points from number `at` on, and sets the count.
-use Rattle.geometry.proofs.Memory.Counts.{count-readable, from-room, few-points}
-use Rattle.geometry.proofs.Memory.Moves.{knots-asked, points-rise, points-asked, moved-right}
+use Rattle.geometry.proofs.slots.Counts.{count-readable, from-room, few-points}
+use Rattle.geometry.proofs.slots.Moves.{knots-asked, points-rise, points-asked, moved-right}
 use borrow.Author.Needs.{needs}
 use native.Mathlib.Omega.{arith}
 use Rattle.geometry.proofs.slots.copy_right.Statement.{statement}

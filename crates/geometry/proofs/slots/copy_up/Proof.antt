@@ -5,7 +5,7 @@ use native.Mathlib.Omega.{arith}
 use lib.Ieee.{nan}
 use lib.ListN.{length, length-set}
 use Rattle.lists.specs.Lists.{part, put}
-use Rattle.geometry.proofs.Memory.Copies.{up-none, up-turn, up-done}
+use Rattle.geometry.proofs.Lists.Copies.{up-none, up-turn, up-done}
 use Rattle.geometry.proofs.slots.copy_up.Statement.{statement}
 use Rattle.geometry.proofs.slots.copy_up.Tie as tie
 

@@ -1,6 +1,6 @@
 -- `keep_left` sets the count: the knots and the points that are kept stand where they should.
-use Rattle.geometry.proofs.Memory.Counts.{count-readable, few-points}
-use Rattle.geometry.proofs.Memory.Moves.{kept-left}
+use Rattle.geometry.proofs.slots.Counts.{count-readable, few-points}
+use Rattle.geometry.proofs.slots.Moves.{kept-left}
 use borrow.Author.Needs.{needs}
 use native.Mathlib.Omega.{arith}
 use Rattle.geometry.proofs.slots.keep_left.Statement.{statement}

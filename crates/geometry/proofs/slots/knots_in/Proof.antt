@@ -1,6 +1,6 @@
 -- `knots_in` hands out the words of the knots.
-use Rattle.geometry.proofs.Memory.Counts.{count-readable}
-use Rattle.geometry.proofs.Memory.Views.{knots-fit, knots-view}
+use Rattle.geometry.proofs.slots.Counts.{count-readable}
+use Rattle.geometry.proofs.slots.Views.{knots-fit, knots-view}
 use borrow.Author.Needs.{needs}
 use native.Mathlib.Omega.{arith}
 use Rattle.geometry.proofs.slots.knots_in.Statement.{statement}

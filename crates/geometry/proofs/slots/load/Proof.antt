@@ -1,5 +1,5 @@
 -- `load` writes the numbers of the points, the knots and the count.
-use Rattle.geometry.proofs.Memory.Moves.{load-fits, loaded}
+use Rattle.geometry.proofs.slots.Moves.{load-fits, loaded}
 use borrow.Author.Needs.{needs}
 use native.Mathlib.Omega.{arith}
 use Rattle.geometry.proofs.slots.load.Statement.{statement}

@@ -1,6 +1,6 @@
 -- `place_of` equals its definition: no sum and no product comes near the largest usize.
 use native.Mathlib.Omega.{arith}
-use Rattle.geometry.proofs.Memory.Counts.{code-few, code-place}
+use Rattle.geometry.proofs.slots.Counts.{code-few, code-place}
 use borrow.Author.Needs.{needs}
 use Rattle.geometry.proofs.slots.place_of.Statement.{statement}
 use Rattle.geometry.proofs.slots.place_of.Tie as tie

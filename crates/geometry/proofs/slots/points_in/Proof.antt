@@ -1,6 +1,6 @@
 -- `points_in` hands out the words of the points.
-use Rattle.geometry.proofs.Memory.Counts.{count-readable}
-use Rattle.geometry.proofs.Memory.Views.{points-order, points-view}
+use Rattle.geometry.proofs.slots.Counts.{count-readable}
+use Rattle.geometry.proofs.slots.Views.{points-order, points-view}
 use borrow.Author.Needs.{needs}
 use native.Mathlib.Omega.{arith}
 use Rattle.geometry.proofs.slots.points_in.Statement.{statement}

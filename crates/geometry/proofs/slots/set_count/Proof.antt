@@ -1,7 +1,7 @@
 -- `set_count` writes the word of the count, and nothing else.
 use Rattle.lists.proofs.Put.{put-one}
 use Rattle.geometry.specs.Slots.{word}
-use Rattle.geometry.proofs.Memory.Counts.{in-float}
+use Rattle.geometry.proofs.slots.Counts.{in-float}
 use borrow.Author.Needs.{needs}
 use Rattle.geometry.proofs.slots.set_count.Statement.{statement}
 use Rattle.geometry.proofs.slots.set_count.Tie as tie

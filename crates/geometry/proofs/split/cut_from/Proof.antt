@@ -2,7 +2,7 @@
 use mathlib.Core.Path.{refl, sym, _∙_}
 use mathlib.Core.Logic.{inr}
 use borrow.Author.Tests.{not-true, not-false}
-use Rattle.geometry.proofs.Memory.Splits.{whole-count, cut-held, cut-upto, from-kept, from-none}
+use Rattle.geometry.proofs.split.Splits.{whole-count, cut-held, cut-upto, from-kept, from-none}
 use borrow.Author.Needs.{needs}
 use Rattle.geometry.proofs.split.cut_from.Statement.{statement}
 use Rattle.geometry.proofs.split.cut_from.Tie as tie

@@ -1,7 +1,7 @@
 -- `cut_up_to` equals its definition: nothing where t does not lie inside, and else the cut of which what is left is kept.
 use mathlib.Core.Path.{refl, sym, _∙_}
 use borrow.Author.Tests.{not-true, not-false}
-use Rattle.geometry.proofs.Memory.Splits.{whole-count, cut-held, cut-upto, upto-kept, upto-none}
+use Rattle.geometry.proofs.split.Splits.{whole-count, cut-held, cut-upto, upto-kept, upto-none}
 use borrow.Author.Needs.{needs}
 use Rattle.geometry.proofs.split.cut_up_to.Statement.{statement}
 use Rattle.geometry.proofs.split.cut_up_to.Tie as tie

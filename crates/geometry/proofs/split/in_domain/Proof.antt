@@ -1,6 +1,6 @@
 -- `in_domain` equals its definition: t against the two knots that end the domain.
-use Rattle.geometry.proofs.Memory.Counts.{count-readable, from-room}
-use Rattle.geometry.proofs.Memory.Splits.{inside-yes, inside-no}
+use Rattle.geometry.proofs.slots.Counts.{count-readable, from-room}
+use Rattle.geometry.proofs.split.Splits.{inside-yes, inside-no}
 use borrow.Author.Needs.{needs}
 use native.Mathlib.Omega.{arith}
 use Rattle.geometry.proofs.split.in_domain.Statement.{statement}

@@ -5,7 +5,7 @@ use lib.Dec.{T}
 use Rattle.math.specs.Scalars.{geop}
 use Rattle.model.specs.Split.{fromBy}
 use Rattle.geometry.specs.Slots.{pieceAt, Whole, within}
-use Rattle.geometry.proofs.Memory.Splits.{copied, copied-whole, cut-down, cut-down-whole, restricted, from-few, upto-few}
+use Rattle.geometry.proofs.split.Splits.{copied, copied-whole, cut-down, cut-down-whole, restricted, from-few, upto-few}
 use borrow.Author.Needs.{needs}
 use native.Mathlib.Omega.{arith}
 use Rattle.geometry.proofs.split.restrict.Statement.{statement}

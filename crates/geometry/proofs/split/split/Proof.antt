@@ -2,7 +2,7 @@
 use mathlib.Core.Path.{refl, sym, _∙_}
 use mathlib.Core.Logic.{inl}
 use borrow.Author.Tests.{not-true, not-false}
-use Rattle.geometry.proofs.Memory.Splits.{split-none, split-done, whole-count, held₁, whole₁, held₂, upto₂, inside₂, held₃, upto₃}
+use Rattle.geometry.proofs.split.Splits.{split-none, split-done, whole-count, held₁, whole₁, held₂, upto₂, inside₂, held₃, upto₃}
 use borrow.Author.Needs.{needs}
 use native.Mathlib.Omega.{arith}
 use Rattle.geometry.proofs.split.split.Statement.{statement}

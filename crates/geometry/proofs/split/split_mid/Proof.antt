@@ -1,7 +1,7 @@
 -- `split_mid` equals its definition: the split at the middle of the domain.
 use Rattle.geometry.specs.Slots.{pieceAt}
-use Rattle.geometry.proofs.Memory.Counts.{count-readable, from-room}
-use Rattle.geometry.proofs.Memory.Splits.{mid-of, split-same}
+use Rattle.geometry.proofs.slots.Counts.{count-readable, from-room}
+use Rattle.geometry.proofs.split.Splits.{mid-of, split-same}
 use borrow.Author.Needs.{needs}
 use native.Mathlib.Omega.{arith}
 use Rattle.geometry.proofs.split.split_mid.Statement.{statement}

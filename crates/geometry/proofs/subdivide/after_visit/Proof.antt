@@ -1,6 +1,6 @@
 -- `after_visit` is what its calls ensure.
 use native.Mathlib.Omega.{arith}
-use Rattle.geometry.proofs.Kernels.Turns.{handed-few}
+use Rattle.geometry.proofs.subdivide.State.{children-few}
 use borrow.Author.Needs.{needs}
 use Rattle.geometry.proofs.subdivide.after_visit.Statement.{statement}
 use Rattle.geometry.proofs.subdivide.after_visit.Tie as tie
@@ -11,20 +11,20 @@ add-wrap c = search needs
 wrap-requires : tie.Need-wrap-requires
 wrap-requires c κs = search needs
 
-sub-count : tie.Need-sub-count
-sub-count c = search needs
+sub-pending : tie.Need-sub-pending
+sub-pending c = search needs
 
-handed-requires : tie.Need-handed-requires
-handed-requires c κs = search needs
+children-requires : tie.Need-children-requires
+children-requires c κs = search needs
 
-add-count : tie.Need-add-count
-add-count c = omega (arith, handed-few (c .before .before .before .before .args .o), c .handed .ensures)
+add-pending : tie.Need-add-pending
+add-pending c = omega (arith, children-few (c .before .before .before .before .args .o), c .children .ensures)
 
 add-visited : tie.Need-add-visited
 add-visited c = search needs
 
-heard-requires : tie.Need-heard-requires
-heard-requires c κs = search needs
+with-report-requires : tie.Need-with-report-requires
+with-report-requires c κs = search needs
 
 returns : tie.Need-returns
 returns c = search needs
@@ -35,9 +35,9 @@ after-visit-spec =
     (tie.spec
     add-wrap
     wrap-requires
-    sub-count
-    handed-requires
-    add-count
+    sub-pending
+    children-requires
+    add-pending
     add-visited
-    heard-requires
+    with-report-requires
     returns)

@@ -2,8 +2,8 @@
 use mathlib.Core.Path.{sym, ap, _∙_}
 use mathlib.Core.Option.{some}
 use Rattle.model.specs.Subdivide.{joined}
-use Rattle.geometry.proofs.Kernels.Turns.{found-some, found-none}
-use Rattle.geometry.specs.Turns.{foundOf}
+use Rattle.geometry.proofs.subdivide.State.{found-some, found-none}
+use Rattle.geometry.specs.State.{foundOf}
 use borrow.Author.Needs.{needs}
 use Rattle.geometry.proofs.subdivide.joined.Statement.{statement}
 use Rattle.geometry.proofs.subdivide.joined.Tie as tie

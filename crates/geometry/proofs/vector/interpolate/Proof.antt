@@ -5,7 +5,7 @@ use lib.ListN.{length}
 use Rattle.lists.proofs.Put.{put-nil}
 use Rattle.math.proofs.Intervals.Factors.{fraction-own, between-own}
 use Rattle.model.specs.Layout.{flat}
-use Rattle.geometry.proofs.Memory.Between.{after, turn, done}
+use Rattle.geometry.proofs.vector.Between.{after, turn, done}
 use borrow.Author.Needs.{needs}
 use native.Mathlib.Omega.{arith}
 use Rattle.geometry.proofs.vector.interpolate.Statement.{statement}

@@ -1,5 +1,5 @@
 -- `set_scalar` writes the two bounds side by side.
-use Rattle.geometry.proofs.Memory.Copies.{set-two}
+use Rattle.geometry.proofs.Lists.Copies.{set-two}
 use borrow.Author.Needs.{needs}
 use Rattle.geometry.proofs.vector.set_scalar.Statement.{statement}
 use Rattle.geometry.proofs.vector.set_scalar.Tie as tie

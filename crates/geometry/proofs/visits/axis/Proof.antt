@@ -8,8 +8,8 @@ use Rattle.lists.specs.Lists.{put, tab}
 use Rattle.math.specs.Scalars.{mulS}
 use Rattle.math.specs.declared.scalars.Scalar.{Scalar}
 use Rattle.model.specs.Layout.{flat}
-use Rattle.geometry.proofs.Kernels.Flat.{flat-none, flat-next}
-use Rattle.geometry.proofs.Kernels.Clip.{axisAt, axis-at, axis-done}
+use Rattle.geometry.proofs.Lists.Flat.{flat-none, flat-next}
+use Rattle.geometry.proofs.visits.Clips.{axisAt, axis-at, axis-done}
 use borrow.Author.Needs.{needs}
 use Rattle.geometry.proofs.visits.axis.Statement.{statement}
 use Rattle.geometry.proofs.visits.axis.Tie as tie

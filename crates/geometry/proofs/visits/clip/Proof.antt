@@ -9,8 +9,8 @@ use Rattle.model.specs.Layout.{scalarsOf, pointsOf}
 use Rattle.model.specs.NurbCurve.{domain}
 use Rattle.model.specs.Contains.{clip}
 use Rattle.geometry.specs.Zeros.{runs}
-use Rattle.geometry.proofs.Kernels.Zeros.{runs-held, runs-kept}
-use Rattle.geometry.proofs.Kernels.Clip.{axis-kept, left, left-none, left-next, left-done}
+use Rattle.geometry.proofs.fat_line.Zeros.{runs-held, runs-kept}
+use Rattle.geometry.proofs.visits.Clips.{axis-kept, left, left-none, left-next, left-done}
 use borrow.Author.Needs.{needs}
 use Rattle.geometry.proofs.visits.clip.Statement.{statement}
 use Rattle.geometry.proofs.visits.clip.Tie as tie
@@ -26,11 +26,11 @@ Inv-loop xi points point-box dim count start end dx d₀ hat₀ k₀ d hat k =
 abbrev μ-loop : tie.MeasureT-loop
 μ-loop xi points point-box dim count start end dx d₀ hat₀ k₀ d hat k = dim - k
 
-slice-aggregate-runs : tie.Need-slice-aggregate-runs Inv-loop μ-loop
+slice-aggregate-runs : tie.Need-slice-aggregate-from-first Inv-loop μ-loop
 slice-aggregate-runs c = search needs
 
-runs-requires : tie.Need-runs-requires Inv-loop μ-loop
-runs-requires c κs = search needs
+from-first-requires : tie.Need-from-first-requires Inv-loop μ-loop
+from-first-requires c κs = search needs
 
 from-f64-requires : tie.Need-from-f64-requires Inv-loop μ-loop
 from-f64-requires c κs = search needs
@@ -48,8 +48,8 @@ loop-holds c =
     let a = w .before .before .before .before .before .args in
     let n = length-replicate 64 (ofBits binary64 0) in
     let p = w .before .before .before .before .before .pre in
-    let kept = runs-kept (a .xi .now) _ _ (a .count) (p .0 .0) (omega (arith, n, p .0 .1)) (w .runs .ensures) in
-    let held = runs-held (a .xi .now) _ _ (a .count) (p .0 .0) (w .runs .ensures) in
+    let kept = runs-kept (a .xi .now) _ _ (a .count) (p .0 .0) (omega (arith, n, p .0 .1)) (w .from-first .ensures) in
+    let held = runs-held (a .xi .now) _ _ (a .count) (p .0 .0) (w .from-first .ensures) in
     (omega arith, n, kept ∙ n, held, ap (λ hat. left (a .dim) (pointsOf (suc (a .dim)) (a .count) (a .points .now)) (scalarsOf (a .count) (a .xi .now)) (a .point-box .now) hat 0) (c .union .ensures ∙ (λ i. unionS (c .before .before .from-f64 .ensures i) (c .before .from-f642 .ensures i))))
 
 scalar-at-requires : tie.Need-scalar-at-requires Inv-loop μ-loop
@@ -116,7 +116,7 @@ clip-spec =
     Inv-loop
     μ-loop
     slice-aggregate-runs
-    runs-requires
+    from-first-requires
     from-f64-requires
     from-f64-requires-2
     union-requires

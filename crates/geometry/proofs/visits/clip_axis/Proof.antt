@@ -1,5 +1,5 @@
 -- `clip_axis` is what its calls ensure: the values of the axis stand in the lent list, from which the zeros are read.
-use Rattle.geometry.proofs.Kernels.Clip.{axis-leaves}
+use Rattle.geometry.proofs.visits.Clips.{axis-leaves}
 use borrow.Author.Needs.{needs}
 use Rattle.geometry.proofs.visits.clip_axis.Statement.{statement}
 use Rattle.geometry.proofs.visits.clip_axis.Tie as tie

@@ -1,7 +1,7 @@
 -- `hand_both` equals its definition: the halves are handed on, if there are any and their weights are above zero.
 use borrow.Author.Needs.{needs}
 use borrow.Author.Tests.{not-true, not-false}
-use Rattle.geometry.proofs.Kernels.Handed.{both-none, both-held, both-bad-first, both-bad-second, both-done}
+use Rattle.geometry.proofs.visits.Handed.{both-none, both-held, both-bad-first, both-bad-second, both-done}
 use Rattle.geometry.proofs.visits.hand_both.Statement.{statement}
 use Rattle.geometry.proofs.visits.hand_both.Tie as tie
 
@@ -17,8 +17,8 @@ returns c =
     let k = c .before .before .before .split-mid in
     both-none (g .s) (g .work .now) _ (g .a) (g .b) (g .hat) _ _ (k .ensures) (k .kept .0) (not-true _ (c .if1 .taken))
 
-weighted-in-requires : tie.Need-weighted-in-requires
-weighted-in-requires c κs =
+weights-positive-in-requires : tie.Need-weights-positive-in-requires
+weights-positive-in-requires c κs =
     let g = c .before .before .before .before .before .before .before .args in
     let k = c .before .before .before .before .split-mid in
     both-held (g .s) (g .work .now) _ (g .a) (g .b) (g .hat) _ _ (k .ensures) (k .kept .0) (not-false _ (c .before .if1 .left)) .0
@@ -30,10 +30,10 @@ returns-2 : tie.Need-returns-2
 returns-2 c =
     let g = c .before .before .before .before .before .before .before .before .before .args in
     let k = c .before .before .before .before .before .before .split-mid in
-    both-bad-first (g .s) (g .work .now) _ (g .a) (g .b) (g .hat) _ _ (k .ensures) (k .kept .0) (not-false _ (c .before .before .before .if1 .left)) _ (c .before .weighted-in .ensures) (not-true _ (c .if2 .taken))
+    both-bad-first (g .s) (g .work .now) _ (g .a) (g .b) (g .hat) _ _ (k .ensures) (k .kept .0) (not-false _ (c .before .before .before .if1 .left)) _ (c .before .weights-positive-in .ensures) (not-true _ (c .if2 .taken))
 
-weighted-in-requires-2 : tie.Need-weighted-in-requires-2
-weighted-in-requires-2 c κs =
+weights-positive-in-requires-2 : tie.Need-weights-positive-in-requires-2
+weights-positive-in-requires-2 c κs =
     let g = c .before .before .before .before .before .before .before .before .before .before .args in
     let k = c .before .before .before .before .before .before .before .split-mid in
     both-held (g .s) (g .work .now) _ (g .a) (g .b) (g .hat) _ _ (k .ensures) (k .kept .0) (not-false _ (c .before .before .before .before .if1 .left)) .1
@@ -45,7 +45,7 @@ returns-3 : tie.Need-returns-3
 returns-3 c =
     let g = c .before .before .before .before .before .before .before .before .before .before .before .before .args in
     let k = c .before .before .before .before .before .before .before .before .before .split-mid in
-    both-bad-second (g .s) (g .work .now) _ (g .a) (g .b) (g .hat) _ _ (k .ensures) (k .kept .0) (not-false _ (c .before .before .before .before .before .before .if1 .left)) _ (c .before .before .before .before .weighted-in .ensures) (not-false _ (c .before .before .before .if2 .left)) _ (c .before .weighted-in2 .ensures) (not-true _ (c .if3 .taken))
+    both-bad-second (g .s) (g .work .now) _ (g .a) (g .b) (g .hat) _ _ (k .ensures) (k .kept .0) (not-false _ (c .before .before .before .before .before .before .if1 .left)) _ (c .before .before .before .before .weights-positive-in .ensures) (not-false _ (c .before .before .before .if2 .left)) _ (c .before .weights-positive-in2 .ensures) (not-true _ (c .if3 .taken))
 
 same-length-4 : tie.Need-same-length-4
 same-length-4 c = search needs
@@ -54,7 +54,7 @@ returns-4 : tie.Need-returns-4
 returns-4 c =
     let g = c .before .before .before .before .before .before .before .before .before .before .before .before .args in
     let k = c .before .before .before .before .before .before .before .before .before .split-mid in
-    both-done (g .s) (g .work .now) _ (g .a) (g .b) (g .hat) _ _ (k .ensures) (k .kept .0) (not-false _ (c .before .before .before .before .before .before .if1 .left)) _ (c .before .before .before .before .weighted-in .ensures) (not-false _ (c .before .before .before .if2 .left)) _ (c .before .weighted-in2 .ensures) (not-false _ (c .if3 .left))
+    both-done (g .s) (g .work .now) _ (g .a) (g .b) (g .hat) _ _ (k .ensures) (k .kept .0) (not-false _ (c .before .before .before .before .before .before .if1 .left)) _ (c .before .before .before .before .weights-positive-in .ensures) (not-false _ (c .before .before .before .if2 .left)) _ (c .before .weights-positive-in2 .ensures) (not-false _ (c .if3 .left))
 
 pub hand-both-spec : {M : Type 1} → statement M
 hand-both-spec =
@@ -63,10 +63,10 @@ hand-both-spec =
     split-mid-requires
     same-length
     returns
-    weighted-in-requires
+    weights-positive-in-requires
     same-length-2
     returns-2
-    weighted-in-requires-2
+    weights-positive-in-requires-2
     same-length-3
     returns-3
     same-length-4

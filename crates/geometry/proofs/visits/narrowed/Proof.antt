@@ -1,5 +1,5 @@
 -- `narrowed` equals its definition, by the two cases of the zeros and by its test.
-use Rattle.geometry.proofs.Kernels.Clip.{narrowed-yes, narrowed-no, narrowed-none}
+use Rattle.geometry.proofs.visits.Clips.{narrowed-yes, narrowed-no, narrowed-none}
 use borrow.Author.Needs.{needs}
 use Rattle.geometry.proofs.visits.narrowed.Statement.{statement}
 use Rattle.geometry.proofs.visits.narrowed.Tie as tie

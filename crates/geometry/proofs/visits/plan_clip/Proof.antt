@@ -4,8 +4,8 @@ use native.Mathlib.Omega.{arith}
 use lib.ListN.{length}
 use Rattle.math.specs.Scalars.{geop}
 use Rattle.model.specs.Layout.{scalarsOf}
-use Rattle.geometry.proofs.Kernels.Plan.{clip-report, clip-skip, clip-go}
-use Rattle.geometry.proofs.Kernels.Zeros.{held-long, none-degree, some-degree}
+use Rattle.geometry.proofs.visits.Plans.{clip-report, clip-skip, clip-go}
+use Rattle.geometry.proofs.fat_line.Zeros.{held-long, none-degree, some-degree}
 use borrow.Author.Needs.{needs}
 use Rattle.geometry.proofs.visits.plan_clip.Statement.{statement}
 use Rattle.geometry.proofs.visits.plan_clip.Tie as tie

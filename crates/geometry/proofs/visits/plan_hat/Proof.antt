@@ -1,7 +1,7 @@
 -- `plan_hat` equals its definition: the two tests are those of the definition.
 use Prim.Native.Nat.{suc}
 use Rattle.model.specs.Layout.{scalarsOf, pointsOf}
-use Rattle.geometry.proofs.Kernels.Plan.{hat-restrict, hat-halve, hat-report}
+use Rattle.geometry.proofs.visits.Plans.{hat-restrict, hat-halve, hat-report}
 use borrow.Author.Needs.{needs}
 use Rattle.geometry.proofs.visits.plan_hat.Statement.{statement}
 use Rattle.geometry.proofs.visits.plan_hat.Tie as tie
@@ -9,18 +9,18 @@ use Rattle.geometry.proofs.visits.plan_hat.Tie as tie
 carried-requires : tie.Need-carried-requires
 carried-requires c κs = search needs
 
-cuts-down-requires : tie.Need-cuts-down-requires
-cuts-down-requires c κs = search needs
+restricts-requires : tie.Need-restricts-requires
+restricts-requires c κs = search needs
 
 returns : tie.Need-returns
 returns c =
     let k = c .before in
     let w = k .before in
     let a = w .before .before .before .args in
-    hat-restrict (a .dim) (scalarsOf (a .dim) (a .point-box .now)) (a .resolution) (a .a) (a .b) (w .carried .result) (pointsOf (suc (a .dim)) (a .count) (a .points .now)) (a .hat) (k .cuts-down .result) (w .carried .ensures) (k .cuts-down .ensures) (c .if1 .taken)
+    hat-restrict (a .dim) (scalarsOf (a .dim) (a .point-box .now)) (a .resolution) (a .a) (a .b) (w .carried .result) (pointsOf (suc (a .dim)) (a .count) (a .points .now)) (a .hat) (k .restricts .result) (w .carried .ensures) (k .restricts .ensures) (c .if1 .taken)
 
-bisects-requires : tie.Need-bisects-requires
-bisects-requires c κs = search needs
+halves-requires : tie.Need-halves-requires
+halves-requires c κs = search needs
 
 returns-2 : tie.Need-returns-2
 returns-2 c =
@@ -28,7 +28,7 @@ returns-2 c =
     let k = h .before .before in
     let w = k .before in
     let a = w .before .before .before .args in
-    hat-halve (a .dim) (scalarsOf (a .dim) (a .point-box .now)) (a .resolution) (a .a) (a .b) (w .carried .result) (pointsOf (suc (a .dim)) (a .count) (a .points .now)) (a .hat) (k .cuts-down .result) (w .carried .ensures) (k .cuts-down .ensures) (h .bisects .result) (h .before .if1 .left) (h .bisects .ensures) (c .if2 .taken)
+    hat-halve (a .dim) (scalarsOf (a .dim) (a .point-box .now)) (a .resolution) (a .a) (a .b) (w .carried .result) (pointsOf (suc (a .dim)) (a .count) (a .points .now)) (a .hat) (k .restricts .result) (w .carried .ensures) (k .restricts .ensures) (h .halves .result) (h .before .if1 .left) (h .halves .ensures) (c .if2 .taken)
 
 returns-3 : tie.Need-returns-3
 returns-3 c =
@@ -36,9 +36,9 @@ returns-3 c =
     let k = h .before .before in
     let w = k .before in
     let a = w .before .before .before .args in
-    hat-report (a .dim) (scalarsOf (a .dim) (a .point-box .now)) (a .resolution) (a .a) (a .b) (w .carried .result) (pointsOf (suc (a .dim)) (a .count) (a .points .now)) (a .hat) (k .cuts-down .result) (w .carried .ensures) (k .cuts-down .ensures) (h .bisects .result) (h .before .if1 .left) (h .bisects .ensures) (c .if2 .left)
+    hat-report (a .dim) (scalarsOf (a .dim) (a .point-box .now)) (a .resolution) (a .a) (a .b) (w .carried .result) (pointsOf (suc (a .dim)) (a .count) (a .points .now)) (a .hat) (k .restricts .result) (w .carried .ensures) (k .restricts .ensures) (h .halves .result) (h .before .if1 .left) (h .halves .ensures) (c .if2 .left)
 
 pub plan-hat-spec : {M : Type 1} → statement M
 plan-hat-spec =
     tie.close
-    (tie.spec carried-requires cuts-down-requires returns bisects-requires returns-2 returns-3)
+    (tie.spec carried-requires restricts-requires returns halves-requires returns-2 returns-3)

@@ -3,8 +3,8 @@ use mathlib.Core.Path.{ap, _∙_}
 use Rattle.math.specs.Scalars.{geop}
 use Rattle.model.specs.Layout.{scalarsOf}
 use Rattle.geometry.specs.Plan.{planned}
-use Rattle.geometry.proofs.Memory.Counts.{count-readable}
-use Rattle.geometry.proofs.Kernels.Visit.{visit-asks, points-room, knots-room, piece-back}
+use Rattle.geometry.proofs.slots.Counts.{count-readable}
+use Rattle.geometry.proofs.visits.Slots.{visit-asks, points-room, knots-room, piece-back}
 use borrow.Author.Needs.{needs}
 use Rattle.geometry.proofs.visits.plan_in.Statement.{statement}
 use Rattle.geometry.proofs.visits.plan_in.Tie as tie

@@ -2,7 +2,7 @@
 use mathlib.Core.Path.{sym}
 use borrow.Author.Tests.{not-true, not-false}
 use Rattle.model.specs.Layout.{scalarsOf}
-use Rattle.geometry.proofs.Kernels.Plan.{plan-skip, plan-go}
+use Rattle.geometry.proofs.visits.Plans.{plan-skip, plan-go}
 use borrow.Author.Needs.{needs}
 use Rattle.geometry.proofs.visits.planned.Statement.{statement}
 use Rattle.geometry.proofs.visits.planned.Tie as tie

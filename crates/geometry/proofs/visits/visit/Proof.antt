@@ -1,7 +1,7 @@
 -- `visit` does what its plan says.
 use borrow.Author.Needs.{needs}
 use Rattle.model.specs.Layout.{scalarsOf}
-use Rattle.geometry.proofs.Kernels.Handed.{see-skip, see-report, see-restrict, see-halve, steep}
+use Rattle.geometry.proofs.visits.Handed.{see-skip, see-report, see-restrict, see-halve, steep}
 use Rattle.geometry.proofs.visits.visit.Statement.{statement}
 use Rattle.geometry.proofs.visits.visit.Tie as tie
 

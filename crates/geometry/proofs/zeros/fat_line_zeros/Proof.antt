@@ -59,8 +59,8 @@ use Rattle.model.proofs.fat_line.Hat as O
 use Rattle.model.proofs.fat_line.Hat.Laws as O′
 use Rattle.geometry.specs.Zeros.{paired, polygonZeros, begun, taken, zerosOf}
 use Rattle.geometry.specs.declared.zeros.Line.{Line}
-use Rattle.geometry.proofs.Kernels.ByHand.{machine, Has, Lent, takes, hears}
-use Rattle.geometry.proofs.Kernels.Polygon.{zeros-found, not-not, is-pair, no-polygon, a-polygon, as-many, not-empty, lineOf, line-first, line-turn, line-done}
+use Rattle.geometry.proofs.zeros.ByHand.{machine, Has, Lent, takes, hears}
+use Rattle.geometry.proofs.zeros.Polygon.{zeros-found, not-not, is-pair, no-polygon, a-polygon, as-many, not-empty, lineOf, line-first, line-turn, line-done}
 use Rattle.geometry.proofs.zeros.Line as L
 use Rattle.geometry.proofs.zeros.Line.Laws as L′
 use Rattle.geometry.proofs.zeros.paired as paired-fn

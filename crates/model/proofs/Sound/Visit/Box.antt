@@ -16,7 +16,7 @@ use Rattle.math.specs.Values.{Holds}
 use Rattle.math.specs.Encloses.{Encloses}
 use Rattle.math.proofs.Bools.{and-i}
 use Rattle.model.specs.Vector.{Vector, coordinate}
-use Rattle.model.specs.NurbCurve.{Piece, point, weighted}
+use Rattle.model.specs.NurbCurve.{Piece, point, weightsPositive}
 use Rattle.model.specs.Aabb.{unions, place, aabb, couldOverlap}
 use Rattle.model.proofs.Sound.Base.{values, Lined, Carries}
 use Rattle.model.proofs.Sound.Visit.Hulls.{could-equal, unions-between}
@@ -33,7 +33,7 @@ overlap (x ∷ xs) (y ∷ ys) q e f g =
     and-i (couldBeEqual x y) (couldOverlap xs ys) (could-equal x y (q zero) (f zero (omega arith)) (g zero (omega arith)))
     (overlap xs ys (λ k. q (suc k)) (omega arith) (λ k l. f (suc k) (omega arith)) (λ k l. g (suc k) (omega arith)))
 
-module _ (ar : Arithmetic) (E : Encloses ar) (dim p : ℕ) (c : Piece) (K : Lined p (length (c .points)) (c .knots)) (w : T (weighted dim (c .points))) (t : ℚ) (v : ℕ → ℚ) (h : Carries (suc dim) p t v c) where
+module _ (ar : Arithmetic) (E : Encloses ar) (dim p : ℕ) (c : Piece) (K : Lined p (length (c .points)) (c .knots)) (w : T (weightsPositive dim (c .points))) (t : ℚ) (v : ℕ → ℚ) (h : Carries (suc dim) p t v c) where
   n≥1 : 1 ≤ length (c .points)
   n≥1 = omega (arith, K .room)
 

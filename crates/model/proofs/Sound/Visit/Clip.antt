@@ -16,7 +16,7 @@ use Rattle.math.specs.Values.{Holds}
 use Rattle.math.specs.Encloses.{Encloses}
 use Rattle.math.proofs.Intervals.Tests.{union-left, union-right, intersect-holds}
 use Rattle.model.specs.Vector.{Vector, coordinate}
-use Rattle.model.specs.NurbCurve.{Piece, point, start, end, domain, weighted}
+use Rattle.model.specs.NurbCurve.{Piece, point, start, end, domain, weightsPositive}
 use Rattle.model.specs.FatLine.{greville, fatLineZeros}
 use Rattle.model.specs.Contains.{axis, narrowed, clip}
 use Rattle.model.specs.declared.fat_line.Hat.{Hat}
@@ -30,7 +30,7 @@ use Rattle.model.proofs.Sound.Visit.Greville.{Abscissae, greville-holds
 use Rattle.model.proofs.Sound.Visit.Zeros.{Found, found-over, passes, Crosses, zeros-found}
 
 -- ---- one axis
-module _ (ar : Arithmetic) (E : Encloses ar) (dim : ℕ) (ps : List Vector) (w : T (weighted dim ps)) (C : ℕ → ℕ → ℚ) (I : Inside (suc dim) ps C) (k : ℕ) (kd : k < dim) (e : Scalar) (q : ℚ) (h : Holds e q) where
+module _ (ar : Arithmetic) (E : Encloses ar) (dim : ℕ) (ps : List Vector) (w : T (weightsPositive dim ps)) (C : ℕ → ℕ → ℚ) (I : Inside (suc dim) ps C) (k : ℕ) (kd : k < dim) (e : Scalar) (q : ℚ) (h : Holds e q) where
   abbrev less : Vector → Scalar
   less v = ar .sub (coordinate v k) (ar .mul e (coordinate v dim))
 
@@ -82,7 +82,7 @@ module _ (dim p : ℕ) (c : Piece) (K : Lined p (length (c .points)) (c .knots))
       inside = on-domain p (length (c .points)) (values (c .knots)) (K .sorted) (h .exact) t v (h .on)
 
 -- ---- the piece
-module _ (ar : Arithmetic) (E : Encloses ar) (dim p : ℕ) (c : Piece) (K : Knots p (length (c .points)) (c .knots)) (w : T (weighted dim (c .points))) (t : ℚ) (v : ℕ → ℚ) (h : Carries (suc dim) p t v c) where
+module _ (ar : Arithmetic) (E : Encloses ar) (dim p : ℕ) (c : Piece) (K : Knots p (length (c .points)) (c .knots)) (w : T (weightsPositive dim (c .points))) (t : ℚ) (v : ℕ → ℚ) (h : Carries (suc dim) p t v c) where
   abbrev n : ℕ
   n = length (c .points)
 

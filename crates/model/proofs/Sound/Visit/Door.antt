@@ -19,7 +19,7 @@ use Rattle.math.specs.Encloses.{Encloses}
 use Rattle.math.proofs.Bools.{and-i, and-l, and-r, pick}
 use Rattle.math.proofs.Intervals.Tests.{union-left, union-right, intersect-holds, zero-holds, one-holds}
 use Rattle.model.specs.Vector.{Vector}
-use Rattle.model.specs.NurbCurve.{Piece, point, weighted}
+use Rattle.model.specs.NurbCurve.{Piece, point, weightsPositive}
 use Rattle.model.specs.Aabb.{place, aabb, couldOverlap, alongBy, along, meets, couldMeet}
 use Rattle.model.specs.declared.fat_line.Hat.{Hat}
 use Rattle.model.specs.declared.fat_line.Hat.the-variants.{Over, Missing}
@@ -91,7 +91,7 @@ module _ (ar : Arithmetic) (E : Encloses ar) where
         go (Over t) y rec = left t (couldBeEqual t range) (could-equal t range x y h) (rec (intersectS t range) (intersect-holds t range x y h))
 
 -- ---- the piece
-module _ (ar : Arithmetic) (E : Encloses ar) (dim p : ℕ) (c : Piece) (K : Knots p (length (c .points)) (c .knots)) (w : T (weighted dim (c .points))) (t : ℚ) (v : ℕ → ℚ) (h : Carries (suc dim) p t v c)
+module _ (ar : Arithmetic) (E : Encloses ar) (dim p : ℕ) (c : Piece) (K : Knots p (length (c .points)) (c .knots)) (w : T (weightsPositive dim (c .points))) (t : ℚ) (v : ℕ → ℚ) (h : Carries (suc dim) p t v c)
     (box : List Scalar) (long : length box ≡ dim) (q : ℕ → ℚ) (bq : (k : ℕ) → k < dim → Holds (getD box k absent) (q k)) (vq : (k : ℕ) → k < dim → v k *ℚ invℚ (v dim) ≡ q k)
     (kb : (k : ℕ) → k < dim → Bounded (getD box k absent)) where
   -- a segment

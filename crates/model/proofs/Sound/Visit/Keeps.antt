@@ -1,6 +1,6 @@
 -- What each axis keeps of a hat the whole clip keeps; and the bounds of the zeros are doubles. Assumes nothing.
 use mathlib.Core.Path.{_≡_, subst}
-use mathlib.Core.List.{List, [], _∷_, zipWith}
+use mathlib.Core.List.{List, [], _∷_}
 use mathlib.Core.Bool.{Bool, true, false, cond}
 use Prim.Native.Nat.{ℕ, zero, suc, _+_, _<_}
 use native.Mathlib.Omega.{arith}
@@ -16,28 +16,28 @@ use Rattle.math.specs.Scalars.{Arithmetic, ZERO, ENTIRE, absent, couldBeEqual, 
 use Rattle.math.specs.Encloses.{Encloses}
 use Rattle.model.specs.Vector.{Vector}
 use Rattle.model.specs.Aabb.{unions}
-use Rattle.model.specs.FatLine.{offset, crossing, zerosBy, fatLineZeros}
+use Rattle.model.specs.FatLine.{crossing, zerosBy, fatLineZeros}
 use Rattle.model.specs.Contains.{axis, narrowed, clip}
 use Rattle.model.specs.declared.fat_line.Hat.{Hat}
 use Rattle.model.specs.declared.fat_line.Hat.the-variants.{Over, Missing}
 
 -- ---- a hat, if there is one, has the property P
-abbrev pub Kept : (Scalar → Type 0) → Hat → Type 0
-Kept P Missing = Unit {0}
-Kept P (Over z) = P z
+abbrev pub OfHat : (Scalar → Type 0) → Hat → Type 0
+OfHat P Missing = Unit {0}
+OfHat P (Over z) = P z
 
-pub kept-if : (P : Scalar → Type 0) (b : Bool) (z : Scalar) → (T b → P z) → Kept P (cond b (Over z) Missing)
-kept-if P true z f = f tt
-kept-if P false z f = tt
+pub of-hat-if : (P : Scalar → Type 0) (b : Bool) (z : Scalar) → (T b → P z) → OfHat P (cond b (Over z) Missing)
+of-hat-if P true z f = f tt
+of-hat-if P false z f = tt
 
-pub kept-or : (P : Scalar → Type 0) (b : Bool) (h : Hat) → Kept P h → Kept P (cond b h Missing)
-kept-or P true h f = f
-kept-or P false h f = tt
+pub of-hat-or : (P : Scalar → Type 0) (b : Bool) (h : Hat) → OfHat P h → OfHat P (cond b h Missing)
+of-hat-or P true h f = f
+of-hat-or P false h f = tt
 
 -- what each axis keeps the clip keeps; Q is what is known of the box
 module _ (ar : Arithmetic) (dim : ℕ) (ps : List Vector) (ξs : List Scalar) (P : Scalar → Type 0) (Q : ℕ → Scalar → Type 0)
-    (f : (k : ℕ) (e hat : Scalar) → Q k e → P hat → Kept P (narrowed hat (fatLineZeros ar ξs (axis ar dim k e ps)))) where
-  pub clip-keeps : (es : List Scalar) (k : ℕ) (hat : Scalar) → ((j : ℕ) → j < length es → Q (k + j) (getD es j absent)) → P hat → Kept P (clip ar dim ps ξs hat k es)
+    (f : (k : ℕ) (e hat : Scalar) → Q k e → P hat → OfHat P (narrowed hat (fatLineZeros ar ξs (axis ar dim k e ps)))) where
+  pub clip-keeps : (es : List Scalar) (k : ℕ) (hat : Scalar) → ((j : ℕ) → j < length es → Q (k + j) (getD es j absent)) → P hat → OfHat P (clip ar dim ps ξs hat k es)
   unfolding clip
   clip-keeps [] k hat b h = h
   clip-keeps (e ∷ es) k hat b h =
@@ -50,29 +50,31 @@ module _ (ar : Arithmetic) (dim : ℕ) (ps : List Vector) (ξs : List Scalar) (P
       next : (j : ℕ) → k + suc j ≡ suc k + j
       next j = omega arith
 
-      go : (r : Hat) → Kept P r → ((g : Scalar) → P g → Kept P (clip ar dim ps ξs g (suc k) es)) → Kept P (elim r [ Missing ↦ Missing | Over h ↦ clip ar dim ps ξs h (suc k) es ])
+      go : (r : Hat) → OfHat P r → ((g : Scalar) → P g → OfHat P (clip ar dim ps ξs g (suc k) es)) → OfHat P (elim r [ Missing ↦ Missing | Over h ↦ clip ar dim ps ξs h (suc k) es ])
       go Missing y rec = tt
       go (Over g) y rec = rec g y
 
 -- ---- an interval of doubles
-pub record Doubles (z : Scalar) : Type 0 where
+pub record DoubleBounds (z : Scalar) : Type 0 where
   pub lo-double : T (fits binary64 (z .lo))
   pub hi-double : T (fits binary64 (z .hi))
 
 -- whatever the polygon is
 module _ (ar : Arithmetic) (E : Encloses ar) where
-  crossing-doubles : (ξ₀ : Scalar) (q : Divided) → Kept Doubles (crossing ar ξ₀ q)
+  crossing-doubles : (ξ₀ : Scalar) (q : Divided) → OfHat DoubleBounds (crossing ar ξ₀ q)
   unfolding crossing
   crossing-doubles ξ₀ Failed = record { lo-double = inf-fits binary64 true; hi-double = inf-fits binary64 false }
   crossing-doubles ξ₀ (Value q) = record { lo-double = E .sub-doubles ξ₀ q .0; hi-double = E .sub-doubles ξ₀ q .1 }
 
-  by-doubles : (ξs ds : List Scalar) (ξ₀ d₀ : Scalar) (o : Divided) → Kept Doubles (zerosBy ar ξs ds ξ₀ d₀ o)
-  unfolding zerosBy
-  by-doubles ξs ds ξ₀ d₀ Failed = kept-if Doubles (couldBeEqual (unions ds) ZERO) ENTIRE (λ _. record { lo-double = inf-fits binary64 true; hi-double = inf-fits binary64 false })
-  by-doubles ξs ds ξ₀ d₀ (Value s) =
-      let band = unions (zipWith (λ x y. offset ar s ξ₀ d₀ x y) ξs ds) in
-      kept-or Doubles (couldBeEqual (ar .add (unionS d₀ (lastD ds absent)) band) ZERO) (crossing ar ξ₀ (ar .div (ar .add d₀ band) s)) (crossing-doubles ξ₀ (ar .div (ar .add d₀ band) s))
+  -- whatever the band is
+  band-doubles : (ξ₀ d₀ d s band : Scalar) → OfHat DoubleBounds (cond (couldBeEqual (ar .add (unionS d₀ d) band) ZERO) (crossing ar ξ₀ (ar .div (ar .add d₀ band) s)) Missing)
+  band-doubles ξ₀ d₀ d s band = of-hat-or DoubleBounds (couldBeEqual (ar .add (unionS d₀ d) band) ZERO) _ (crossing-doubles ξ₀ (ar .div (ar .add d₀ band) s))
 
-  pub zeros-doubles : (ξs ds : List Scalar) → Kept Doubles (fatLineZeros ar ξs ds)
+  by-doubles : (ξs ds : List Scalar) (ξ₀ d₀ : Scalar) (o : Divided) → OfHat DoubleBounds (zerosBy ar ξs ds ξ₀ d₀ o)
+  unfolding zerosBy
+  by-doubles ξs ds ξ₀ d₀ Failed = of-hat-if DoubleBounds (couldBeEqual (unions ds) ZERO) ENTIRE (λ _. record { lo-double = inf-fits binary64 true; hi-double = inf-fits binary64 false })
+  by-doubles ξs ds ξ₀ d₀ (Value s) = band-doubles ξ₀ d₀ (lastD ds absent) s _
+
+  pub zeros-doubles : (ξs ds : List Scalar) → OfHat DoubleBounds (fatLineZeros ar ξs ds)
   unfolding fatLineZeros
   zeros-doubles ξs ds = by-doubles ξs ds (getD ξs 0 absent) (getD ds 0 absent) (ar .div (ar .sub (lastD ds absent) (getD ds 0 absent)) (ar .sub (lastD ξs absent) (getD ξs 0 absent)))

@@ -22,15 +22,15 @@ use Rattle.math.proofs.Bools.{and-l, and-r, or-r, or-split, decide}
 use Rattle.math.proofs.Doubles.Values.{value-zero, lt→value}
 use Rattle.math.proofs.Doubles.Order.{lt-le, lt-not-le}
 use Rattle.model.specs.Vector.{Vector, coordinate}
-use Rattle.model.specs.NurbCurve.{point, weighted}
+use Rattle.model.specs.NurbCurve.{point, weightsPositive}
 use Rattle.model.specs.Aabb.{place}
 
 -- an interval whose lo is above 0
 abbrev pub Heavy : Scalar → Type 0
 Heavy s = T (lt zeroF (s .lo))
 
-pub heavy-at : (dim : ℕ) (points : List Vector) → T (weighted dim points) → (i : ℕ) → i < length points → Heavy (coordinate (point points i) dim)
-unfolding weighted
+pub heavy-at : (dim : ℕ) (points : List Vector) → T (weightsPositive dim points) → (i : ℕ) → i < length points → Heavy (coordinate (point points i) dim)
+unfolding weightsPositive
 heavy-at dim points w i l = subst T (sym (all-getD (λ (q : Vector). lt zeroF (coordinate q dim .lo)) points i [] (is-true _ w) l)) tt
 
 above-zero : (l : Float) (x : ℚ) → T (lt zeroF l) → Below l x → 0ℚ <ℚ x

@@ -9,7 +9,7 @@ use lib.Dec.{T}
 use lib.IntN.{pos}
 use lib.ListN.{length}
 use lib.Ieee.{Float, nan, inf, fin, binary64, neg, add, sub, lt, le, fits}
-use Rattle.exact.specs.Ring.{by-rep, read}
+use Rattle.ring.proofs.Ring.{by-rep, read}
 use Rattle.exact.specs.Rational.{ℚ, -ℚ_, _-ℚ_, 0ℚ, _≤ℚ_, _<ℚ_, nn-of}
 use Rattle.exact.proofs.Field.{ℚring}
 use Rattle.exact.proofs.Order.{le-by, lt→le}
@@ -30,7 +30,7 @@ use Rattle.model.specs.declared.fat_line.Hat.{Hat}
 use Rattle.model.specs.declared.fat_line.Hat.the-variants.{Over, Missing}
 use Rattle.model.proofs.Sound.Base.{Known, Knots}
 use Rattle.model.proofs.Sound.Known.{le-known}
-use Rattle.model.proofs.Sound.Visit.Keeps.{Kept, kept-if, clip-keeps, Doubles, zeros-doubles}
+use Rattle.model.proofs.Sound.Visit.Keeps.{OfHat, of-hat-if, clip-keeps, DoubleBounds, zeros-doubles}
 
 -- a test that failed did not pass
 pub clash : (x : Bool) → T (not x) → T x → ⊥
@@ -44,24 +44,28 @@ minus x y h = le-by (nn-of (lt→le h)) (by-rep ℚring (x ∷ y ∷ []) (search
 minus′ : (x y : ℚ) → x <ℚ y → x -ℚ y ≤ℚ 0ℚ
 minus′ x y h = le-by (nn-of (lt→le h)) (by-rep ℚring (x ∷ y ∷ []) (search read) (search read) tt)
 
--- of the greater less the lesser, and of the lesser less the greater
-sub-signs : (x y : Float) → T (lt x y) → T (le zeroF (sub binary64 y x)) × T (le (sub binary64 x y) zeroF)
-sub-signs nan y h = unfold lt in absurd h
-sub-signs (inf s) nan h = unfold lt in absurd h
-sub-signs (inf true) (inf true) h = unfold lt in absurd h
-sub-signs (inf true) (inf false) h = unfold sub add neg le in (tt, tt)
-sub-signs (inf false) (inf t) h = unfold lt in absurd h
-sub-signs (inf true) (fin t n d) h = unfold sub add neg le in (tt, tt)
-sub-signs (inf false) (fin t n d) h = unfold lt in absurd h
-sub-signs (fin s m e) nan h = unfold lt in absurd h
-sub-signs (fin s m e) (inf true) h = unfold lt in absurd h
-sub-signs (fin s m e) (inf false) h = unfold sub add neg le in (tt, tt)
-sub-signs (fin s m e) (fin t n d) h = (
-  rounds-ge _ _ (sub-rounds t n d s m e) false 0 (pos 0) (unfold fits in tt)
-      (subst (λ (z : ℚ). z ≤ℚ value (fin t n d) -ℚ value (fin s m e)) (sym (value-zero false (pos 0))) (minus _ _ (lt→value s m e t n d h))),
-  rounds-le _ _ (sub-rounds s m e t n d) false 0 (pos 0) (unfold fits in tt)
-      (subst (λ (z : ℚ). value (fin s m e) -ℚ value (fin t n d) ≤ℚ z) (sym (value-zero false (pos 0))) (minus′ _ _ (lt→value s m e t n d h))),
+-- a double below another: the other less it is not below zero, and it less the other not above
+sub-sides : (x y : Float) → T (lt x y) → T (le zeroF (sub binary64 y x)) × T (le (sub binary64 x y) zeroF)
+sub-sides nan y h = unfold lt in absurd h
+sub-sides (inf s) nan h = unfold lt in absurd h
+sub-sides (inf true) (inf true) h = unfold lt in absurd h
+sub-sides (inf true) (inf false) h = unfold sub add neg le in (tt, tt)
+sub-sides (inf false) (inf t) h = unfold lt in absurd h
+sub-sides (inf true) (fin t n d) h = unfold sub add neg le in (tt, tt)
+sub-sides (inf false) (fin t n d) h = unfold lt in absurd h
+sub-sides (fin s m e) nan h = unfold lt in absurd h
+sub-sides (fin s m e) (inf true) h = unfold lt in absurd h
+sub-sides (fin s m e) (inf false) h = unfold sub add neg le in (tt, tt)
+sub-sides (fin s m e) (fin t n d) h = (
+  rounds-ge _ _ (sub-rounds t n d s m e) false 0 (pos 0) (unfold fits in tt) (subst (λ (z : ℚ). z ≤ℚ value (fin t n d) -ℚ value (fin s m e)) zero-is (minus _ _ below)),
+  rounds-le _ _ (sub-rounds s m e t n d) false 0 (pos 0) (unfold fits in tt) (subst (λ (z : ℚ). value (fin s m e) -ℚ value (fin t n d) ≤ℚ z) zero-is (minus′ _ _ below)),
 )
+  where
+    below : value (fin s m e) <ℚ value (fin t n d)
+    below = lt→value s m e t n d h
+
+    zero-is : 0ℚ ≡ value (fin false 0 (pos 0))
+    zero-is = sym (value-zero false (pos 0))
 
 -- ---- both bounds of the hat lie from a to b, and are doubles
 pub record Within (a b : Float) (hat : Scalar) : Type 0 where
@@ -72,7 +76,7 @@ pub record Within (a b : Float) (hat : Scalar) : Type 0 where
   pub double-lo : T (fits binary64 (hat .lo))
   pub double-hi : T (fits binary64 (hat .hi))
 
-module _ (a b : Float) (hat z : Scalar) (h : Within a b hat) (dz : Doubles z) (t : T (couldBeEqual z hat)) where
+module _ (a b : Float) (hat z : Scalar) (h : Within a b hat) (dz : DoubleBounds z) (t : T (couldBeEqual z hat)) where
   z-hat : T (le (z .lo) (hat .hi))
   z-hat = and-l (le (z .lo) (hat .hi)) (le (hat .lo) (z .hi)) t
 
@@ -126,7 +130,7 @@ module _ (a b : Float) (hat z : Scalar) (h : Within a b hat) (dz : Doubles z) (t
 
       never : T (lt (z .lo) (z .hi)) → ⊥
       never o = elim (decide (lt (hat .hi) (hat .lo))) [
-        | inl k ↦ clash (le (sub binary64 (hat .hi) (hat .lo)) (sub binary64 (z .hi) (z .lo))) m (le-trans (sub binary64 (hat .hi) (hat .lo)) zeroF (sub binary64 (z .hi) (z .lo)) (sub-signs (hat .hi) (hat .lo) k .1) (sub-signs (z .lo) (z .hi) o .0))
+        | inl k ↦ clash (le (sub binary64 (hat .hi) (hat .lo)) (sub binary64 (z .hi) (z .lo))) m (le-trans (sub binary64 (hat .hi) (hat .lo)) zeroF (sub binary64 (z .hi) (z .lo)) (sub-sides (hat .hi) (hat .lo) k .1) (sub-sides (z .lo) (z .hi) o .0))
         | inr k ↦ clash (le lo′ hi′) n (in-order (total-order (hat .lo) (hat .hi) (le-number-r a (hat .lo) (h .from-lo)) (le-number-r a (hat .hi) (h .from-hi)) k) (lt→le-f (z .lo) (z .hi) o))
       ]
 
@@ -142,10 +146,10 @@ module _ (a b : Float) (hat z : Scalar) (h : Within a b hat) (dz : Doubles z) (t
       (λ n. pick (Within a b) (le (sub binary64 (hat .hi) (hat .lo)) (sub binary64 (z .hi) (z .lo))) hat z (λ _. h) (λ m. chosen n m))
 
 -- ---- the domain, and what the axes leave of it
-narrowed-within : (a b : Float) (hat : Scalar) (z : Hat) → Within a b hat → Kept Doubles z → Kept (Within a b) (narrowed hat z)
+narrowed-within : (a b : Float) (hat : Scalar) (z : Hat) → Within a b hat → OfHat DoubleBounds z → OfHat (Within a b) (narrowed hat z)
 unfolding narrowed
 narrowed-within a b hat Missing h d = tt
-narrowed-within a b hat (Over z) h d = kept-if (Within a b) (couldBeEqual z hat) (intersectS hat z) (λ t. intersect-within a b hat z h d t)
+narrowed-within a b hat (Over z) h d = of-hat-if (Within a b) (couldBeEqual z hat) (intersectS hat z) (λ t. intersect-within a b hat z h d t)
 
 -- the first hat
 pub domain-within : (a b : Float) → Known a → Known b → T (le a b) → Within a b (domain a b)
@@ -178,6 +182,6 @@ module _ (p : ℕ) (c : Piece) (K : Knots p (length (c .points)) (c .knots)) whe
   -- THE CLIP, for any points, abscissae and box
   pub clip-within : (ar : Arithmetic) → Encloses ar → (dim : ℕ) (ξs box : List Scalar) (hat : Scalar) → clip ar dim (c .points) ξs (domain (start p c) (end c)) 0 box ≡ Over hat
       → Within (start p c) (end c) hat
-  clip-within ar E dim ξs box hat e = subst (Kept (Within (start p c) (end c))) e
+  clip-within ar E dim ξs box hat e = subst (OfHat (Within (start p c) (end c))) e
       (clip-keeps ar dim (c .points) ξs (Within (start p c) (end c)) (λ _ _. Unit {0}) (λ k e g _ h. narrowed-within (start p c) (end c) g _ h (zeros-doubles ar E ξs (axis ar dim k e (c .points))))
       box 0 (domain (start p c) (end c)) (λ _ _. tt) (domain-within (start p c) (end c) start-known end-known start-end))

@@ -1,0 +1,3 @@
+-- Laws behind the functions of src/call.rt; the folders beside them have the functions' proofs.
+pub mod Checks
+pub mod Multiplicity

@@ -1,0 +1,168 @@
+-- What a call gives and leaves: a refused one; and an accepted one, whose search begins with the curve in the first slot. Leans on Enclosure.antt, and on the laws of slots and of the search.
+use mathlib.Core.Path.{_≡_, refl, sym, ap, _∙_, subst}
+use mathlib.Core.Bool.{Bool, true, false}
+use mathlib.Core.List.{List}
+use Prim.Native.Nat.{ℕ, zero, suc, _+_, _*_, _≤_, _<_}
+use native.Mathlib.Nat.{mul-assoc, zero-mul}
+use native.Mathlib.Omega.{arith}
+use lib.ListN.{length, drop, replicate}
+use lib.Ieee.{Float}
+use Rattle.lists.specs.Lists.{put, cleared}
+use Rattle.lists.specs.Ring.{wrapped}
+use Rattle.lists.proofs.Loop.{cleared-put, cleared-same}
+use Rattle.lists.proofs.Ring.{wrapped-head}
+use Rattle.math.specs.Scalars.{geop, zeroF}
+use Rattle.math.proofs.Bools.{pick-yes, pick-no}
+use Rattle.model.specs.NurbCurve.{Piece}
+use Rattle.model.specs.Layout.{pointsOf, pointAt, slotWords}
+use Rattle.model.specs.Aabb.{couldMeet}
+use Rattle.model.specs.Subdivide.{advance, answered}
+use Rattle.model.specs.Contains.{visit, begun, couldContain}
+use Rattle.model.specs.Call.{Call, asPiece, boxOf, question, refusal, stated, statedWords, searchedBy, searched, areaBy, areaAfter}
+use Rattle.model.specs.Enclosure.{Doubles, Accepted, HitsEnclosed, BoundsInDomain, BoundsPositiveZero, BoundsInOrder}
+use Rattle.model.specs.Paper.{paper}
+use Rattle.model.specs.Promise.{Answers}
+use Rattle.geometry.specs.Call.{Searches}
+use Rattle.geometry.specs.Slots.{pointWords, pieceAt, placed, Fits, Inside, Held}
+use Rattle.geometry.specs.Ring.{ringBase, Ring, Beside}
+use Rattle.geometry.specs.State.{AllFit, Begins}
+use Rattle.model.specs.declared.contains.Found.{Found}
+use Rattle.model.specs.declared.contains.Found.the-variants.{Nothing, Refused}
+use Rattle.model.proofs.Checks.{stated-is}
+use Rattle.model.proofs.Sound.Accepted.{Sizes, sizes}
+use Rattle.geometry.proofs.Lists.Numbers.{length-points, wide-points}
+use Rattle.geometry.proofs.slots.Piece.{wordsOf, length-placed, piece-placed, held-placed}
+use Rattle.geometry.proofs.slots.Ring.{beside-placed, beside-behind}
+use Rattle.model.proofs.Enclosure.{geop-enclosure}
+use Rattle.model.proofs.Debug.Call.{debug-says}
+use Rattle.geometry.proofs.contains.Fit.{shapeOf, all-fit}
+
+-- ---- the promises of a call
+
+-- A call that is refused gives its number, and writes nothing.
+pub refused : (c : Call) (area : List Float) (n : ℕ) → n ≡ refusal c → (n ≡ 0 → ⊥) → Answers c area area (Refused n 0)
+unfolding searched searchedBy areaAfter areaBy
+refused c area zero e h = absurd (h refl)
+refused c area (suc n) e h = record {
+  result = result;
+  paper = ap paper result;
+  memory = ap (areaBy c area) e;
+  encloses = λ _ never. absurd never;
+  within = tt;
+  zeros = tt;
+  order = tt;
+  debug = debug-says c _ (λ acc. absurd (h (e ∙ acc))) result;
+}
+  where
+    result : Refused (suc n) 0 ≡ searchedBy geop c (refusal c)
+    result = ap (searchedBy geop c) e
+
+-- Any other is searched, and its answer keeps demand 3.
+pub answered-by : (c : Call) (before after : List Float) (r : Found) → Doubles c → Searches c before after r → Answers c before after r
+answered-by c before after r d h = record {
+  result = h .result;
+  paper = ap paper (h .result);
+  memory = h .memory;
+  encloses = subst (HitsEnclosed c) (sym (h .result)) (geop-enclosure .hits c d);
+  within = subst (BoundsInDomain (c .curve)) (sym (h .result)) (geop-enclosure .bounds c d);
+  zeros = subst BoundsPositiveZero (sym (h .result)) (geop-enclosure .zeros c);
+  order = subst BoundsInOrder (sym (h .result)) (geop-enclosure .order c d);
+  debug = debug-says c r (λ _. d) (h .result);
+}
+
+-- ---- a call that is accepted
+
+module _ (c : Call) (acc : Accepted c) (area : List Float) (long : length area ≡ c .workLen) where
+  z : Sizes c
+  z = sizes c acc
+
+  -- ---- the words
+
+  module _ (w : ℕ) (W : w ≡ statedWords (c .curve .dim) (c .curve .degree) (c .curve .count) (c .nodes)) where
+    pub words-are : w ≡ stated c
+    words-are = W ∙ stated-is c acc
+
+    pub words-in : (m : List Float) → length m ≡ length area → w ≤ length m
+    words-in m e = omega (arith, words-are, z .area, long, e)
+
+  ring-in : (c .nodes + 3) * slotWords (c .curve .dim) (c .curve .degree) (c .curve .count) ≤ length area
+  ring-in = unfold stated in omega (arith, z .area, long)
+
+  pub first-slot : Inside (record { dim = c .curve .dim; degree = c .curve .degree; count = c .curve .count }) area 0
+  first-slot = record { sized = record { dim = z .dim; degree = z .degree; count = z .count }; within = omega (arith, ring-in) }
+
+  -- ---- what is asked
+
+  pub points-long : length (c .curve .points) ≡ 2 * suc (c .curve .dim) * c .curve .count
+  points-long = z .points
+
+  pub box-long : 2 * c .curve .dim ≤ length (c .box)
+  box-long = omega (arith, z .box)
+
+  pub door-asks : (c .curve .dim ≤ 3) × (1 ≤ c .curve .count) × (c .curve .count ≤ 32) × (2 * (suc (c .curve .dim) * c .curve .count) ≤ length (c .curve .points)) × (2 * c .curve .dim ≤ length (c .box))
+  door-asks = (z .dim, omega (arith, z .room), z .count, omega (arith, z .points, mul-assoc 2 (suc (c .curve .dim)) (c .curve .count)), box-long)
+
+  -- ---- a box that misses
+
+  module _ (w : ℕ) (W : w ≡ statedWords (c .curve .dim) (c .curve .degree) (c .curve .count) (c .nodes)) where
+    -- the stated words are cleared, where the words behind them are as they were
+    pub area-left : (l m : List Float) → drop ((c .nodes + 3) * slotWords (c .curve .dim) (c .curve .degree) (c .curve .count)) l ≡ drop ((c .nodes + 3) * slotWords (c .curve .dim) (c .curve .degree) (c .curve .count)) area
+        → m ≡ put l 0 (replicate w zeroF) → m ≡ areaAfter c area
+    unfolding areaAfter areaBy
+    area-left l m e M =
+        M ∙ cleared-put l w zeroF ∙ ap (λ (k : ℕ). cleared l k zeroF) (words-are w W)
+        ∙ cleared-same l area (stated c) zeroF behind ∙ sym (ap (areaBy c area) acc)
+      where
+        behind : drop (stated c) l ≡ drop (stated c) area
+        behind = unfold stated in e
+
+  pub missed : (b : Bool) → b ≡ couldMeet geop (c .curve .dim) (c .curve .degree) (asPiece (c .curve) .points) (boxOf c) → b ≡ false → Nothing 0 ≡ searched geop c
+  unfolding searched searchedBy couldContain
+  missed b B e = pick-no _ _ _ (sym B ∙ e) ∙ sym (ap (searchedBy geop c) acc)
+
+  -- ---- a search
+
+  module _ (d : Doubles c) where
+    fits : Fits (shapeOf c d acc) (asPiece (c .curve))
+    fits =
+        let n : length (asPiece (c .curve) .points) ≡ c .curve .count = length-points (suc (c .curve .dim)) (c .curve .count) (c .curve .points) in
+        record { knots = omega (arith, z .knots, n); points = omega (arith, n); wide = wide-points (suc (c .curve .dim)) (c .curve .count) (c .curve .points) }
+
+    module _ (l : List Float) (L : l ≡ placed (shapeOf c d acc) area 0 (asPiece (c .curve))) where
+      piece : pieceAt (shapeOf c d acc) l 0 ≡ asPiece (c .curve)
+      piece = ap (λ (m : List Float). pieceAt (shapeOf c d acc) m 0) L ∙ piece-placed (shapeOf c d acc) area 0 first-slot (asPiece (c .curve)) fits
+
+      held : Held (shapeOf c d acc) l 0
+      held = subst (λ (m : List Float). Held (shapeOf c d acc) m 0) (sym L) (held-placed (shapeOf c d acc) area 0 first-slot (asPiece (c .curve)) fits)
+
+      placed-long : length l ≡ length area
+      placed-long = ap length L ∙ length-placed (shapeOf c d acc) area 0 first-slot (asPiece (c .curve)) fits
+
+      ring : Ring (shapeOf c d acc) l (c .nodes + 3) 0 1
+      ring = record {
+        sized = first-slot .sized;
+        fits = omega (arith, ring-in, placed-long);
+        start = omega arith;
+        full = omega arith;
+        held = λ j h. subst (Held (shapeOf c d acc) l) (sym (at j h)) held;
+      }
+        where
+          at : (j : ℕ) → j < 1 → ringBase (shapeOf c d acc) (c .nodes + 3) 0 j ≡ 0
+          at zero h = ap (λ (k : ℕ). k * wordsOf (shapeOf c d acc)) (wrapped-head (c .nodes + 3) 0 (omega arith)) ∙ zero-mul (wordsOf (shapeOf c d acc))
+          at (suc j) h = absurd (omega arith)
+
+      pub begins : Begins (shapeOf c d acc) (question c) l
+      begins = record { ring = ring; few = z .nodes; fits = λ k. subst (λ (p : Piece). AllFit (shapeOf c d acc) (advance (visit geop (question c)) (c .nodes) k (begun p))) (sym piece) (all-fit c d acc k) }
+
+      -- what is behind the stated words is as it was
+      pub placed-behind : drop ((c .nodes + 3) * slotWords (c .curve .dim) (c .curve .degree) (c .curve .count)) l ≡ drop ((c .nodes + 3) * slotWords (c .curve .dim) (c .curve .degree) (c .curve .count)) area
+      placed-behind =
+          ap (drop ((c .nodes + 3) * slotWords (c .curve .dim) (c .curve .degree) (c .curve .count))) L
+          ∙ beside-behind (shapeOf c d acc) 0 0 area _ (beside-placed (shapeOf c d acc) 0 area (asPiece (c .curve)) first-slot fits) ((c .nodes + 3) * slotWords (c .curve .dim) (c .curve .degree) (c .curve .count)) (omega arith) (omega arith)
+
+      pub answers : (b : Bool) (r : Found) → b ≡ couldMeet geop (c .curve .dim) (c .curve .degree) (asPiece (c .curve) .points) (boxOf c) → b ≡ true
+          → r ≡ answered (advance (visit geop (question c)) (c .nodes) (c .nodes) (begun (pieceAt (shapeOf c d acc) l 0))) → r ≡ searched geop c
+      unfolding searched searchedBy couldContain
+      answers b r B e R =
+          R ∙ ap (λ (p : Piece). answered (advance (visit geop (question c)) (c .nodes) (c .nodes) (begun p))) piece
+          ∙ pick-yes _ _ _ (sym B ∙ e) ∙ sym (ap (searchedBy geop c) acc)

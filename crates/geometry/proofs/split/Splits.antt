@@ -1,0 +1,355 @@
+-- Cuts in two slots, and cuts in one slot of which one part is kept. Leans on the laws of cuts and of slots.
+use mathlib.Core.Path.{_≡_, refl, sym, ap, _∙_, subst}
+use mathlib.Core.Logic.{_⊎_, inl, inr}
+use mathlib.Core.Bool.{Bool, true, false, not, _&&_}
+use mathlib.Core.List.{List}
+use Prim.Native.Nat.{ℕ, zero, suc, _+_, _-_, _≤_, _<_}
+use native.Mathlib.Omega.{arith}
+use lib.ListN.{length, drop, getD}
+use lib.Ieee.{Float, nan, lt, eq}
+use Rattle.lists.specs.Lists.{part}
+use Rattle.math.specs.declared.scalars.Scalar.{Scalar}
+use Rattle.math.specs.declared.scalars.Divided.{Divided}
+use Rattle.math.specs.declared.scalars.Divided.the-variants.{Value, Failed}
+use Rattle.math.specs.Scalars.{geop, sharp, addS, divS, TWO, ENTIRE, middle, valueOr}
+use Rattle.math.proofs.Bools.{and-yes, and-no}
+use Rattle.model.specs.NurbCurve.{Piece, knot, start, end, inDomain, midParameter}
+use Rattle.model.specs.KnotInsertion.{Cut, fullCut, leftOf, rightOf}
+use Rattle.model.specs.Split.{Halves, uncut, both, splitBy, split, fromBy, upToBy, restrict}
+use Rattle.geometry.specs.Slots.{countAt, pieceAt, placed, Fits, Inside, Held, Apart, OnlyAt, OnlyAtBoth, Holding, HoldingBoth, wasCut, splitInto, SplitAt, keepInto, FromAt, UpToAt, restrictInto, RestrictAt, Whole, within, CutAt}
+use Rattle.geometry.specs.declared.slots.Shape.{Shape}
+use Rattle.geometry.proofs.slots.Piece.{fits-piece, count-points, count-placed, piece-placed, held-placed, inside-placed, length-placed, placed-again}
+use Rattle.geometry.proofs.slots.Apart.{other, part-beside, held-apart, piece-apart, inside-apart}
+use Rattle.geometry.proofs.knot_insertion.Cuts.{knot-word}
+use Rattle.geometry.proofs.knot_insertion.Separate.{Sound, full-sound, inside-self, fits-left-of, fits-right-of}
+
+-- ---- the domain
+
+module _ (s : Shape) (l : List Float) (base m : ℕ) (t : Float) (h : Held s l base) (e : m ≡ countAt l base) where
+  pub start-word : start (s .degree) (pieceAt s l base) ≡ getD l (base + 1 + s .degree) nan
+  start-word = knot-word s l base (s .degree) (omega arith)
+
+  pub end-word : end (pieceAt s l base) ≡ getD l (base + 1 + m) nan
+  end-word = ap (knot (pieceAt s l base .knots)) (count-points s l base h ∙ sym e) ∙ knot-word s l base m (omega arith)
+
+  pub inside-yes : lt (getD l (base + 1 + s .degree) nan) t ≡ true → lt t (getD l (base + 1 + m) nan) ≡ within (s .degree) (pieceAt s l base) t
+  unfolding inDomain
+  inside-yes q = and-yes _ _ q ∙ sym (λ j. lt (start-word j) t && lt t (end-word j))
+
+  pub inside-no : lt (getD l (base + 1 + s .degree) nan) t ≡ false → lt (getD l (base + 1 + s .degree) nan) t ≡ within (s .degree) (pieceAt s l base) t
+  unfolding inDomain
+  inside-no q = and-no _ (lt t (getD l (base + 1 + m) nan)) q ∙ sym (λ j. lt (start-word j) t && lt t (end-word j))
+
+-- ---- the middle
+
+module _ (a b : Float) (fa fb x : Scalar) (r : Divided) (ea : fa ≡ sharp a) (eb : fb ≡ sharp b) (ex : x ≡ addS fa fb) (er : r ≡ divS x TWO) where
+  quotient : r ≡ divS (addS (sharp a) (sharp b)) TWO
+  quotient = er ∙ (λ j. divS ((ex ∙ (λ i. addS (ea i) (eb i))) j) TWO)
+
+  pub mid-value : (v : Scalar) (y : Float) → r ≡ Value v → y ≡ middle v → y ≡ midParameter geop a b
+  unfolding midParameter valueOr
+  mid-value v y e f = f ∙ sym (ap (λ (d : Divided). middle (valueOr d ENTIRE)) (sym quotient ∙ e))
+
+  pub mid-failed : (v : Scalar) (y : Float) → r ≡ Failed → v ≡ ENTIRE → y ≡ middle v → y ≡ midParameter geop a b
+  unfolding midParameter valueOr
+  mid-failed v y e g f = f ∙ ap middle g ∙ sym (ap (λ (d : Divided). middle (valueOr d ENTIRE)) (sym quotient ∙ e))
+
+-- ---- one cut in a slot
+
+module _ (s : Shape) (l : List Float) (base : ℕ) (t : Float) (h : Held s l base) (w : Whole s (pieceAt s l base)) (d : within (s .degree) (pieceAt s l base) t ≡ true) where
+  -- The cut.
+  abbrev cut : Cut
+  cut = fullCut geop (s .degree) t (pieceAt s l base)
+
+  pub sound : Sound s (pieceAt s l base) (fullCut geop (s .degree) t (pieceAt s l base))
+  sound = full-sound s (pieceAt s l base) t (fits-piece s l base h) w (inside-self (start (s .degree) (pieceAt s l base)) (end (pieceAt s l base)) t d)
+
+  module _ (y : List Float) (k : ℕ) (o : CutAt s l y base (fullCut geop (s .degree) t (pieceAt s l base)) k) where
+    e : y ≡ placed s l base (cut .piece)
+    e = o .memory
+
+    f : k ≡ cut .at
+    f = o .at
+
+    pub cut-held : Held s y base
+    cut-held = subst (λ (v : List Float). Held s v base) (sym e) (held-placed s l base (h .inside) (cut .piece) (sound .fits))
+
+    pub cut-piece : pieceAt s y base ≡ cut .piece
+    cut-piece = ap (λ (v : List Float). pieceAt s v base) e ∙ piece-placed s l base (h .inside) (cut .piece) (sound .fits)
+
+    cut-count : countAt y base ≡ length (cut .piece .points)
+    cut-count = ap (λ (v : List Float). countAt v base) e ∙ count-placed s l base (h .inside) (cut .piece) (sound .fits)
+
+    pub cut-upto : k ≤ countAt y base
+    cut-upto = omega (arith, cut-count, f, sound .upto)
+
+    -- the cut as the slot now holds it
+    pub cut-same : _≡_ {A = Cut} (record { piece = pieceAt s y base; at = k }) (fullCut geop (s .degree) t (pieceAt s l base))
+    cut-same = λ j. record { piece = cut-piece j; at = f j }
+
+    -- what is right of it is kept
+    pub from-kept : (z : List Float) (r : ℕ) → z ≡ placed s y base (rightOf (record { piece = pieceAt s y base; at = k })) → r ≡ 1
+        → FromAt s l z base t (pieceAt s l base) r
+    unfolding fromBy keepInto
+    from-kept z r g q = record {
+      cuts = q ∙ sym (ap (λ (b : Bool). fromBy geop (s .degree) t (pieceAt s l base) b .cuts) d);
+      memory = g ∙ (λ j. placed s (e j) base (rightOf (cut-same j))) ∙ sym (ap (keepInto s l base (cut .piece) (rightOf cut)) d);
+    }
+
+    -- what is left of it is kept
+    pub upto-kept : (z : List Float) (r : ℕ) → z ≡ placed s y base (leftOf (s .degree) (record { piece = pieceAt s y base; at = k })) → r ≡ 1
+        → UpToAt s l z base t (pieceAt s l base) r
+    unfolding upToBy keepInto
+    upto-kept z r g q = record {
+      cuts = q ∙ sym (ap (λ (b : Bool). upToBy geop (s .degree) t (pieceAt s l base) b .cuts) d);
+      memory = g ∙ (λ j. placed s (e j) base (leftOf (s .degree) (cut-same j))) ∙ sym (ap (keepInto s l base (cut .piece) (leftOf (s .degree) cut)) d);
+    }
+
+-- no cut
+module _ (s : Shape) (l : List Float) (base : ℕ) (t : Float) (d : within (s .degree) (pieceAt s l base) t ≡ false) where
+  pub from-none : FromAt s l l base t (pieceAt s l base) 0
+  unfolding fromBy keepInto
+  from-none =
+      let k : Cut = fullCut geop (s .degree) t (pieceAt s l base) in
+      record { cuts = sym (ap (λ (b : Bool). fromBy geop (s .degree) t (pieceAt s l base) b .cuts) d); memory = sym (ap (keepInto s l base (k .piece) (rightOf k)) d) }
+
+  pub upto-none : UpToAt s l l base t (pieceAt s l base) 0
+  unfolding upToBy keepInto
+  upto-none =
+      let k : Cut = fullCut geop (s .degree) t (pieceAt s l base) in
+      record { cuts = sym (ap (λ (b : Bool). upToBy geop (s .degree) t (pieceAt s l base) b .cuts) d); memory = sym (ap (keepInto s l base (k .piece) (leftOf (s .degree) k)) d) }
+
+-- a whole piece, by its count
+pub whole-count : (s : Shape) (l : List Float) (base : ℕ) → Held s l base → Whole s (pieceAt s l base) → (s .degree < countAt l base) × (countAt l base ≤ s .count)
+whole-count s l base h w = (omega (arith, w .enough, count-points s l base h), omega (arith, w .bounded, count-points s l base h))
+
+-- ---- a split
+
+module _ (s : Shape) (l : List Float) (src left right : ℕ) (t : Float) (h : Held s l src) (w : Whole s (pieceAt s l src)) (il : Inside s l left) (ir : Inside s l right)
+    (al : Apart s src left) (ar : Apart s src right) (lr : Apart s left right) where
+  -- no cut
+  pub split-none : within (s .degree) (pieceAt s l src) t ≡ false → SplitAt s l l left right t (pieceAt s l src) false
+  unfolding split splitBy wasCut splitInto
+  split-none d = record {
+    cut = sym (ap (λ (b : Bool). wasCut (splitBy geop (s .degree) t (pieceAt s l src) b)) d);
+    memory = sym (ap (splitInto s l left right t (pieceAt s l src)) d);
+    halves = subst (λ (b : Bool). HoldingBoth s l left right (splitBy geop (s .degree) t (pieceAt s l src) b)) (sym d) tt;
+    others = λ i w a b. refl;
+  }
+
+  module _ (d : within (s .degree) (pieceAt s l src) t ≡ true) where
+    abbrev c : Piece
+    c = pieceAt s l src
+
+    abbrev k : Cut
+    k = fullCut geop (s .degree) t (pieceAt s l src)
+
+    good : Sound s (pieceAt s l src) (fullCut geop (s .degree) t (pieceAt s l src))
+    good = sound s l src t h w d
+
+    fc : Fits s (pieceAt s l src)
+    fc = fits-piece s l src h
+
+    fl : Fits s (leftOf (s .degree) (fullCut geop (s .degree) t (pieceAt s l src)))
+    fl = fits-left-of s k (good .fits) (good .upto)
+
+    fr : Fits s (rightOf (fullCut geop (s .degree) t (pieceAt s l src)))
+    fr = fits-right-of s k (good .fits) (good .upto)
+
+    -- the copy in the slot on the left
+    module _ (l₁ : List Float) (e₁ : l₁ ≡ placed s l left (pieceAt s l src)) where
+      pub held₁ : Held s l₁ left
+      held₁ = subst (λ (v : List Float). Held s v left) (sym e₁) (held-placed s l left il c fc)
+
+      pub piece₁ : pieceAt s l₁ left ≡ pieceAt s l src
+      piece₁ = ap (λ (v : List Float). pieceAt s v left) e₁ ∙ piece-placed s l left il c fc
+
+      pub whole₁ : Whole s (pieceAt s l₁ left)
+      whole₁ = subst (Whole s) (sym piece₁) w
+
+      -- the cut there
+      module _ (l₂ : List Float) (at : ℕ) (o : CutAt s l₁ l₂ left (fullCut geop (s .degree) t (pieceAt s l₁ left)) at) where
+        memory₂ : l₂ ≡ placed s l left (k .piece)
+        memory₂ = o .memory ∙ (λ j. placed s (e₁ j) left (fullCut geop (s .degree) t (piece₁ j) .piece)) ∙ placed-again s l left c (k .piece) il fc (good .fits) (good .more)
+
+        at-is : at ≡ k .at
+        at-is = o .at ∙ ap (λ (q : Piece). fullCut geop (s .degree) t q .at) piece₁
+
+        pub held₂ : Held s l₂ left
+        held₂ = subst (λ (v : List Float). Held s v left) (sym memory₂) (held-placed s l left il (k .piece) (good .fits))
+
+        piece₂ : pieceAt s l₂ left ≡ k .piece
+        piece₂ = ap (λ (v : List Float). pieceAt s v left) memory₂ ∙ piece-placed s l left il (k .piece) (good .fits)
+
+        pub upto₂ : at ≤ countAt l₂ left
+        upto₂ = omega (arith, at-is, good .upto, ap (λ (v : List Float). countAt v left) memory₂, count-placed s l left il (k .piece) (good .fits))
+
+        pub inside₂ : Inside s l₂ right
+        inside₂ = subst (λ (v : List Float). Inside s v right) (sym memory₂) (inside-apart s l left right (k .piece) il (good .fits) lr ir)
+
+        -- what is right of it goes to the slot on the right
+        module _ (l₃ : List Float) (e₃ : l₃ ≡ placed s l₂ right (rightOf (record { piece = pieceAt s l₂ left; at = at }))) where
+          memory₃ : l₃ ≡ placed s (placed s l left (k .piece)) right (rightOf k)
+          memory₃ = e₃ ∙ (λ j. placed s (memory₂ j) right (rightOf (record { piece = piece₂ j; at = at-is j })))
+
+          in₃ : Inside s (placed s l left (k .piece)) right
+          in₃ = inside-apart s l left right (k .piece) il (good .fits) lr ir
+
+          placed₃ : Held s (placed s (placed s l left (k .piece)) right (rightOf k)) left
+          placed₃ = held-apart s (placed s l left (k .piece)) right left (rightOf k) in₃ fr (other s left right lr) (held-placed s l left il (k .piece) (good .fits))
+
+          pub held₃ : Held s l₃ left
+          held₃ = subst (λ (v : List Float). Held s v left) (sym memory₃) placed₃
+
+          piece₃ : pieceAt s l₃ left ≡ k .piece
+          piece₃ = ap (λ (v : List Float). pieceAt s v left) memory₃
+              ∙ piece-apart s (placed s l left (k .piece)) right left (rightOf k) in₃ fr (other s left right lr) (held-placed s l left il (k .piece) (good .fits))
+              ∙ piece-placed s l left il (k .piece) (good .fits)
+
+          pub upto₃ : at ≤ countAt l₃ left
+          upto₃ = omega (arith, at-is, good .upto, count-points s l₃ left held₃, ap (λ (q : Piece). length (q .points)) piece₃)
+
+          -- and what is left of it is kept
+          pub split-done : (l₄ : List Float) → l₄ ≡ placed s l₃ left (leftOf (s .degree) (record { piece = pieceAt s l₃ left; at = at })) → SplitAt s l l₄ left right t (pieceAt s l src) true
+          unfolding split splitBy wasCut splitInto
+          split-done l₄ e₄ =
+              let p : ℕ = s .degree in
+              let M₂ : List Float = placed s l left (k .piece) in
+              let M₃ : List Float = placed s M₂ right (rightOf k) in
+              let M : List Float = placed s M₃ left (leftOf p k) in
+              let e : l₄ ≡ M = e₄ ∙ (λ j. placed s (memory₃ j) left (leftOf p (record { piece = piece₃ j; at = at-is j }))) in
+              let i₃ : Inside s M₃ left = placed₃ .inside in
+              let hr : Held s M₃ right = held-placed s M₂ right in₃ (rightOf k) fr in
+              let ol : Holding s M left (leftOf p k) = record { held = held-placed s M₃ left i₃ (leftOf p k) fl; piece = piece-placed s M₃ left i₃ (leftOf p k) fl } in
+              let or : Holding s M right (rightOf k) = record { held = held-apart s M₃ left right (leftOf p k) i₃ fl lr hr; piece = piece-apart s M₃ left right (leftOf p k) i₃ fl lr hr ∙ piece-placed s M₂ right in₃ (rightOf k) fr } in
+              let both-held : HoldingBoth s l₄ left right (splitBy geop p t c true) = subst (λ (v : List Float). Holding s v left (leftOf p k) × Holding s v right (rightOf k)) (sym e) (ol, or) in
+              record {
+                cut = sym (ap (λ (b : Bool). wasCut (splitBy geop p t c b)) d);
+                memory = e ∙ sym (ap (splitInto s l left right t c) d);
+                halves = subst (λ (b : Bool). HoldingBoth s l₄ left right (splitBy geop p t c b)) (sym d) both-held;
+                others = λ i v a b. ap (λ (m : List Float). part m i v) e ∙ part-beside s M₃ left i (leftOf p k) i₃ fl v a ∙ part-beside s M₂ right i (rightOf k) in₃ fr v b ∙ part-beside s l left i (k .piece) il (good .fits) v a;
+              }
+
+-- ---- a piece cut down
+
+-- what a kept part leaves in its slot, and elsewhere
+module _ (s : Shape) (m : List Float) (a : ℕ) (i : Inside s m a) (k d : Piece) where
+  pub keep-only : (b : Bool) → (b ≡ true → Fits s k × Fits s d) → OnlyAt s m (keepInto s m a k d b) a
+  unfolding keepInto
+  keep-only true f j v q = part-beside s (placed s m a k) a j d (inside-placed s m a i k (f refl .0)) (f refl .1) v q ∙ part-beside s m a j k i (f refl .0) v q
+  keep-only false f j v q = refl
+
+  pub keep-held : Fits s k → Fits s d → Holding s (keepInto s m a k d true) a d
+  unfolding keepInto
+  keep-held fk fd = let j : Inside s (placed s m a k) a = inside-placed s m a i k fk in record { held = held-placed s (placed s m a k) a j d fd; piece = piece-placed s (placed s m a k) a j d fd }
+
+keep-none : (s : Shape) (m : List Float) (a : ℕ) (k d c : Piece) → Holding s m a c → Holding s (keepInto s m a k d false) a c
+unfolding keepInto
+keep-none s m a k d c o = o
+
+module _ (s : Shape) (m : List Float) (a : ℕ) (t : Float) (c : Piece) (o : Holding s m a c) (f : Fits s c) (w : Whole s c) where
+  -- The cut.
+  abbrev cutting : Cut
+  cutting = fullCut geop (s .degree) t c
+
+  sound-of : (b : Bool) → within (s .degree) c t ≡ b → b ≡ true → Sound s c (fullCut geop (s .degree) t c)
+  sound-of b e q = full-sound s c t f w (inside-self (start (s .degree) c) (end c) t (e ∙ q))
+
+  from-by : (b : Bool) → (b ≡ true → Sound s c (fullCut geop (s .degree) t c)) → Holding s (keepInto s m a (cutting .piece) (rightOf cutting) b) a (fromBy geop (s .degree) t c b .piece)
+  unfolding fromBy
+  from-by true g = keep-held s m a (o .held .inside) (cutting .piece) (rightOf cutting) (g refl .fits) (fits-right-of s cutting (g refl .fits) (g refl .upto))
+  from-by false g = keep-none s m a (cutting .piece) (rightOf cutting) c o
+
+  upto-by : (b : Bool) → (b ≡ true → Sound s c (fullCut geop (s .degree) t c)) → Holding s (keepInto s m a (cutting .piece) (leftOf (s .degree) cutting) b) a (upToBy geop (s .degree) t c b .piece)
+  unfolding upToBy
+  upto-by true g = keep-held s m a (o .held .inside) (cutting .piece) (leftOf (s .degree) cutting) (g refl .fits) (fits-left-of s cutting (g refl .fits) (g refl .upto))
+  upto-by false g = keep-none s m a (cutting .piece) (leftOf (s .degree) cutting) c o
+
+  abbrev inside : Bool
+  inside = within (s .degree) c t
+
+  pub from-holding : Holding s (keepInto s m a (cutting .piece) (rightOf cutting) inside) a (fromBy geop (s .degree) t c inside .piece)
+  from-holding = from-by inside (sound-of inside refl)
+
+  pub upto-holding : Holding s (keepInto s m a (cutting .piece) (leftOf (s .degree) cutting) inside) a (upToBy geop (s .degree) t c inside .piece)
+  upto-holding = upto-by inside (sound-of inside refl)
+
+  pub from-only : OnlyAt s m (keepInto s m a (cutting .piece) (rightOf cutting) inside) a
+  from-only = keep-only s m a (o .held .inside) (cutting .piece) (rightOf cutting) inside (λ q. let g = sound-of inside refl q in (g .fits, fits-right-of s cutting (g .fits) (g .upto)))
+
+  pub upto-only : OnlyAt s m (keepInto s m a (cutting .piece) (leftOf (s .degree) cutting) inside) a
+  upto-only = keep-only s m a (o .held .inside) (cutting .piece) (leftOf (s .degree) cutting) inside (λ q. let g = sound-of inside refl q in (g .fits, fits-left-of s cutting (g .fits) (g .upto)))
+
+-- one cut at most
+pub from-few : (p n : ℕ) (t : Float) (c : Piece) (b : Bool) → n ≡ fromBy geop p t c b .cuts → n ≤ 1
+unfolding fromBy
+from-few p n t c true e = omega arith
+from-few p n t c false e = omega arith
+
+pub upto-few : (p n : ℕ) (t : Float) (c : Piece) (b : Bool) → n ≡ upToBy geop p t c b .cuts → n ≤ 1
+unfolding upToBy
+upto-few p n t c true e = omega arith
+upto-few p n t c false e = omega arith
+
+module _ (s : Shape) (l : List Float) (src to : ℕ) (lo hi : Float) (h : Held s l src) (w : Whole s (pieceAt s l src)) (i : Inside s l to)
+    (wf : Whole s (fromBy geop (s .degree) lo (pieceAt s l src) (within (s .degree) (pieceAt s l src) lo) .piece)) where
+  abbrev whole : Piece
+  whole = pieceAt s l src
+
+  -- What is left after the first cut.
+  abbrev rest : Piece
+  rest = fromBy geop (s .degree) lo (pieceAt s l src) (within (s .degree) (pieceAt s l src) lo) .piece
+
+  whole-fits : Fits s (pieceAt s l src)
+  whole-fits = fits-piece s l src h
+
+  module _ (l₁ : List Float) (e₁ : l₁ ≡ placed s l to (pieceAt s l src)) where
+    pub copied : Holding s l₁ to (pieceAt s l src)
+    copied = record {
+      held = subst (λ (v : List Float). Held s v to) (sym e₁) (held-placed s l to i whole whole-fits);
+      piece = ap (λ (v : List Float). pieceAt s v to) e₁ ∙ piece-placed s l to i whole whole-fits;
+    }
+
+    pub copied-whole : Whole s (pieceAt s l₁ to)
+    copied-whole = subst (Whole s) (sym (copied .piece)) w
+
+    module _ (l₂ : List Float) (n₂ : ℕ) (o : FromAt s l₁ l₂ to lo (pieceAt s l₁ to) n₂) where
+      cuts₂ : n₂ ≡ fromBy geop (s .degree) lo whole (within (s .degree) whole lo) .cuts
+      cuts₂ = o .cuts ∙ ap (λ (c : Piece). fromBy geop (s .degree) lo c (within (s .degree) c lo) .cuts) (copied .piece)
+
+      first₂ : l₂ ≡ keepInto s l₁ to (fullCut geop (s .degree) lo whole .piece) (rightOf (fullCut geop (s .degree) lo whole)) (within (s .degree) whole lo)
+      first₂ = o .memory ∙ ap (λ (c : Piece). keepInto s l₁ to (fullCut geop (s .degree) lo c .piece) (rightOf (fullCut geop (s .degree) lo c)) (within (s .degree) c lo)) (copied .piece)
+
+      pub cut-down : Holding s l₂ to rest
+      cut-down = subst (λ (v : List Float). Holding s v to rest) (sym first₂) (from-holding s l₁ to lo whole copied whole-fits w)
+
+      pub cut-down-whole : Whole s (pieceAt s l₂ to)
+      cut-down-whole = subst (Whole s) (sym (cut-down .piece)) wf
+
+      rest-fits : Fits s rest
+      rest-fits = subst (Fits s) (cut-down .piece) (fits-piece s l₂ to (cut-down .held))
+
+      pub restricted : (l₃ : List Float) (n₃ : ℕ) → UpToAt s l₂ l₃ to hi (pieceAt s l₂ to) n₃ → RestrictAt s l l₃ to lo hi (pieceAt s l src) (n₂ + n₃)
+      unfolding restrict restrictInto
+      restricted l₃ n₃ v =
+          let p : ℕ = s .degree in
+          let d : Piece = rest in
+          let cuts₃ : n₃ ≡ upToBy geop p hi d (within p d hi) .cuts = v .cuts ∙ ap (λ (c : Piece). upToBy geop p hi c (within p c hi) .cuts) (cut-down .piece) in
+          let m₃ : l₃ ≡ keepInto s l₂ to (fullCut geop p hi d .piece) (leftOf p (fullCut geop p hi d)) (within p d hi)
+          = v .memory ∙ ap (λ (c : Piece). keepInto s l₂ to (fullCut geop p hi c .piece) (leftOf p (fullCut geop p hi c)) (within p c hi)) (cut-down .piece) in
+          record {
+            cuts = λ j. cuts₂ j + cuts₃ j;
+            memory = m₃ ∙ ap (λ (v : List Float). keepInto s v to (fullCut geop p hi d .piece) (leftOf p (fullCut geop p hi d)) (within p d hi))
+                (first₂ ∙ ap (λ (v : List Float). keepInto s v to (fullCut geop p lo whole .piece) (rightOf (fullCut geop p lo whole)) (within p whole lo)) e₁);
+            held = subst (λ (v : List Float). Holding s v to (upToBy geop p hi d (within p d hi) .piece)) (sym m₃) (upto-holding s l₂ to hi d cut-down rest-fits wf);
+            others = λ x v q. ap (λ (m : List Float). part m x v) m₃ ∙ upto-only s l₂ to hi d cut-down rest-fits wf x v q ∙ ap (λ (m : List Float). part m x v) first₂
+                ∙ from-only s l₁ to lo whole copied whole-fits w x v q ∙ ap (λ (m : List Float). part m x v) e₁ ∙ part-beside s l to x whole i whole-fits v q;
+          }
+
+-- the middle of a slot's domain, as the code reads it
+pub mid-of : (s : Shape) (l : List Float) (base m : ℕ) (t : Float) → Held s l base → m ≡ countAt l base → t ≡ midParameter geop (getD l (base + 1 + s .degree) nan) (getD l (base + 1 + m) nan)
+    → t ≡ midParameter geop (start (s .degree) (pieceAt s l base)) (end (pieceAt s l base))
+mid-of s l base m t h e f = f ∙ sym (λ j. midParameter geop (start-word s l base m t h e j) (end-word s l base m t h e j))
+
+pub split-same : (s : Shape) (l m : List Float) (a b : ℕ) (t u : Float) (c : Piece) (r : Bool) → t ≡ u → SplitAt s l m a b t c r → SplitAt s l m a b u c r
+split-same s l m a b t u c r e h = subst (λ (v : Float). SplitAt s l m a b v c r) e h

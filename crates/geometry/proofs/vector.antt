@@ -1,0 +1,2 @@
+-- Laws behind the functions of src/vector.rt; the folders beside them have the functions' proofs.
+pub mod Between

@@ -1,0 +1,110 @@
+-- Laws of the zeros over two lists of intervals: what the loop keeps point by point, and what that gives at the end. Assumes nothing.
+use mathlib.Core.Path.{_≡_, refl, sym, ap, _∙_, subst}
+use mathlib.Core.Bool.{Bool, true, false, not, cond}
+use mathlib.Core.Option.{some}
+use mathlib.Core.List.{List, zipWith}
+use Prim.Native.Nat.{ℕ, _+_, _-_, _<_}
+use lib.Dec.{T, eqb, ltb, eqb→eq, ltb→lt}
+use lib.ListN.{length, getD}
+use Rattle.lists.specs.Lists.{tab, lastD}
+use Rattle.lists.proofs.Tab.{tab-whole, zipWith-tab}
+use Rattle.math.specs.declared.scalars.Scalar.{Scalar}
+use Rattle.math.specs.declared.scalars.Divided.{Divided}
+use Rattle.math.specs.declared.scalars.Divided.the-variants.{Value, Failed}
+use Rattle.math.specs.Scalars.{geop, absent, ZERO, ENTIRE, couldBeEqual, unionS, addS, subS, divS}
+use Rattle.math.proofs.Bools.{and-l, and-r}
+use Rattle.model.specs.Aabb.{unions}
+use Rattle.model.specs.FatLine.{offset, crossing, zerosBy, fatLineZeros}
+use Rattle.model.specs.Paper.{hatOf}
+use Rattle.model.specs.declared.fat_line.Hat.{Hat}
+use Rattle.model.specs.declared.fat_line.Hat.the-variants.{Over, Missing}
+use Rattle.geometry.specs.Zeros.{paired, polygonZeros, ZerosFound, offBy, begun, taken, zerosOf}
+use Rattle.geometry.specs.declared.zeros.Line.{Line}
+use Rattle.geometry.proofs.fat_line.Zeros.{unions-first, unions-turn}
+
+-- ---- where the lists are no polygon, and where they are one
+
+pub no-polygon : (ξ d : List Scalar) (t : Bool) → t ≡ paired (length ξ) (length d) → T (not t) → Over ENTIRE ≡ polygonZeros ξ d
+unfolding polygonZeros
+no-polygon ξ d true e h = absurd h
+no-polygon ξ d false e h = ap (λ (b : Bool). cond b (fatLineZeros geop ξ d) (Over ENTIRE)) e
+
+pub a-polygon : (ξ d : List Scalar) (t : Bool) → t ≡ paired (length ξ) (length d) → T t → fatLineZeros geop ξ d ≡ polygonZeros ξ d
+unfolding polygonZeros
+a-polygon ξ d true e h = ap (λ (b : Bool). cond b (fatLineZeros geop ξ d) (Over ENTIRE)) e
+a-polygon ξ d false e h = absurd h
+
+-- the definition's answer, on paper
+pub zeros-found : (ξ d : List Scalar) (r : Hat) → r ≡ polygonZeros ξ d → ZerosFound ξ d r
+unfolding polygonZeros
+zeros-found ξ d r e = record { result = e; paper = ap hatOf e ∙ on-paper (paired (length ξ) (length d)) (fatLineZeros geop ξ d) }
+  where
+    on-paper : (t : Bool) (h : Hat) → hatOf (cond t h (Over ENTIRE)) ≡ cond t (hatOf h) (some ENTIRE)
+    on-paper true h = refl
+    on-paper false h = refl
+
+pub not-not : (t : Bool) → T (not (not t)) → T t
+not-not true h = tt
+not-not false h = h
+
+pub is-pair : (m n : ℕ) (t : Bool) → t ≡ paired m n → T (not (not t)) → T (paired m n)
+is-pair m n t e h = subst T e (not-not t h)
+
+pub as-many : (m n : ℕ) → T (paired m n) → m ≡ n
+as-many m n h = eqb→eq m n (and-l (eqb m n) (ltb 0 n) h)
+
+pub not-empty : (m n : ℕ) → T (paired m n) → 0 < n
+not-empty m n h = ltb→lt 0 n (and-r (eqb m n) (ltb 0 n) h)
+
+-- ---- what the turns keep
+
+module _ (ξ d : List Scalar) where
+  abbrev x₀ : Scalar
+  x₀ = getD ξ 0 absent
+
+  abbrev y₀ : Scalar
+  y₀ = getD d 0 absent
+
+  abbrev slope : Divided
+  slope = divS (subS (lastD d absent) y₀) (subS (lastD ξ absent) x₀)
+
+  -- what point j lies off the chord
+  abbrev off : ℕ → Scalar
+  off j = offBy slope x₀ y₀ (getD ξ j absent) (getD d j absent)
+
+  -- The line with the first i points taken in.
+  abbrev pub lineOf : ℕ → Line
+  lineOf i = record { x0 = x₀; y0 = y₀; last = lastD d absent; slope = slope; band = unions (tab i off) }
+
+  pub line-first : (r : Line) → length ξ ≡ length d → r ≡ begun x₀ y₀ (getD ξ (length d - 1) absent) (lastD d absent) → r ≡ lineOf 1
+  unfolding begun
+  line-first r h e = e ∙ ap (λ (n : ℕ). begun x₀ y₀ (getD ξ (n - 1) absent) (lastD d absent)) (sym h) ∙ ap (λ (b : Scalar). record { x0 = x₀; y0 = y₀; last = lastD d absent; slope = slope; band = b }) (unions-first off)
+
+  pub line-turn : (i : ℕ) (l r : Line) → 0 < i → l ≡ lineOf i → r ≡ taken l (getD ξ i absent) (getD d i absent) → r ≡ lineOf (i + 1)
+  unfolding taken
+  line-turn i l r h e g =
+      g
+      ∙ ap (λ (k : Line). taken k (getD ξ i absent) (getD d i absent)) e
+      ∙ ap (λ (b : Scalar). record { x0 = x₀; y0 = y₀; last = lastD d absent; slope = slope; band = b }) (unions-turn off i _ _ _ h refl refl refl)
+
+  -- ---- at the end
+
+  -- a list of all offsets, element by element
+  zip-off : length ξ ≡ length d → (f : Scalar → Scalar → Scalar) → tab (length d) (λ j. f (getD ξ j absent) (getD d j absent)) ≡ zipWith f ξ d
+  zip-off h f =
+      sym (zipWith-tab f (length d) (λ j. getD ξ j absent) (λ j. getD d j absent))
+      ∙ (λ k. zipWith f ((ap (λ (n : ℕ). tab n (λ j. getD ξ j absent)) (sym h) ∙ tab-whole ξ absent) k) (tab-whole d absent k))
+
+  zeros-by : length ξ ≡ length d → (q : Divided) → zerosOf x₀ y₀ (lastD d absent) (unions (tab (length d) (λ j. offBy q x₀ y₀ (getD ξ j absent) (getD d j absent)))) q ≡ zerosBy geop ξ d x₀ y₀ q
+  unfolding zerosOf zerosBy offBy
+  zeros-by h Failed = ap (λ (l : List Scalar). cond (couldBeEqual (unions l) ZERO) (Over ENTIRE) Missing) (tab-whole d absent)
+  zeros-by h (Value s) =
+      ap (λ (l : List Scalar). cond (couldBeEqual (addS (unionS y₀ (lastD d absent)) (unions l)) ZERO) (crossing geop x₀ (divS (addS y₀ (unions l)) s)) Missing)
+      (zip-off h (λ x y. offset geop s x₀ y₀ x y))
+
+  pub line-done : (i : ℕ) (l : Line) (r : Hat) → length ξ ≡ length d → i ≡ length d → l ≡ lineOf i → r ≡ zerosOf (l .x0) (l .y0) (l .last) (l .band) (l .slope) → r ≡ fatLineZeros geop ξ d
+  unfolding fatLineZeros
+  line-done i l r h n e g =
+      g
+      ∙ ap (λ (k : Line). zerosOf (k .x0) (k .y0) (k .last) (k .band) (k .slope)) (e ∙ ap (λ (m : ℕ). lineOf m) n)
+      ∙ zeros-by h slope

@@ -1,2 +1,0 @@
--- Laws behind the library's functions.
-pub mod Words
