@@ -5,3 +5,4 @@ pub mod Intervals
 pub mod Picks
 pub mod Paper
 pub mod Roots
+pub mod Laws

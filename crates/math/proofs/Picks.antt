@@ -1,15 +1,17 @@
 -- What the picks of `lesser`, `greater`, `corners`, `intersect` and `between` give, over plain values. Assumes nothing.
 use mathlib.Core.Path.{_≡_, refl, sym, ap, _∙_}
 use mathlib.Core.Bool.{Bool, true, false, cond, false≢true}
-use lib.Ieee.{Float, nan, inf, fin, binary64, isNan, lt, le, sub}
+use lib.Ieee.{Float, nan, inf, fin, binary64, fits, isNan, lt, le, sub}
 use lib.Ieee.Bits.{is-false}
+use lib.Ieee.Fits.{mul-fits}
+use lib.Dec.{T}
 use Rattle.math.specs.Picks.{lesserF, greaterF, minF, maxF}
 use Rattle.math.specs.Scalars.{least4, most4, corners, addS, subS, mulS, intersectS, sameOperands}
 use Rattle.math.specs.Factors.{betweenS}
 use Rattle.math.specs.declared.scalars.Scalar.{Scalar}
 use Rattle.math.specs.declared.scalars.Fraction.{Fraction}
 use Rattle.math.proofs.Bools.{pick-yes, pick-no}
-use Rattle.math.proofs.Doubles.Least.{least-number, most-number}
+use Rattle.math.proofs.Doubles.Least.{least-number, most-number, least-fits, most-fits}
 
 -- ---- the lesser and the greater by one comparison: one that passed had no NaN
 left-number : (a b : Float) → lt a b ≡ true → isNan a ≡ false
@@ -82,6 +84,16 @@ corners-lower x y = is-false _ (least-number _ _ _ _)
 pub corners-upper : (x y : Scalar) → isNan (corners x y .hi) ≡ false
 unfolding corners
 corners-upper x y = is-false _ (most-number _ _ _ _)
+
+-- and doubles
+pub corners-doubles : (x y : Scalar) → T (fits binary64 (corners x y .lo)) × T (fits binary64 (corners x y .hi))
+unfolding corners
+corners-doubles x y =
+    let A = mul-fits binary64 (x .lo) (y .lo) in
+    let B = mul-fits binary64 (x .lo) (y .hi) in
+    let C = mul-fits binary64 (x .hi) (y .lo) in
+    let D = mul-fits binary64 (x .hi) (y .hi) in
+    (least-fits _ _ _ _ A B C D, most-fits _ _ _ _ A B C D)
 
 -- ---- the three answers of `intersect`
 module _ (x y : Scalar) (l h : Float) (L : l ≡ maxF (x .lo) (y .lo)) (H : h ≡ minF (x .hi) (y .hi)) where

@@ -8,8 +8,8 @@ use native.Mathlib.Omega.{arith}
 use lib.ListN.{length, drop, getD, drop-of-length-le}
 use lib.Seq.{drop-cons}
 use lib.Dec.{T, eqb}
-use lib.Ieee.{Float, binary64, isNan, fits, mul}
-use lib.Ieee.Fits.{inf-fits, mul-fits}
+use lib.Ieee.{Float, binary64, isNan, fits}
+use lib.Ieee.Fits.{inf-fits}
 use borrow.Author.Tests.{eq-eqb, ne-eqb}
 use Rattle.lists.specs.Lists.{tab, foldl, all}
 use Rattle.lists.proofs.Tab.{length-tab, tab-cons, getD-tab, map-tab}
@@ -22,8 +22,7 @@ use Rattle.math.specs.declared.scalars.Divided.the-variants.{Value, Failed}
 use Rattle.model.specs.declared.fat_line.Hat.{Hat}
 use Rattle.model.specs.declared.fat_line.Hat.the-variants.{Over, Missing}
 use Rattle.math.proofs.Bools.{pick}
-use Rattle.math.proofs.Picks.{lesser-number, greater-number, lesser-min, greater-max, corners-lower, corners-upper}
-use Rattle.math.proofs.Doubles.Least.{min-either, max-either, least-fits, most-fits}
+use Rattle.math.proofs.Laws.{lesser-number, greater-number, lesser-min, greater-max, min-either, max-either, corners-lower, corners-upper, corners-doubles}
 use Rattle.model.specs.Vector.{Vector, coordinate}
 use Rattle.model.specs.Layout.{scalarAt, scalarsOf, pointAt, pointsOf}
 use Rattle.model.specs.Aabb.{unions, place, aabb, couldOverlap, alongBy, along, meets, couldMeet}
@@ -53,18 +52,7 @@ unions-turn f n acc p r h e g k =
 -- ---- a point's place before it is widened
 
 corners-bounds : (x y : Scalar) → Bounds (corners x y)
-unfolding corners
-corners-bounds x y =
-    let a = mul binary64 (x .lo) (y .lo) in
-    let b = mul binary64 (x .lo) (y .hi) in
-    let c = mul binary64 (x .hi) (y .lo) in
-    let d = mul binary64 (x .hi) (y .hi) in
-    record {
-      lo-double = least-fits a b c d (mul-fits binary64 (x .lo) (y .lo)) (mul-fits binary64 (x .lo) (y .hi)) (mul-fits binary64 (x .hi) (y .lo)) (mul-fits binary64 (x .hi) (y .hi));
-      hi-double = most-fits a b c d (mul-fits binary64 (x .lo) (y .lo)) (mul-fits binary64 (x .lo) (y .hi)) (mul-fits binary64 (x .hi) (y .lo)) (mul-fits binary64 (x .hi) (y .hi));
-      lo-number = corners-lower x y;
-      hi-number = corners-upper x y;
-    }
+corners-bounds x y = record { lo-double = corners-doubles x y .0; hi-double = corners-doubles x y .1; lo-number = corners-lower x y; hi-number = corners-upper x y }
 
 pub raw-bounds : (dim k : ℕ) (q : Vector) → Bounds (rawPlace dim k q)
 unfolding rawPlace

@@ -3,7 +3,7 @@ use mathlib.Core.Path.{_≡_, refl, sym, _∙_}
 use Prim.Native.Nat.{_-_, _≤_}
 use lib.ListN.{length}
 use Rattle.lists.proofs.Put.{put-nil}
-use Rattle.math.proofs.Intervals.Factors.{fraction-own, between-own}
+use Rattle.math.proofs.Laws.{fraction-own, between-own}
 use Rattle.model.specs.Layout.{flat}
 use Rattle.geometry.proofs.vector.Between.{after, turn, done}
 use borrow.Author.Needs.{needs}
