@@ -3,4 +3,6 @@ pub mod Bools
 pub mod Doubles
 pub mod Intervals
 pub mod Picks
+pub mod Paper
 pub mod Roots
+pub mod Laws

@@ -10,3 +10,4 @@ pub mod Ends
 pub mod Near
 pub mod Beside
 pub mod Law
+pub mod Over

@@ -1,5 +1,5 @@
 -- The laws of the root of a double above zero, over the exact numbers: √x lies between the doubles next to `sqrtF x` (`sqrt-encloses`), and `sqrtF x` is the nearest
--- double to it, with no tie (`sqrt-nearest`). They come from Near.antt's inequalities of whole numbers. The statements are in specs/RootLaws.antt.
+-- double to it, with no tie (`sqrt-nearest`); that it is a double of the format is `root-fits`. They come from Near.antt's inequalities of whole numbers. The statements are in specs/RootLaws.antt.
 use mathlib.Core.Path.{_≡_, sym, ap, _∙_, subst}
 use Prim.Native.Nat.{ℕ, suc, _+_, _-_, _*_, _^_, _≤_, _<_, zero-le}
 use native.Mathlib.Nat.{le-trans, le-of-eq, lt-of-lt-of-le, lt-of-le-of-lt, lt-trans, not-le-of-lt, one-mul, mul-assoc, mul-pos, mul-le-mul, mul-le-mul-right, mul-lt-mul-of-pos-right, eq-of-mul-eq-mul-right}
@@ -10,6 +10,7 @@ use lib.Dec.{T, lit≤}
 use lib.Pow.{pow-add, pow-pos}
 use lib.Ieee.{Float, nan, inf, fin, binary64, low, fits, up, down, ofBits}
 use lib.Ieee.Fits.{down-pos}
+use lib.Ieee.Bits.{ofBits-fits}
 use lib.Ieee.Exact.{HasValue}
 use Rattle.exact.specs.Rational.{ℚ, _+ℚ_, _*ℚ_, _≤ℚ_, _<ℚ_, 0ℚ, _÷_, whole, not-le→lt}
 use Rattle.exact.proofs.Embed.{÷-eq, ÷-le, ÷-le⁻¹, ÷-mul, ÷-add, ÷-nn}
@@ -76,6 +77,7 @@ record Known (x r : Float) : Type 0 where
   n : ℕ
   c : ℕ
   some : 0 < c
+  double : T (fits binary64 r)
   at-down : HasValue (nextDown r) false a c
   at : HasValue r false b c
   at-up : HasValue (nextUp r) false d c
@@ -145,6 +147,7 @@ known m e F =
       n = n;
       c = 2 ^ 1074;
       some = pow-pos 1074;
+      double = subst (λ (x : Float). T (fits binary64 x)) (sym t) (ofBits-fits binary64 (k .bits));
       at-down = subst (λ (x : Float). HasValue x false (sizeOf binary64 (k .bits - 1)) (2 ^ 1074)) (sym (ap nextDown t ∙ down-is (k .bits) (k .low) H)) (bits-val binary64 (k .bits - 1) (lt-of-le-of-lt (less (k .bits)) H));
       at = subst (λ (x : Float). HasValue x false (sizeOf binary64 (k .bits)) (2 ^ 1074)) (sym t) (bits-val binary64 (k .bits) H);
       at-up = subst (λ (x : Float). HasValue x false (sizeOf binary64 (k .bits + 1)) (2 ^ 1074)) (sym (ap nextUp t ∙ up-is (k .bits) (k .low) H)) (bits-val binary64 (k .bits + 1) (k .high));
@@ -171,6 +174,9 @@ known m e F =
     pred a h = omega arith
 
 -- ---- the laws, for every finite double above zero
+pub root-fits : (m : ℕ) (e : ℤ) → T (fits binary64 (fin false (suc m) e)) → T (fits binary64 (sqrtF (fin false (suc m) e)))
+root-fits m e F = known m e F .double
+
 pub sqrt-encloses : (m : ℕ) (e : ℤ) → T (fits binary64 (fin false (suc m) e)) → SqrtEncloses (fin false (suc m) e) (sqrtF (fin false (suc m) e))
 sqrt-encloses m e F = encloses (fin false (suc m) e) (sqrtF (fin false (suc m) e)) (known m e F)
 

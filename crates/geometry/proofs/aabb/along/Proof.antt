@@ -30,7 +30,7 @@ returns c =
     let k = c .before .before in
     let m = k .before .before .before in
     let a = m .before .args in
-    along-first (a .e) (a .a) (a .b) _ _ _ (m .sub .ensures) (k .before .sub2 .ensures ∙ ap (λ (v : Scalar). subS v (a .a)) (k .before .before .lower .ensures)) (k .div .ensures) (c .enum-told .given .1)
+    along-first (a .e) (a .a) (a .b) _ _ _ (m .sub .ensures) (k .before .sub2 .ensures ∙ ap (λ (v : Scalar). subS v (a .a)) (k .before .before .lower .ensures)) (k .div .ensures .result) (c .enum-told .given .1)
 
 upper-requires : tie.Need-upper-requires
 upper-requires c κs = search needs
@@ -54,8 +54,8 @@ returns-2 c =
     let k = f .before .before in
     let m = k .before .before .before in
     let a = m .before .args in
-    along-second (a .e) (a .a) (a .b) _ _ _ (m .sub .ensures) (k .before .sub2 .ensures ∙ ap (λ (v : Scalar). subS v (a .a)) (k .before .before .lower .ensures)) (k .div .ensures)
-    _ (f .first .given .1) _ _ (n .before .sub3 .ensures ∙ ap (λ (v : Scalar). subS v (a .a)) (n .before .before .upper .ensures)) (n .div2 .ensures) (c .enum-told2 .given .1)
+    along-second (a .e) (a .a) (a .b) _ _ _ (m .sub .ensures) (k .before .sub2 .ensures ∙ ap (λ (v : Scalar). subS v (a .a)) (k .before .before .lower .ensures)) (k .div .ensures .result)
+    _ (f .first .given .1) _ _ (n .before .sub3 .ensures ∙ ap (λ (v : Scalar). subS v (a .a)) (n .before .before .upper .ensures)) (n .div2 .ensures .result) (c .enum-told2 .given .1)
 
 union-requires : tie.Need-union-requires
 union-requires c κs = search needs
@@ -68,8 +68,8 @@ returns-3 c =
     let k = f .before .before in
     let m = k .before .before .before in
     let a = m .before .args in
-    along-both (a .e) (a .a) (a .b) _ _ _ (m .sub .ensures) (k .before .sub2 .ensures ∙ ap (λ (v : Scalar). subS v (a .a)) (k .before .before .lower .ensures)) (k .div .ensures)
-    _ (f .first .given .1) _ _ (n .before .sub3 .ensures ∙ ap (λ (v : Scalar). subS v (a .a)) (n .before .before .upper .ensures)) (n .div2 .ensures) _ _ (g .second .given .1) (c .union .ensures)
+    along-both (a .e) (a .a) (a .b) _ _ _ (m .sub .ensures) (k .before .sub2 .ensures ∙ ap (λ (v : Scalar). subS v (a .a)) (k .before .before .lower .ensures)) (k .div .ensures .result)
+    _ (f .first .given .1) _ _ (n .before .sub3 .ensures ∙ ap (λ (v : Scalar). subS v (a .a)) (n .before .before .upper .ensures)) (n .div2 .ensures .result) _ _ (g .second .given .1) (c .union .ensures)
 
 pub along-spec : {M : Type 1} → statement M
 along-spec =

@@ -54,10 +54,10 @@ raw-place-requires-2 c κs =
     (omega (arith, point-in (a .dim) (l .loop .i) (a .count) (length (a .points .now)) (omega arith) (omega arith)), (w .0 ∙ c .before .coordinate2 .ensures, w .1 ∙ ap inverseS (sym (w .0))))
 
 lesser-requires : tie.Need-lesser-requires Inv-loop μ-loop
-lesser-requires c κs = c .before .before .before .before .loop .inv .2 .lo-number
+lesser-requires c κs = tt
 
 greater-requires : tie.Need-greater-requires Inv-loop μ-loop
-greater-requires c κs = c .before .before .before .before .before .loop .inv .2 .hi-number
+greater-requires c κs = tt
 
 add-i : tie.Need-add-i Inv-loop μ-loop
 add-i c =

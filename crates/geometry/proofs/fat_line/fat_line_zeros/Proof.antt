@@ -47,7 +47,7 @@ returns c =
     let o = s .before .before .before .before .before .before .before in
     let a = o .args in
     zeros-level (a .count) (a .xi .now) (a .dx .now) (a .d .now) (s .before .before .before .scalar-at .result) (s .before .before .scalar-at2 .result) (s .scalar-at4 .result) (s .before .scalar-at3 .result) (q .before .sub .result) (q .div .result) (o .pre .0 .0) (o .pre .1)
-    (s .before .before .before .scalar-at .ensures) (s .before .before .scalar-at2 .ensures) (s .scalar-at4 .ensures) (s .before .scalar-at3 .ensures) (q .before .sub .ensures) (q .div .ensures) _ _ (c .before .before .enum-told .given .1) (c .before .unions .ensures) (c .level-zeros .ensures)
+    (s .before .before .before .scalar-at .ensures) (s .before .before .scalar-at2 .ensures) (s .scalar-at4 .ensures) (s .before .scalar-at3 .ensures) (q .before .sub .ensures) (q .div .ensures .result) _ _ (c .before .before .enum-told .given .1) (c .before .unions .ensures) (c .level-zeros .ensures)
 
 band-requires : tie.Need-band-requires
 band-requires c κs = let o = c .before .before .before .before .before .before .before .before .before .before .before .before in (o .pre .0 .0, (o .pre .0 .1 .1 .0, o .pre .0 .1 .1 .1))
@@ -62,7 +62,7 @@ returns-2 c =
     let o = s .before .before .before .before .before .before .before in
     let a = o .args in
     zeros-sloped (a .count) (a .xi .now) (a .dx .now) (a .d .now) (s .before .before .before .scalar-at .result) (s .before .before .scalar-at2 .result) (s .scalar-at4 .result) (s .before .scalar-at3 .result) (q .before .sub .result) (q .div .result) (o .pre .0 .0) (o .pre .1)
-    (s .before .before .before .scalar-at .ensures) (s .before .before .scalar-at2 .ensures) (s .scalar-at4 .ensures) (s .before .scalar-at3 .ensures) (q .before .sub .ensures) (q .div .ensures) _ _ _ (c .before .before .before .slope .given .1) (c .before .band .ensures) (c .sloped-zeros .ensures)
+    (s .before .before .before .scalar-at .ensures) (s .before .before .scalar-at2 .ensures) (s .scalar-at4 .ensures) (s .before .scalar-at3 .ensures) (q .before .sub .ensures) (q .div .ensures .result) _ _ _ (c .before .before .before .slope .given .1) (c .before .band .ensures) (c .sloped-zeros .ensures)
 
 pub fat-line-zeros-spec : {M : Type 1} → statement M
 fat-line-zeros-spec =

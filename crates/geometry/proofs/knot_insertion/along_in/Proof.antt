@@ -49,7 +49,7 @@ returns : tie.Need-returns
 returns c =
     let k = c .before .before .before .before .before .before .before .before .before .before in
     let g = k .args in
-    along-done (g .s) (g .work .now) (g .base) (g .t) _ _ _ _ _ _ (k .pre .1) (c .before .before .before .before .before .before .from-f64 .ensures) (c .before .before .before .before .from-f642 .ensures) (c .before .before .before .from-f643 .ensures) (c .before .before .sub .ensures) (c .before .sub2 .ensures) (c .div .ensures)
+    along-done (g .s) (g .work .now) (g .base) (g .t) _ _ _ _ _ _ (k .pre .1) (c .before .before .before .before .before .before .from-f64 .ensures) (c .before .before .before .before .from-f642 .ensures) (c .before .before .before .from-f643 .ensures) (c .before .before .sub .ensures) (c .before .sub2 .ensures) (c .div .ensures .result)
 
 pub along-in-spec : {M : Type 1} → statement M
 along-in-spec =

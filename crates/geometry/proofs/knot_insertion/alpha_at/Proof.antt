@@ -57,14 +57,14 @@ returns-3 : tie.Need-returns-3
 returns-3 c =
     let k = c .before .before .before .before .before .before .before .before .before .before .before .before .before .before .args in
     alpha-value (k .degree) (k .knots .now) (k .t) (k .i) (c .before .before .before .div .result) _ (c .before .along .given .1)
-    (alpha-between (k .degree) (k .knots .now) (k .t) (k .i) _ _ _ _ _ _ (c .before .before .before .before .before .before .before .before .before .before .if1 .left) (c .before .before .before .before .before .before .before .before .before .if2 .left) (c .before .before .before .before .before .before .before .before .from-f64 .ensures) (c .before .before .before .before .before .before .before .from-f642 .ensures) (c .before .before .before .before .before .before .sub .ensures) (c .before .before .before .before .before .from-f643 .ensures) (c .before .before .before .before .sub2 .ensures) (c .before .before .before .div .ensures))
+    (alpha-between (k .degree) (k .knots .now) (k .t) (k .i) _ _ _ _ _ _ (c .before .before .before .before .before .before .before .before .before .before .if1 .left) (c .before .before .before .before .before .before .before .before .before .if2 .left) (c .before .before .before .before .before .before .before .before .from-f64 .ensures) (c .before .before .before .before .before .before .before .from-f642 .ensures) (c .before .before .before .before .before .before .sub .ensures) (c .before .before .before .before .before .from-f643 .ensures) (c .before .before .before .before .sub2 .ensures) (c .before .before .before .div .ensures .result))
 
 returns-4 : tie.Need-returns-4
 unfolding ofBits
 returns-4 c =
     let k = c .before .before .before .before .before .before .before .before .before .before .before .before .before .args in
     alpha-failed (k .degree) (k .knots .now) (k .t) (k .i) (c .before .before .div .result) (c .enum-told .given .1)
-    (alpha-between (k .degree) (k .knots .now) (k .t) (k .i) _ _ _ _ _ _ (c .before .before .before .before .before .before .before .before .before .if1 .left) (c .before .before .before .before .before .before .before .before .if2 .left) (c .before .before .before .before .before .before .before .from-f64 .ensures) (c .before .before .before .before .before .before .from-f642 .ensures) (c .before .before .before .before .before .sub .ensures) (c .before .before .before .before .from-f643 .ensures) (c .before .before .before .sub2 .ensures) (c .before .before .div .ensures))
+    (alpha-between (k .degree) (k .knots .now) (k .t) (k .i) _ _ _ _ _ _ (c .before .before .before .before .before .before .before .before .before .if1 .left) (c .before .before .before .before .before .before .before .before .if2 .left) (c .before .before .before .before .before .before .before .from-f64 .ensures) (c .before .before .before .before .before .before .from-f642 .ensures) (c .before .before .before .before .before .sub .ensures) (c .before .before .before .before .from-f643 .ensures) (c .before .before .before .sub2 .ensures) (c .before .before .div .ensures .result))
 
 pub alpha-at-spec : {M : Type 1} → statement M
 alpha-at-spec =

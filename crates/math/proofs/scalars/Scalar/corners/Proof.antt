@@ -1,19 +1,17 @@
 -- `corners` equals its definition: the least and the greatest of the four products, each pick taken from a number.
-use mathlib.Core.Path.{refl}
-use lib.Ieee.{nanBits, ofBits, neg, isNan}
+use lib.Ieee.{nanBits, ofBits, neg}
+use Rattle.math.specs.Scalars.{corners}
 use Rattle.math.proofs.Picks.{least-of, most-of}
-use Rattle.geometry.specs.Aabb.{corners}
 use borrow.Author.Needs.{needs}
-use Rattle.geometry.proofs.aabb.corners.Statement.{statement}
-use Rattle.geometry.proofs.aabb.corners.Tie as tie
+use Rattle.math.proofs.scalars.Scalar.corners.Statement.{statement}
+use Rattle.math.proofs.scalars.Scalar.corners.Tie as tie
 
 float-from-bits-inf : tie.Need-float-from-bits-inf
 unfolding nanBits
 float-from-bits-inf c = tt
 
 lesser-requires : tie.Need-lesser-requires
-unfolding ofBits isNan
-lesser-requires c κs = refl
+lesser-requires c κs = search needs
 
 lesser-requires-2 : tie.Need-lesser-requires-2
 lesser-requires-2 c κs = search needs
@@ -25,8 +23,7 @@ lesser-requires-4 : tie.Need-lesser-requires-4
 lesser-requires-4 c κs = search needs
 
 greater-requires : tie.Need-greater-requires
-unfolding ofBits isNan neg
-greater-requires c κs = refl
+greater-requires c κs = search needs
 
 greater-requires-2 : tie.Need-greater-requires-2
 greater-requires-2 c κs = search needs
@@ -40,9 +37,9 @@ greater-requires-4 c κs = search needs
 returns : tie.Need-returns
 unfolding corners ofBits neg
 returns c =
-    let hi = most-of _ _ _ _ _ _ _ _ (c .before .before .before .greater .ensures .0) (c .before .before .greater2 .ensures .0) (c .before .greater3 .ensures .0) (c .greater4 .ensures .0) in
+    let hi = most-of _ _ _ _ _ _ _ _ (c .before .before .before .greater .ensures) (c .before .before .greater2 .ensures) (c .before .greater3 .ensures) (c .greater4 .ensures) in
     let l = c .before .before .before .before in
-    let lo = least-of _ _ _ _ _ _ _ _ (l .before .before .before .lesser .ensures .0) (l .before .before .lesser2 .ensures .0) (l .before .lesser3 .ensures .0) (l .lesser4 .ensures .0) in
+    let lo = least-of _ _ _ _ _ _ _ _ (l .before .before .before .lesser .ensures) (l .before .before .lesser2 .ensures) (l .before .lesser3 .ensures) (l .lesser4 .ensures) in
     λ i. record { lo = lo i; hi = hi i }
 
 pub corners-spec : {M : Type 1} → statement M

@@ -1,15 +1,15 @@
--- `common` equals its definition: where the two sums meet each bound is picked and then widened, and else the sums are intersected as they are.
+-- `meet_of_sums` equals its definition: where the two sums meet each bound is picked and then widened, and else the sums are intersected as they are.
 use Rattle.math.proofs.Picks.{sums-meet}
-use Rattle.math.proofs.Intervals.Factors.{lower-number, upper-number, common-is}
+use Rattle.math.proofs.Intervals.Factors.{lower-number, upper-number, meet-of-sums-is}
 use borrow.Author.Needs.{needs}
-use Rattle.math.proofs.scalars.Scalar.common.Statement.{statement}
-use Rattle.math.proofs.scalars.Scalar.common.Tie as tie
+use Rattle.math.proofs.scalars.Scalar.meet_of_sums.Statement.{statement}
+use Rattle.math.proofs.scalars.Scalar.meet_of_sums.Tie as tie
 
-above-requires : tie.Need-above-requires
-above-requires c κs = search needs
+greater-requires : tie.Need-greater-requires
+greater-requires c κs = search needs
 
-below-requires : tie.Need-below-requires
-below-requires c κs = search needs
+lesser-requires : tie.Need-lesser-requires
+lesser-requires c κs = search needs
 
 down-requires : tie.Need-down-requires
 down-requires c κs = lower-number _ _ (c .if1 .taken)
@@ -24,7 +24,7 @@ returns c =
     let b = n .before in
     let a = b .before .before .before .before .before in
     let k = a .before .before .before .before .before .args in
-    common-is (k .a) (k .m) (k .p) (k .q) (a .above .result) (b .below .result) (d .down .result) (c .up .result) (a .above .ensures) (b .below .ensures) (n .if1 .taken) (d .down .ensures) (c .up .ensures)
+    meet-of-sums-is (k .a) (k .m) (k .p) (k .q) (a .greater .result) (b .lesser .result) (d .down .result) (c .up .result) (a .greater .ensures) (b .lesser .ensures) (n .if1 .taken) (d .down .ensures) (c .up .ensures)
 
 add-requires : tie.Need-add-requires
 add-requires c κs = search needs
@@ -42,12 +42,12 @@ returns-2 c =
     let k = x .before .before .before .before .before .before .before .before .before .before .before .before .args in
     sums-meet (k .a) (k .m) (k .p) (k .q) (x .add .result) (y .add2 .result) (c .intersect .result) (x .add .ensures) (y .add2 .ensures) (c .intersect .ensures)
 
-pub common-spec : {M : Type 1} → statement M
-common-spec =
+pub meet-of-sums-spec : {M : Type 1} → statement M
+meet-of-sums-spec =
     tie.close
     (tie.spec
-    above-requires
-    below-requires
+    greater-requires
+    lesser-requires
     down-requires
     up-requires
     returns

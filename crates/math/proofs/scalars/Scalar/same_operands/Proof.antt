@@ -1,9 +1,9 @@
--- `steady` equals its definition, from what its two calls ensure: the second test where the first passed, and else the first.
+-- `same_operands` equals its definition, from what its two calls ensure: the second test where the first passed, and else the first.
 use mathlib.Core.Path.{sym, _∙_}
 use Rattle.math.proofs.Bools.{and-yes, and-no}
 use borrow.Author.Needs.{needs}
-use Rattle.math.proofs.scalars.Scalar.steady.Statement.{statement}
-use Rattle.math.proofs.scalars.Scalar.steady.Tie as tie
+use Rattle.math.proofs.scalars.Scalar.same_operands.Statement.{statement}
+use Rattle.math.proofs.scalars.Scalar.same_operands.Tie as tie
 
 is-exactly-requires : tie.Need-is-exactly-requires
 is-exactly-requires c κs = search needs
@@ -17,5 +17,5 @@ returns c = c .in-unit .ensures ∙ and-yes _ _ (sym (c .before .before .is-exac
 returns-2 : tie.Need-returns-2
 returns-2 c = c .before .is-exactly .ensures ∙ and-no _ _ (sym (c .before .is-exactly .ensures) ∙ c .if1 .left)
 
-pub steady-spec : {M : Type 1} → statement M
-steady-spec = tie.close (tie.spec is-exactly-requires in-unit-requires returns returns-2)
+pub same-operands-spec : {M : Type 1} → statement M
+same-operands-spec = tie.close (tie.spec is-exactly-requires in-unit-requires returns returns-2)
