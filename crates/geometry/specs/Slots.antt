@@ -24,6 +24,10 @@ use Rattle.geometry.specs.declared.slots.Shape.{Shape}
 abbrev pub pointWords : Shape → ℕ
 pointWords s = 2 * suc (s .dim)
 
+-- Where the knots of the slot at base begin: behind the count.
+abbrev pub knotsFrom : ℕ → ℕ
+knotsFrom base = base + 1
+
 -- Where the points of the slot at base begin: behind the count, and the room for the knots.
 abbrev pub pointsFrom : Shape → ℕ → ℕ
 pointsFrom s base = base + (s .count + 2 * s .degree + 3)
@@ -57,7 +61,7 @@ numbers (q ∷ qs) = flat q ++ numbers qs
 
 -- The knots of the slot at base, where it holds n points.
 abbrev pub knotsAt : Shape → List Float → ℕ → ℕ → List Float
-knotsAt s l base n = part l (base + 1) (n + s .degree + 1)
+knotsAt s l base n = part l (knotsFrom base) (n + s .degree + 1)
 
 -- The piece that the slot at base holds.
 unfoldable pub pieceAt : Shape → List Float → ℕ → Piece

@@ -36,7 +36,7 @@ outcomeOf s l a b (Restricted n) = restricted n (pieceAt s l a)
 outcomeOf s l a b Halved = halved (pieceAt s l a) (pieceAt s l b)
 outcomeOf s l a b BadWeight = badWeight
 
--- The slots of what is children on hold pieces.
+-- The slots of what is handed on hold pieces.
 abbrev pub HandedOn : Shape → List Float → ℕ → ℕ → Outcome → Type 0
 HandedOn s l a b Dropped = Unit {0}
 HandedOn s l a b (Reported t) = Unit {0}
@@ -51,7 +51,7 @@ pub record Visited (see : Visit) (s : Shape) (a b : ℕ) (l m : List Float) (o :
   pub holding : HandedOn s m a b o
 
 -- How many pieces a visit hands on.
-unfoldable pub children : Outcome → ℕ
+abbrev pub children : Outcome → ℕ
 children Dropped = 0
 children (Reported t) = 0
 children (Restricted n) = 1
@@ -59,7 +59,7 @@ children Halved = 2
 children BadWeight = 0
 
 -- What was reported, with what a visit reports.
-unfoldable pub withReport : Option Scalar → Outcome → Option Scalar
+abbrev pub withReport : Option Scalar → Outcome → Option Scalar
 withReport f Dropped = f
 withReport f (Reported t) = some (joined f t)
 withReport f (Restricted n) = f
@@ -67,7 +67,7 @@ withReport f Halved = f
 withReport f BadWeight = f
 
 -- Whether a visit found a weight that is not above zero.
-unfoldable pub hasBadWeight : Outcome → Bool
+abbrev pub hasBadWeight : Outcome → Bool
 hasBadWeight Dropped = false
 hasBadWeight (Reported t) = false
 hasBadWeight (Restricted n) = false

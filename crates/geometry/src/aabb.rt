@@ -98,8 +98,11 @@ pub(crate) fn aabb_could_overlap(
     dim: usize,
     count: usize,
 ) -> bool
-    requires { ⌜ (dim ≤ 3) × (1 ≤ count) × (count ≤ 32) × (2 * (suc dim * count) ≤ length (now points)) × (2 * dim ≤ length (now «point_box»)) ⌝ }
-    ensures { λ r. ⌜ r ≡ couldOverlap (aabb geop dim (pointsOf (suc dim) count (now (points .entry)))) (scalarsOf dim (now («point_box» .entry))) ⌝ }
+    requires { ⌜ (dim ≤ 3) × (1 ≤ count) × (count ≤ 32) × (2 * (suc dim * count) ≤ length (now points))
+        × (2 * dim ≤ length (now «point_box»)) ⌝ }
+    ensures { λ r.
+        let box = now («point_box» .entry) in
+        ⌜ r ≡ couldOverlap (aabb geop dim (pointsOf (suc dim) count (now (points .entry)))) (scalarsOf dim box) ⌝ }
 {
     let mut k = 0;
     while k < dim {
@@ -132,7 +135,11 @@ fn along(e: Scalar, a: Scalar, b: Scalar) -> Hat
 // The segment from point 0 to point 1 could meet the lent box: what each axis leaves of the range from 0 to 1 is not empty.
 fn meets(points: &[f64], point_box: &[f64], dim: usize) -> bool
     requires { ⌜ (dim ≤ 3) × (2 * (suc dim * 2) ≤ length (now points)) × (2 * dim ≤ length (now «point_box»)) ⌝ }
-    ensures { λ r. ⌜ r ≡ meets geop dim (pointAt (suc dim) (now (points .entry)) 0) (pointAt (suc dim) (now (points .entry)) 1) (unionS ZERO ONE) 0 (scalarsOf dim (now («point_box» .entry))) ⌝ }
+    ensures { λ r.
+        let box = now («point_box» .entry) in
+        let ps = now (points .entry) in
+        ⌜ r ≡ meets geop dim (pointAt (suc dim) ps 0) (pointAt (suc dim) ps 1) (unionS ZERO ONE) 0
+        (scalarsOf dim box) ⌝ }
 {
     let mut range = Scalar::ZERO.union(Scalar::ONE);
     let mut k = 0;
@@ -159,8 +166,11 @@ pub(crate) fn curve_could_meet_aabb(
     degree: usize,
     count: usize,
 ) -> bool
-    requires { ⌜ (dim ≤ 3) × (1 ≤ count) × (count ≤ 32) × (2 * (suc dim * count) ≤ length (now points)) × (2 * dim ≤ length (now «point_box»)) ⌝ }
-    ensures { λ r. ⌜ r ≡ couldMeet geop dim degree (pointsOf (suc dim) count (now (points .entry))) (scalarsOf dim (now («point_box» .entry))) ⌝ }
+    requires { ⌜ (dim ≤ 3) × (1 ≤ count) × (count ≤ 32) × (2 * (suc dim * count) ≤ length (now points))
+        × (2 * dim ≤ length (now «point_box»)) ⌝ }
+    ensures { λ r.
+        let box = now («point_box» .entry) in
+        ⌜ r ≡ couldMeet geop dim degree (pointsOf (suc dim) count (now (points .entry))) (scalarsOf dim box) ⌝ }
 {
     if !aabb_could_overlap(points, point_box, dim, count) {
         return false;

@@ -7,6 +7,7 @@ use crate::call::stated_words;
 use crate::slots::Shape;
 use crate::slots::fill;
 use crate::slots::load;
+use crate::slots::slot_base;
 use crate::subdivide::Outcome;
 use crate::subdivide::Reports;
 use crate::subdivide::Search;
@@ -75,9 +76,9 @@ fn visit_next(
 {
     let head = q.head;
     let pending = q.pending;
-    let a = wrap(head + pending, slots) * w;
-    let b = wrap(head + (pending + 1), slots) * w;
-    visit(work, head * w, a, b, s, point_box, resolution)
+    let a = slot_base(0, w, wrap(head + pending, slots));
+    let b = slot_base(0, w, wrap(head + (pending + 1), slots));
+    visit(work, slot_base(0, w, head), a, b, s, point_box, resolution)
 }
 
 // The search of the piece in slot 0, over a ring of nodes + 3 slots.

@@ -130,7 +130,9 @@ pub(crate) fn chord(slope: Scalar, y0: Scalar, x: Scalar) -> Scalar
 // The union of the offsets of all points, the first too, where one step outward at the end serves all, since the neighbours of doubles keep their order.
 pub(crate) fn band(dx: &[f64], d: &[f64], count: usize, slope: Scalar, y0: Scalar) -> Scalar
     requires { ⌜ (0 < count) × ((2 * count ≤ length (now dx)) × (2 * count ≤ length (now d))) ⌝ }
-    ensures { λ r. ⌜ r ≡ unions (zipWith (λ x y. offRun slope y0 x y) (scalarsOf count (now (dx .entry))) (scalarsOf count (now (d .entry)))) ⌝ }
+    ensures { λ r.
+        ⌜ r ≡ unions
+        (zipWith (λ x y. offRun slope y0 x y) (scalarsOf count (now (dx .entry))) (scalarsOf count (now (d .entry)))) ⌝ }
 {
     let c = chord(slope, y0, scalar_at(dx, 0));
     let y = scalar_at(d, 0);
@@ -172,7 +174,9 @@ pub(crate) fn crossing(x0: Scalar, q: Divided) -> Hat
 
 // The zeros where the chord has a slope: nowhere, if the band misses zero from the first point to the last.
 pub(crate) fn sloped_zeros(slope: Scalar, x0: Scalar, y0: Scalar, last: Scalar, band: Scalar) -> Hat
-    ensures { λ r. ⌜ r ≡ cond (couldBeEqual (addS (unionS y0 last) band) ZERO) (crossing geop x0 (divS (addS y0 band) slope)) Hat.Missing ⌝ }
+    ensures { λ r.
+        ⌜ r ≡ cond (couldBeEqual (addS (unionS y0 last) band) ZERO) (crossing geop x0 (divS (addS y0 band) slope))
+        Hat.Missing ⌝ }
 {
     if y0.union(last).add(band).could_be_equal(Scalar::ZERO) {
         return crossing(x0, y0.add(band).div(slope));
@@ -182,7 +186,8 @@ pub(crate) fn sloped_zeros(slope: Scalar, x0: Scalar, y0: Scalar, last: Scalar, 
 
 // Where the spline could be zero whose graph has the control polygon (xi i, d i). How far each abscissa lies from the first stands in dx.
 pub(crate) fn fat_line_zeros(xi: &[f64], dx: &[f64], d: &[f64], count: usize) -> Hat
-    requires { ⌜ (0 < count) × ((2 * count ≤ length (now xi)) × ((2 * count ≤ length (now dx)) × (2 * count ≤ length (now d)))) ⌝ }
+    requires { ⌜ (0 < count)
+        × ((2 * count ≤ length (now xi)) × ((2 * count ≤ length (now dx)) × (2 * count ≤ length (now d)))) ⌝ }
     requires { ⌜ scalarsOf count (now dx) ≡ runs (scalarsOf count (now xi)) ⌝ }
     ensures { λ r. ⌜ r ≡ fatLineZeros geop (scalarsOf count (now (xi .entry))) (scalarsOf count (now (d .entry))) ⌝ }
 {
@@ -208,7 +213,9 @@ struct Position {
 // The middle of coordinate k of point i over w, and 0 where there is no such coordinate.
 fn cartesian_at(points: &[f64], dim: usize, i: usize, k: usize, w: f64) -> f64
     requires { ⌜ (dim ≤ 3) × (i < 32) × (2 * (suc dim * suc i) ≤ length (now points)) ⌝ }
-    ensures { λ r. ⌜ r ≡ cond (ltb k dim) (div binary64 (middle (coordinate (pointAt (suc dim) (now (points .entry)) i) k)) w) zeroF ⌝ }
+    ensures { λ r.
+        ⌜ r ≡ cond (ltb k dim) (div binary64 (middle (coordinate (pointAt (suc dim) (now (points .entry)) i) k)) w)
+        zeroF ⌝ }
 {
     if k < dim {
         return coordinate(points, dim, i, k).to_f64() / w;
@@ -319,7 +326,10 @@ pub(crate) fn exceeds(points: &[f64], dim: usize, count: usize, limit: f64) -> b
 // The greater of best and of the width of coordinate k of point i over w, where there is a coordinate k.
 fn wider(best: f64, points: &[f64], dim: usize, i: usize, k: usize, w: f64) -> f64
     requires { ⌜ (dim ≤ 3) × (i < 32) × (2 * (suc dim * suc i) ≤ length (now points)) ⌝ }
-    ensures { λ r. ⌜ r ≡ cond (ltb k dim) (maxF best (div binary64 (toF64 (widthS (coordinate (pointAt (suc dim) (now (points .entry)) i) k))) w)) best ⌝ }
+    ensures { λ r.
+        ⌜ r ≡ cond (ltb k dim)
+        (maxF best (div binary64 (toF64 (widthS (coordinate (pointAt (suc dim) (now (points .entry)) i) k))) w))
+        best ⌝ }
 {
     if k < dim {
         return max(best, coordinate(points, dim, i, k).width().to_f64() / w);
@@ -368,8 +378,11 @@ pub(crate) fn box_width(point_box: &[f64], dim: usize) -> f64
 
 // The width that the points carry, or the lent box's own where it is wider.
 pub(crate) fn carried(points: &[f64], point_box: &[f64], dim: usize, count: usize) -> f64
-    requires { ⌜ (dim ≤ 3) × (count ≤ 32) × (2 * (suc dim * count) ≤ length (now points)) × (2 * dim ≤ length (now «point_box»)) ⌝ }
-    ensures { λ r. ⌜ r ≡ carried dim (scalarsOf dim (now («point_box» .entry))) (pointsOf (suc dim) count (now (points .entry))) ⌝ }
+    requires { ⌜ (dim ≤ 3) × (count ≤ 32) × (2 * (suc dim * count) ≤ length (now points))
+        × (2 * dim ≤ length (now «point_box»)) ⌝ }
+    ensures { λ r.
+        let box = now («point_box» .entry) in
+        ⌜ r ≡ carried dim (scalarsOf dim box) (pointsOf (suc dim) count (now (points .entry))) ⌝ }
 {
     max(carried_width(points, dim, count), box_width(point_box, dim))
 }

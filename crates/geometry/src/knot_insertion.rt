@@ -4,6 +4,7 @@ use crate::slots::copy;
 use crate::slots::copy_up;
 use crate::slots::count_at;
 use crate::slots::fill;
+use crate::slots::knots_from;
 use crate::slots::knots_in;
 use crate::slots::place_of;
 use crate::slots::set_count;
@@ -21,7 +22,7 @@ ghost use Rattle.math.specs.Scalars.{geop, isSame, sharp, subS, divS};
 ghost use Rattle.model.specs.NurbCurve.{knot};
 ghost use Rattle.model.specs.KnotInsertion.{holdsAt, insertionSpan, alpha, blend, knotsWith, insertOnce, insertTimes, bezierKnots, bezierCut, multiplicity, isBezier, boehmCut, fullCut};
 ghost use Rattle.model.specs.Layout.{flat};
-ghost use Rattle.geometry.specs.Slots.{placeOf, countAt, vectorAt, blendAt, betweenAt, withSides, numbers, pieceAt, placed, Inside, Held, CutAt};
+ghost use Rattle.geometry.specs.Slots.{knotsFrom, placeOf, countAt, vectorAt, blendAt, betweenAt, withSides, numbers, pieceAt, placed, Inside, Held, CutAt};
 
 // The parameter t is at or above knot k, and below the next.
 fn holds_at(knots: &[f64], t: f64, k: usize) -> bool
@@ -140,7 +141,9 @@ fn is_same(x: Scalar, y: Scalar) -> bool
 // The point of d intervals at b becomes the one a fraction alpha of the way from the point at a to it: unrounded where alpha is 0 or 1.
 fn blend_into(work: &mut [f64], a: usize, b: usize, d: usize, alpha: Scalar)
     requires { ⌜ (a + 2 * d ≤ b) × (b + 2 * d ≤ length (now work)) ⌝ }
-    ensures { λ _. ⌜ now (work .exit) ≡ put (now (work .entry)) b (flat (blend geop alpha (vectorAt d (now (work .entry)) a) (vectorAt d (now (work .entry)) b))) ⌝ }
+    ensures { λ _.
+        let old = now (work .entry) in
+        ⌜ now (work .exit) ≡ put old b (flat (blend geop alpha (vectorAt d old a) (vectorAt d old b))) ⌝ }
 {
     if is_same(alpha, Scalar::ZERO) {
         copy(work, a, b, 2 * d);
@@ -155,9 +158,11 @@ fn blend_into(work: &mut [f64], a: usize, b: usize, d: usize, alpha: Scalar)
 // Point j + 1 of the slot at base, which has the knots of n points, becomes its blend with point j.
 fn blend_point(work: &mut [f64], base: usize, s: Shape, n: usize, j: usize, t: f64)
     requires { ⌜ Inside s (now work) base × (j + 1 < n) × (n ≤ s .count + s .degree + 1) ⌝ }
-    ensures { λ _. ⌜ now (work .exit) ≡ put (now (work .entry)) (placeOf s base (suc j)) (flat (blendAt s (now (work .entry)) base n t j)) ⌝ }
+    ensures { λ _.
+        let old = now (work .entry) in
+        ⌜ now (work .exit) ≡ put old (placeOf s base (suc j)) (flat (blendAt s old base n t j)) ⌝ }
 {
-    let from = base + 1;
+    let from = knots_from(base);
     let end = from + n + s.degree + 1;
     let alpha = alpha_at(&work[from..end], s.degree, t, j + 1);
     let a = place_of(s, base, j);
@@ -168,7 +173,10 @@ fn blend_point(work: &mut [f64], base: usize, s: Shape, n: usize, j: usize, t: f
 // The points numbered k - degree + 1 to k become blends, the last one first.
 fn blend_points(work: &mut [f64], base: usize, s: Shape, n: usize, k: usize, t: f64)
     requires { ⌜ Inside s (now work) base × (s .degree ≤ k) × (k < n) × (n ≤ s .count + s .degree + 1) ⌝ }
-    ensures { λ _. ⌜ now (work .exit) ≡ put (now (work .entry)) (placeOf s base (suc (k - s .degree))) (numbers (tab (s .degree) (λ j. blendAt s (now (work .entry)) base n t (k - s .degree + j)))) ⌝ }
+    ensures { λ _.
+        let old = now (work .entry) in
+        ⌜ now (work .exit) ≡ put old (placeOf s base (suc (k - s .degree)))
+        (numbers (tab (s .degree) (λ j. blendAt s old base n t (k - s .degree + j)))) ⌝ }
 {
     let last = k - s.degree;
     let mut i = k;
@@ -181,7 +189,10 @@ fn blend_points(work: &mut [f64], base: usize, s: Shape, n: usize, k: usize, t: 
 // Of n points, those from number k on move up by one.
 fn open_points(work: &mut [f64], base: usize, s: Shape, n: usize, k: usize)
     requires { ⌜ Inside s (now work) base × (k < n) × (n ≤ s .count + s .degree) ⌝ }
-    ensures { λ _. ⌜ now (work .exit) ≡ put (now (work .entry)) (placeOf s base (suc k)) (part (now (work .entry)) (placeOf s base k) (placeOf s base n - placeOf s base k)) ⌝ }
+    ensures { λ _.
+        let old = now (work .entry) in
+        ⌜ now (work .exit) ≡ put old (placeOf s base (suc k))
+        (part old (placeOf s base k) (placeOf s base n - placeOf s base k)) ⌝ }
 {
     let from = place_of(s, base, k);
     let to = place_of(s, base, k + 1);
@@ -191,18 +202,24 @@ fn open_points(work: &mut [f64], base: usize, s: Shape, n: usize, k: usize)
 
 // Of the m knots behind the count at base, those behind number k move up by one, and t is put in.
 fn insert_knot(work: &mut [f64], base: usize, m: usize, k: usize, t: f64)
-    requires { ⌜ (k < m) × (base + 1 + m < length (now work)) ⌝ }
-    ensures { λ _. ⌜ now (work .exit) ≡ put (now (work .entry)) (base + 1) (knotsWith k t (part (now (work .entry)) (base + 1) m)) ⌝ }
+    requires { ⌜ (k < m) × (knotsFrom base + m < length (now work)) ⌝ }
+    ensures { λ _.
+        let old = now (work .entry) in
+        ⌜ now (work .exit) ≡ put old (knotsFrom base) (knotsWith k t (part old (knotsFrom base) m)) ⌝ }
 {
-    let at = base + k + 2;
+    let at = knots_from(base) + k + 1;
     copy_up(work, at, at + 1, m - k - 1);
     work[at] = t;
 }
 
 // The parameter t is inserted once, in span k, into the piece of the slot at base.
 pub(crate) fn insert_once(work: &mut [f64], base: usize, s: Shape, k: usize, t: f64)
-    requires { ⌜ Held s (now work) base × (s .degree ≤ k) × (k < countAt (now work) base) × (countAt (now work) base ≤ s .count + s .degree) ⌝ }
-    ensures { λ _. ⌜ now (work .exit) ≡ placed s (now (work .entry)) base (insertOnce geop (s .degree) k t (pieceAt s (now (work .entry)) base)) ⌝ }
+    requires { ⌜ Held s (now work) base × (s .degree ≤ k) × (k < countAt (now work) base)
+        × (countAt (now work) base ≤ s .count + s .degree) ⌝ }
+    ensures { λ _.
+        let old = now (work .entry) in
+        let c = pieceAt s old base in
+        ⌜ now (work .exit) ≡ placed s old base (insertOnce geop (s .degree) k t c) ⌝ }
 {
     let n = count_at(work, base);
     open_points(work, base, s, n, k);
@@ -214,7 +231,10 @@ pub(crate) fn insert_once(work: &mut [f64], base: usize, s: Shape, k: usize, t: 
 // The span of the piece in the slot at base that holds t.
 fn span_in(work: &[f64], base: usize, s: Shape, t: f64) -> usize
     requires { ⌜ Held s (now work) base × (s .degree ≤ countAt (now work) base) ⌝ }
-    ensures { λ r. ⌜ r ≡ insertionSpan (s .degree) (length (pieceAt s (now (work .entry)) base .points)) (pieceAt s (now (work .entry)) base .knots) t ⌝ }
+    ensures { λ r.
+        let old = now (work .entry) in
+        let c = pieceAt s old base in
+        ⌜ r ≡ insertionSpan (s .degree) (length (c .points)) (c .knots) t ⌝ }
 {
     let n = count_at(work, base);
     find_insertion_span(knots_in(work, base, s), s.degree, n, t)
@@ -222,8 +242,12 @@ fn span_in(work: &[f64], base: usize, s: Shape, t: f64) -> usize
 
 // The parameter t is inserted so many times into the piece of the slot at base, each time in the span that then holds it.
 pub(crate) fn insert_times(work: &mut [f64], base: usize, s: Shape, t: f64, times: usize)
-    requires { ⌜ Held s (now work) base × (s .degree < countAt (now work) base) × (countAt (now work) base + times ≤ s .count + s .degree + 1) ⌝ }
-    ensures { λ _. ⌜ now (work .exit) ≡ placed s (now (work .entry)) base (insertTimes geop (s .degree) t times (pieceAt s (now (work .entry)) base)) ⌝ }
+    requires { ⌜ Held s (now work) base × (s .degree < countAt (now work) base)
+        × (countAt (now work) base + times ≤ s .count + s .degree + 1) ⌝ }
+    ensures { λ _.
+        let old = now (work .entry) in
+        let c = pieceAt s old base in
+        ⌜ now (work .exit) ≡ placed s old base (insertTimes geop (s .degree) t times c) ⌝ }
 {
     let mut i = 0;
     while i < times {
@@ -236,7 +260,9 @@ pub(crate) fn insert_times(work: &mut [f64], base: usize, s: Shape, t: f64, time
 // Point j + 1 of the slot at base becomes the one a fraction alpha of the way from point j to it.
 fn between_point(work: &mut [f64], base: usize, s: Shape, j: usize, alpha: Scalar)
     requires { ⌜ Inside s (now work) base × (j < s .count + s .degree) ⌝ }
-    ensures { λ _. ⌜ now (work .exit) ≡ put (now (work .entry)) (placeOf s base (suc j)) (flat (betweenAt s (now (work .entry)) base alpha j)) ⌝ }
+    ensures { λ _.
+        let old = now (work .entry) in
+        ⌜ now (work .exit) ≡ put old (placeOf s base (suc j)) (flat (betweenAt s old base alpha j)) ⌝ }
 {
     let a = place_of(s, base, j);
     let b = place_of(s, base, j + 1);
@@ -246,7 +272,10 @@ fn between_point(work: &mut [f64], base: usize, s: Shape, j: usize, alpha: Scala
 // The points numbered r + 1 to degree become points between, the last one first: the next row of the triangle in the place of a row that begins at point r.
 fn next_row(work: &mut [f64], base: usize, s: Shape, r: usize, alpha: Scalar)
     requires { ⌜ Inside s (now work) base × (r ≤ s .degree) × (s .degree < s .count) ⌝ }
-    ensures { λ _. ⌜ now (work .exit) ≡ put (now (work .entry)) (placeOf s base (suc r)) (numbers (tab (s .degree - r) (λ j. betweenAt s (now (work .entry)) base alpha (r + j)))) ⌝ }
+    ensures { λ _.
+        let old = now (work .entry) in
+        ⌜ now (work .exit) ≡ put old (placeOf s base (suc r))
+        (numbers (tab (s .degree - r) (λ j. betweenAt s old base alpha (r + j)))) ⌝ }
 {
     let mut i = s.degree;
     while r < i {
@@ -258,7 +287,9 @@ fn next_row(work: &mut [f64], base: usize, s: Shape, r: usize, alpha: Scalar)
 // Point j of the slot at base becomes point i.
 fn copy_point(work: &mut [f64], base: usize, s: Shape, i: usize, j: usize)
     requires { ⌜ Inside s (now work) base × (i < j) × (j ≤ s .count + s .degree) ⌝ }
-    ensures { λ _. ⌜ now (work .exit) ≡ put (now (work .entry)) (placeOf s base j) (flat (vectorAt (suc (s .dim)) (now (work .entry)) (placeOf s base i))) ⌝ }
+    ensures { λ _.
+        let old = now (work .entry) in
+        ⌜ now (work .exit) ≡ put old (placeOf s base j) (flat (vectorAt (suc (s .dim)) old (placeOf s base i))) ⌝ }
 {
     let a = place_of(s, base, i);
     let b = place_of(s, base, j);
@@ -287,10 +318,10 @@ fn triangle_in(work: &mut [f64], base: usize, s: Shape, alpha: Scalar)
 // The knots behind the count at base become those of a Bezier span from a to b that is cut at t.
 fn bezier_knots(work: &mut [f64], base: usize, degree: usize, a: f64, t: f64, b: f64)
     requires { ⌜ (degree ≤ 7) × (base + 3 * degree + 4 ≤ length (now work)) ⌝ }
-    ensures { λ _. ⌜ now (work .exit) ≡ put (now (work .entry)) (base + 1) (bezierKnots degree a t b) ⌝ }
+    ensures { λ _. ⌜ now (work .exit) ≡ put (now (work .entry)) (knotsFrom base) (bezierKnots degree a t b) ⌝ }
 {
     let m = degree + 1;
-    let first = base + 1;
+    let first = knots_from(base);
     let second = first + m;
     fill(work, first, m, a);
     fill(work, second, m, t);
@@ -300,11 +331,15 @@ fn bezier_knots(work: &mut [f64], base: usize, degree: usize, a: f64, t: f64, b:
 // The piece in the slot at base, a Bezier span, is cut there at t by the triangle, where alpha says how far t lies along it.
 fn split_bezier_span(work: &mut [f64], base: usize, s: Shape, t: f64, alpha: Scalar)
     requires { ⌜ Held s (now work) base × (countAt (now work) base ≡ suc (s .degree)) × (s .degree < s .count) ⌝ }
-    ensures { λ _. ⌜ now (work .exit) ≡ placed s (now (work .entry)) base (bezierCut geop (s .degree) t alpha (pieceAt s (now (work .entry)) base) .piece) ⌝ }
+    ensures { λ _.
+        let old = now (work .entry) in
+        let c = pieceAt s old base in
+        ⌜ now (work .exit) ≡ placed s old base (bezierCut geop (s .degree) t alpha c .piece) ⌝ }
 {
     let p = s.degree;
-    let a = work[base + 1 + p];
-    let b = work[base + 2 + p];
+    let first = knots_from(base);
+    let a = work[first + p];
+    let b = work[first + p + 1];
     triangle_in(work, base, s, alpha);
     bezier_knots(work, base, p, a, t, b);
     set_count(work, base, 2 * p + 2);
@@ -331,7 +366,10 @@ fn position_in(work: &[f64], base: usize, s: Shape, t: f64) -> usize
 // The piece in the slot at base is cut at t by as many insertions as are missing.
 fn boehm_cut(work: &mut [f64], base: usize, s: Shape, t: f64) -> usize
     requires { ⌜ Held s (now work) base × (s .degree < countAt (now work) base) × (countAt (now work) base ≤ s .count) ⌝ }
-    ensures { λ r. ⌜ CutAt s (now (work .entry)) (now (work .exit)) base (boehmCut geop (s .degree) t (pieceAt s (now (work .entry)) base)) r ⌝ }
+    ensures { λ r.
+        let old = now (work .entry) in
+        let c = pieceAt s old base in
+        ⌜ CutAt s old (now (work .exit)) base (boehmCut geop (s .degree) t c) r ⌝ }
 {
     let times = missing_in(work, base, s, t);
     insert_times(work, base, s, t, times);
@@ -341,7 +379,10 @@ fn boehm_cut(work: &mut [f64], base: usize, s: Shape, t: f64) -> usize
 // The piece in the slot at base is a Bezier span that t is no knot of.
 fn is_bezier_in(work: &[f64], base: usize, s: Shape, t: f64) -> bool
     requires { ⌜ Held s (now work) base × (s .degree < countAt (now work) base) ⌝ }
-    ensures { λ r. ⌜ r ≡ (eqb (multiplicity t (pieceAt s (now (work .entry)) base .knots)) 0 && isBezier (s .degree) (length (pieceAt s (now (work .entry)) base .points)) (pieceAt s (now (work .entry)) base .knots)) ⌝ }
+    ensures { λ r.
+        let old = now (work .entry) in
+        let c = pieceAt s old base in
+        ⌜ r ≡ (eqb (multiplicity t (c .knots)) 0 && isBezier (s .degree) (length (c .points)) (c .knots)) ⌝ }
 {
     let n = count_at(work, base);
     let knots = knots_in(work, base, s);
@@ -351,9 +392,13 @@ fn is_bezier_in(work: &[f64], base: usize, s: Shape, t: f64) -> bool
 // How far t lies along the span that begins at the domain's start, in the slot at base.
 fn along_in(work: &[f64], base: usize, s: Shape, t: f64) -> Divided
     requires { ⌜ Held s (now work) base × (s .degree < countAt (now work) base) ⌝ }
-    ensures { λ r. ⌜ r ≡ divS (subS (sharp t) (sharp (knot (pieceAt s (now (work .entry)) base .knots) (s .degree)))) (subS (sharp (knot (pieceAt s (now (work .entry)) base .knots) (suc (s .degree)))) (sharp (knot (pieceAt s (now (work .entry)) base .knots) (s .degree)))) ⌝ }
+    ensures { λ r.
+        let old = now (work .entry) in
+        let c = pieceAt s old base in
+        ⌜ r ≡ divS (subS (sharp t) (sharp (knot (c .knots) (s .degree))))
+        (subS (sharp (knot (c .knots) (suc (s .degree)))) (sharp (knot (c .knots) (s .degree)))) ⌝ }
 {
-    let at = base + 1 + s.degree;
+    let at = knots_from(base) + s.degree;
     let a = Scalar::from_f64(work[at]);
     let b = Scalar::from_f64(work[at + 1]);
     Scalar::from_f64(t).sub(a).div(b.sub(a))
@@ -362,7 +407,10 @@ fn along_in(work: &[f64], base: usize, s: Shape, t: f64) -> Divided
 // The parameter t, strictly inside the domain, is raised to multiplicity degree + 1 in the slot at base. The result is the number of the point at which the piece separates.
 pub(crate) fn insert_to_full_multiplicity(work: &mut [f64], base: usize, s: Shape, t: f64) -> usize
     requires { ⌜ Held s (now work) base × (s .degree < countAt (now work) base) × (countAt (now work) base ≤ s .count) ⌝ }
-    ensures { λ r. ⌜ CutAt s (now (work .entry)) (now (work .exit)) base (fullCut geop (s .degree) t (pieceAt s (now (work .entry)) base)) r ⌝ }
+    ensures { λ r.
+        let old = now (work .entry) in
+        let c = pieceAt s old base in
+        ⌜ CutAt s old (now (work .exit)) base (fullCut geop (s .degree) t c) r ⌝ }
 {
     if !is_bezier_in(work, base, s, t) {
         return boehm_cut(work, base, s, t);

@@ -25,7 +25,7 @@ pub(crate) fn scalar_at(l: &[f64], j: usize) -> Scalar
 
 // Interval number k of point i, of dim + 1 intervals; the weight is number dim.
 pub(crate) fn coordinate(points: &[f64], dim: usize, i: usize, k: usize) -> Scalar
-    requires { ⌜ (dim ≤ 3) × (i < 64) × (k ≤ dim) × (2 * (suc dim * suc i) ≤ length (now points)) ⌝ }
+    requires { ⌜ (k ≤ dim) × (2 * (suc dim * suc i) ≤ length (now points)) ⌝ }
     ensures { λ r. ⌜ r ≡ coordinate (pointAt (suc dim) (now (points .entry)) i) k ⌝ }
 {
     scalar_at(points, (dim + 1) * i + k)

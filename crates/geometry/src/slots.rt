@@ -9,7 +9,7 @@ ghost use lib.Ieee.{nan, inUnsigned, binary64};
 ghost use Rattle.lists.specs.Lists.{part, put};
 ghost use Rattle.model.specs.KnotInsertion.{leftOf, rightOf};
 ghost use Rattle.model.specs.Layout.{pointsOf};
-ghost use Rattle.geometry.specs.Slots.{word, pointWords, countAt, placeOf, numbers, pieceAt, placed, Sized, Inside, Held, Apart};
+ghost use Rattle.geometry.specs.Slots.{word, pointWords, countAt, knotsFrom, placeOf, numbers, pieceAt, placed, Sized, Inside, Held, Apart};
 
 // What the pieces of a call have in common: the dimension, the degree, and the number of points of the whole curve.
 pub struct Shape {
@@ -33,6 +33,22 @@ pub(crate) fn set_count(work: &mut [f64], base: usize, n: usize)
     ensures { λ _. ⌜ now (work .exit) ≡ put (now (work .entry)) base (word n ∷ []) ⌝ }
 {
     work[base] = n as f64;
+}
+
+// Where slot number j begins, of slots of w words from an origin on.
+pub(crate) fn slot_base(origin: usize, w: usize, j: usize) -> usize
+    requires { ⌜ origin + j * w < 0x1000_0000_0000_0000 ⌝ }
+    ensures { λ r. ⌜ r ≡ origin + j * w ⌝ }
+{
+    origin + j * w
+}
+
+// Where the knots of the slot at base begin.
+pub(crate) fn knots_from(base: usize) -> usize
+    requires { ⌜ base < 0x1000_0000_0000_0000 ⌝ }
+    ensures { λ r. ⌜ r ≡ knotsFrom base ⌝ }
+{
+    base + 1
 }
 
 // Where point i of the slot at base begins.
@@ -74,7 +90,7 @@ pub(crate) fn knots_in(work: &[f64], base: usize, s: Shape) -> &[f64]
     ensures { λ r. ⌜ now r ≡ pieceAt s (now (work .entry)) base .knots ⌝ }
 {
     let n = count_at(work, base);
-    let from = base + 1;
+    let from = knots_from(base);
     let end = from + n + s.degree + 1;
     &work[from..end]
 }
@@ -104,12 +120,15 @@ pub(crate) fn write(work: &mut [f64], a: usize, source: &[f64])
 
 // The slot at base holds the whole curve, from its knots and the numbers of its points.
 pub(crate) fn load(work: &mut [f64], base: usize, s: Shape, knots: &[f64], points: &[f64])
-    requires { ⌜ Inside s (now work) base × (length (now knots) ≡ s .count + s .degree + 1) × (length (now points) ≡ pointWords s * s .count) ⌝ }
-    ensures { λ _. ⌜ now (work .exit) ≡ placed s (now (work .entry)) base (record { knots = now (knots .entry); points = pointsOf (suc (s .dim)) (s .count) (now (points .entry)) }) ⌝ }
+    requires { ⌜ Inside s (now work) base × (length (now knots) ≡ s .count + s .degree + 1)
+        × (length (now points) ≡ pointWords s * s .count) ⌝ }
+    ensures { λ _.
+        ⌜ now (work .exit) ≡ placed s (now (work .entry)) base
+        (record { knots = now (knots .entry); points = pointsOf (suc (s .dim)) (s .count) (now (points .entry)) }) ⌝ }
 {
     let from = place_of(s, base, 0);
     write(work, from, points);
-    write(work, base + 1, knots);
+    write(work, knots_from(base), knots);
     set_count(work, base, s.count);
 }
 
@@ -117,10 +136,17 @@ pub(crate) fn load(work: &mut [f64], base: usize, s: Shape, knots: &[f64], point
 pub(crate) fn copy_right(work: &mut [f64], from: usize, to: usize, s: Shape, at: usize)
     requires { ⌜ Held s (now work) from × Inside s (now work) to × (at ≤ countAt (now work) from) ⌝ }
     requires { ⌜ Apart s from to ⊎ (from ≡ to) ⌝ }
-    ensures { λ _. ⌜ now (work .exit) ≡ placed s (now (work .entry)) to (rightOf (record { piece = pieceAt s (now (work .entry)) from; at = at })) ⌝ }
+    ensures { λ _.
+        let old = now (work .entry) in
+        ⌜ now (work .exit) ≡ placed s old to (rightOf (record { piece = pieceAt s old from; at = at })) ⌝ }
 {
     let n = count_at(work, from);
-    copy(work, from + 1 + at, to + 1, n - at + s.degree + 1);
+    copy(
+        work,
+        knots_from(from) + at,
+        knots_from(to),
+        n - at + s.degree + 1,
+    );
     let first = place_of(s, from, at);
     let end = place_of(s, from, n);
     copy(work, first, place_of(s, to, 0), end - first);
@@ -130,7 +156,10 @@ pub(crate) fn copy_right(work: &mut [f64], from: usize, to: usize, s: Shape, at:
 // Of the piece in the slot at base, what is left of point `at` is kept.
 pub(crate) fn keep_left(work: &mut [f64], base: usize, s: Shape, at: usize)
     requires { ⌜ Held s (now work) base × (at ≤ countAt (now work) base) ⌝ }
-    ensures { λ _. ⌜ now (work .exit) ≡ placed s (now (work .entry)) base (leftOf (s .degree) (record { piece = pieceAt s (now (work .entry)) base; at = at })) ⌝ }
+    ensures { λ _.
+        let old = now (work .entry) in
+        let c = pieceAt s old base in
+        ⌜ now (work .exit) ≡ placed s old base (leftOf (s .degree) (record { piece = c; at = at })) ⌝ }
 {
     set_count(work, base, at);
 }

@@ -36,7 +36,9 @@ pub(crate) fn set_scalar(words: &mut [f64], i: usize, x: Scalar)
 pub(crate) fn interpolate(words: &mut [f64], a: usize, b: usize, c: usize, d: usize, alpha: Scalar)
     requires { ⌜ (a + 2 * d ≤ length (now words)) × (b + 2 * d ≤ length (now words)) × (c + 2 * d ≤ length (now words)) ⌝ }
     requires { ⌜ ((a + 2 * d ≤ c) ⊎ (c ≤ a)) × ((b + 2 * d ≤ c) ⊎ (c ≤ b)) ⌝ }
-    ensures { λ _. ⌜ now (words .exit) ≡ put (now (words .entry)) c (flat (interpolateV geop (vectorAt d (now (words .entry)) a) (vectorAt d (now (words .entry)) b) alpha)) ⌝ }
+    ensures { λ _.
+        let old = now (words .entry) in
+        ⌜ now (words .exit) ≡ put old c (flat (interpolateV geop (vectorAt d old a) (vectorAt d old b) alpha)) ⌝ }
 {
     let f = Scalar::fraction(alpha);
     let mut k = 0;

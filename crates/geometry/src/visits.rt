@@ -8,6 +8,7 @@ use crate::fat_line::from_first;
 use crate::fat_line::greville_abscissae;
 use crate::fat_line::halves;
 use crate::fat_line::restricts;
+use crate::nurb_curve::coordinate;
 use crate::nurb_curve::domain;
 use crate::nurb_curve::repeats;
 use crate::nurb_curve::scalar_at;
@@ -26,23 +27,15 @@ ghost use Prim.Native.Nat.{ℕ, suc, _+_, _*_, _≤_, _<_};
 ghost use lib.ListN.{length};
 ghost use Rattle.lists.specs.Lists.{put};
 ghost use Rattle.math.specs.Scalars.{geop, mulS};
-ghost use Rattle.model.specs.Layout.{scalarAt, scalarsOf, pointsOf, flat};
+ghost use Rattle.model.specs.Layout.{scalarsOf, pointsOf, flat};
 ghost use Rattle.model.specs.NurbCurve.{domain, weightsPositive};
 ghost use Rattle.model.specs.FatLine.{greville, fatLineZeros};
 ghost use Rattle.model.specs.Split.{splitMid, restrict};
 ghost use Rattle.model.specs.Contains.{axis, narrowed, clip, handOn, handBoth, visit};
 ghost use Rattle.geometry.specs.Zeros.{runs};
 ghost use Rattle.geometry.specs.Slots.{pieceAt, Inside, Held, Apart, Whole, Fit};
-ghost use Rattle.geometry.specs.State.{Visited};
+ghost use Rattle.geometry.specs.State.{askedOf, Visited};
 ghost use Rattle.geometry.specs.Plan.{planHat, planClip, planned};
-
-// Coordinate k of point i; the weight is number dim.
-fn coordinate(points: &[f64], dim: usize, i: usize, k: usize) -> Scalar
-    requires { ⌜ (k ≤ dim) × (2 * (suc dim * suc i) ≤ length (now points)) ⌝ }
-    ensures { λ r. ⌜ r ≡ scalarAt (now (points .entry)) (suc dim * i + k) ⌝ }
-{
-    scalar_at(points, (dim + 1) * i + k)
-}
 
 // A weight, beside its product with a factor.
 struct Weighed {
@@ -68,7 +61,9 @@ fn times_weight(e: Scalar, w: Scalar, last: Weighed) -> Weighed
 // The values of axis k, one for each point, written to the front of d: the coordinate less e times the weight.
 fn axis(points: &[f64], dim: usize, count: usize, k: usize, e: Scalar, d: &mut [f64])
     requires { ⌜ ((0 < count) × (k < dim)) × ((2 * (suc dim * count) ≤ length (now points)) × (2 * count ≤ length (now d))) ⌝ }
-    ensures { λ _. ⌜ now (d .exit) ≡ put (now (d .entry)) 0 (flat (axis geop dim k e (pointsOf (suc dim) count (now (points .entry))))) ⌝ }
+    ensures { λ _.
+        ⌜ now (d .exit) ≡ put (now (d .entry)) 0
+        (flat (axis geop dim k e (pointsOf (suc dim) count (now (points .entry))))) ⌝ }
 {
     let w = coordinate(points, dim, 0, dim);
     let mut last = Weighed {
@@ -111,10 +106,16 @@ fn clip_axis(
     hat: Scalar,
     d: &mut [f64],
 ) -> Hat
-    requires { ⌜ ((0 < count) × (2 * count ≤ length (now xi))) × ((k < dim) × ((2 * (suc dim * count) ≤ length (now points)) × (2 * count ≤ length (now d)))) ⌝ }
+    requires { ⌜ ((0 < count) × (2 * count ≤ length (now xi)))
+        × ((k < dim) × ((2 * (suc dim * count) ≤ length (now points)) × (2 * count ≤ length (now d)))) ⌝ }
     requires { ⌜ (2 * count ≤ length (now dx)) × (scalarsOf count (now dx) ≡ runs (scalarsOf count (now xi))) ⌝ }
-    ensures { λ r. ⌜ r ≡ narrowed hat (fatLineZeros geop (scalarsOf count (now (xi .entry))) (axis geop dim k e (pointsOf (suc dim) count (now (points .entry))))) ⌝ }
-    ensures { λ _. ⌜ now (d .exit) ≡ put (now (d .entry)) 0 (flat (axis geop dim k e (pointsOf (suc dim) count (now (points .entry))))) ⌝ }
+    ensures { λ r.
+        ⌜ r ≡ narrowed hat
+        (fatLineZeros geop (scalarsOf count (now (xi .entry)))
+        (axis geop dim k e (pointsOf (suc dim) count (now (points .entry))))) ⌝ }
+    ensures { λ _.
+        ⌜ now (d .exit) ≡ put (now (d .entry)) 0
+        (flat (axis geop dim k e (pointsOf (suc dim) count (now (points .entry))))) ⌝ }
 {
     axis(points, dim, count, k, e, d);
     narrowed(hat, fat_line_zeros(xi, dx, d, count))
@@ -130,8 +131,13 @@ pub(crate) fn clip(
     start: f64,
     end: f64,
 ) -> Hat
-    requires { ⌜ ((0 < count) × (count ≤ 32)) × ((2 * count ≤ length (now xi)) × ((2 * (suc dim * count) ≤ length (now points)) × (2 * dim ≤ length (now «point_box»)))) ⌝ }
-    ensures { λ r. ⌜ r ≡ clip geop dim (pointsOf (suc dim) count (now (points .entry))) (scalarsOf count (now (xi .entry))) (domain start end) 0 (scalarsOf dim (now («point_box» .entry))) ⌝ }
+    requires { ⌜ ((0 < count) × (count ≤ 32)) ×
+        ((2 * count ≤ length (now xi)) ×
+        ((2 * (suc dim * count) ≤ length (now points)) × (2 * dim ≤ length (now «point_box»)))) ⌝ }
+    ensures { λ r.
+        let box = now («point_box» .entry) in
+        ⌜ r ≡ clip geop dim (pointsOf (suc dim) count (now (points .entry))) (scalarsOf count (now (xi .entry)))
+        (domain start end) 0 (scalarsOf dim box) ⌝ }
 {
     let mut dx = [0.0; 64];
     from_first(xi, count, &mut dx);
@@ -174,8 +180,12 @@ fn plan_hat(
     hat: Scalar,
     resolution: f64,
 ) -> Plan
-    requires { ⌜ (dim ≤ 3) × (1 ≤ count) × (count ≤ 32) × (2 * (suc dim * count) ≤ length (now points)) × (2 * dim ≤ length (now «point_box»)) ⌝ }
-    ensures { λ r. ⌜ r ≡ planHat geop dim (scalarsOf dim (now («point_box» .entry))) resolution a b (pointsOf (suc dim) count (now (points .entry))) hat ⌝ }
+    requires { ⌜ (dim ≤ 3) × (1 ≤ count) × (count ≤ 32) × (2 * (suc dim * count) ≤ length (now points))
+        × (2 * dim ≤ length (now «point_box»)) ⌝ }
+    ensures { λ r.
+        let box = now («point_box» .entry) in
+        ⌜ r ≡ planHat geop dim (scalarsOf dim box) resolution a b (pointsOf (suc dim) count (now (points .entry)))
+        hat ⌝ }
 {
     let w = carried(points, point_box, dim, count);
     if restricts(points, dim, count, a, b, hat, w) {
@@ -197,9 +207,14 @@ fn plan_clip(
     count: usize,
     resolution: f64,
 ) -> Plan
-    requires { ⌜ (dim ≤ 3) × (1 ≤ count) × (count ≤ 32) × (2 * (suc dim * count) ≤ length (now points)) × (2 * dim ≤ length (now «point_box»)) ⌝ }
+    requires { ⌜ (dim ≤ 3) × (1 ≤ count) × (count ≤ 32) × (2 * (suc dim * count) ≤ length (now points))
+        × (2 * dim ≤ length (now «point_box»)) ⌝ }
     requires { ⌜ (degree ≤ 7) × (count + degree + 1 ≤ length (now knots)) ⌝ }
-    ensures { λ r. ⌜ r ≡ planClip geop dim degree (scalarsOf dim (now («point_box» .entry))) resolution (record { knots = now (knots .entry); points = pointsOf (suc dim) count (now (points .entry)) }) (greville geop degree count (now (knots .entry))) ⌝ }
+    ensures { λ r.
+        let box = now («point_box» .entry) in
+        ⌜ r ≡ planClip geop dim degree (scalarsOf dim box) resolution
+        (record { knots = now (knots .entry); points = pointsOf (suc dim) count (now (points .entry)) })
+        (greville geop degree count (now (knots .entry))) ⌝ }
 {
     let a = knots[degree];
     let b = knots[count];
@@ -225,9 +240,13 @@ pub(crate) fn planned(
     count: usize,
     resolution: f64,
 ) -> Plan
-    requires { ⌜ (dim ≤ 3) × (1 ≤ count) × (count ≤ 32) × (2 * (suc dim * count) ≤ length (now points)) × (2 * dim ≤ length (now «point_box»)) ⌝ }
+    requires { ⌜ (dim ≤ 3) × (1 ≤ count) × (count ≤ 32) × (2 * (suc dim * count) ≤ length (now points))
+        × (2 * dim ≤ length (now «point_box»)) ⌝ }
     requires { ⌜ (degree ≤ 7) × (count + degree + 1 ≤ length (now knots)) ⌝ }
-    ensures { λ r. ⌜ r ≡ planned geop dim degree (scalarsOf dim (now («point_box» .entry))) resolution (record { knots = now (knots .entry); points = pointsOf (suc dim) count (now (points .entry)) }) ⌝ }
+    ensures { λ r.
+        let box = now («point_box» .entry) in
+        ⌜ r ≡ planned geop dim degree (scalarsOf dim box) resolution
+        (record { knots = now (knots .entry); points = pointsOf (suc dim) count (now (points .entry)) }) ⌝ }
 {
     if !aabb_could_overlap(points, point_box, dim, count) {
         return Plan::Skip;
@@ -238,7 +257,10 @@ pub(crate) fn planned(
 // What a visit is to make of the piece in the slot at base.
 fn plan_in(work: &[f64], base: usize, s: Shape, point_box: &[f64], resolution: f64) -> Plan
     requires { ⌜ Held s (now work) base × Fit s (pieceAt s (now work) base) × (2 * s .dim ≤ length (now «point_box»)) ⌝ }
-    ensures { λ r. ⌜ r ≡ planned geop (s .dim) (s .degree) (scalarsOf (s .dim) (now («point_box» .entry))) resolution (pieceAt s (now (work .entry)) base) ⌝ }
+    ensures { λ r.
+        let box = now («point_box» .entry) in
+        ⌜ r ≡ planned geop (s .dim) (s .degree) (scalarsOf (s .dim) box) resolution
+        (pieceAt s (now (work .entry)) base) ⌝ }
 {
     let n = count_at(work, base);
     let knots = knots_in(work, base, s);
@@ -259,8 +281,13 @@ fn weights_positive_in(work: &[f64], base: usize, s: Shape) -> bool
 
 // The piece in the slot at base is cut down to its hat, and handed on in the slot at a.
 fn hand_on(work: &mut [f64], base: usize, a: usize, s: Shape, hat: Scalar) -> Outcome
-    requires { ⌜ Held s (now work) base × Fit s (pieceAt s (now work) base) × Inside s (now work) a × Apart s base a × (1 ≤ s .degree) ⌝ }
-    ensures { λ r. ⌜ ((b : ℕ) → Visited (handOn (s .dim) (restrict geop (s .degree) (hat .lo) (hat .hi) (pieceAt s (now (work .entry)) base))) s a b (now (work .entry)) (now (work .exit)) r) ⌝ }
+    requires { ⌜ Held s (now work) base × Fit s (pieceAt s (now work) base) × Inside s (now work) a × Apart s base a
+        × (1 ≤ s .degree) ⌝ }
+    ensures { λ r.
+        let old = now (work .entry) in
+        let c = pieceAt s old base in
+        ⌜ ((b : ℕ) → Visited (handOn (s .dim) (restrict geop (s .degree) (hat .lo) (hat .hi) c)) s a b old
+        (now (work .exit)) r) ⌝ }
 {
     let cuts = restrict(work, base, a, s, hat.lo, hat.hi);
     if !weights_positive_in(work, a, s) {
@@ -273,7 +300,10 @@ fn hand_on(work: &mut [f64], base: usize, a: usize, s: Shape, hat: Scalar) -> Ou
 fn hand_both(work: &mut [f64], base: usize, a: usize, b: usize, s: Shape, hat: Scalar) -> Outcome
     requires { ⌜ Held s (now work) base × Whole s (pieceAt s (now work) base) × Inside s (now work) a × Inside s (now work) b ⌝ }
     requires { ⌜ Apart s base a × Apart s base b × Apart s a b ⌝ }
-    ensures { λ r. ⌜ Visited (handBoth (s .dim) hat (splitMid geop (s .degree) (pieceAt s (now (work .entry)) base))) s a b (now (work .entry)) (now (work .exit)) r ⌝ }
+    ensures { λ r.
+        let old = now (work .entry) in
+        let c = pieceAt s old base in
+        ⌜ Visited (handBoth (s .dim) hat (splitMid geop (s .degree) c)) s a b old (now (work .exit)) r ⌝ }
 {
     if !split_mid(work, base, a, b, s) {
         return Outcome::Reported(hat);
@@ -299,7 +329,11 @@ pub(crate) fn visit(
 ) -> Outcome
     requires { ⌜ Held s (now work) base × Fit s (pieceAt s (now work) base) × (2 * s .dim ≤ length (now «point_box»)) ⌝ }
     requires { ⌜ Inside s (now work) a × Inside s (now work) b × Apart s base a × Apart s base b × Apart s a b ⌝ }
-    ensures { λ r. ⌜ Visited (visit geop (record { dim = s .dim; degree = s .degree; box = scalarsOf (s .dim) (now («point_box» .entry)); resolution = resolution; nodes = 0 }) (pieceAt s (now (work .entry)) base)) s a b (now (work .entry)) (now (work .exit)) r ⌝ }
+    ensures { λ r.
+        let old = now (work .entry) in
+        let box = now («point_box» .entry) in
+        let c = pieceAt s old base in
+        ⌜ Visited (visit geop (askedOf s box resolution 0) c) s a b old (now (work .exit)) r ⌝ }
 {
     match plan_in(work, base, s, point_box, resolution) {
         Plan::Skip => Outcome::Dropped,

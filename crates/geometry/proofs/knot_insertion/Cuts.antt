@@ -21,7 +21,7 @@ use Rattle.model.specs.Vector.{Vector}
 use Rattle.model.specs.NurbCurve.{Piece, knot}
 use Rattle.model.specs.KnotInsertion.{Cut, triangle, sides, insertionSpan, insertOnce, insertTimes, bezierKnots, bezierCut, multiplicity, isBezier, boehmCut, cutBy, fullCut}
 use Rattle.model.specs.Layout.{pointsOf}
-use Rattle.geometry.specs.Slots.{pointsFrom, word, countAt, numbers, pieceAt, placed, withSides, Wide, Fits, Inside, Held, CutAt}
+use Rattle.geometry.specs.Slots.{knotsFrom, pointsFrom, word, countAt, numbers, pieceAt, placed, withSides, Wide, Fits, Inside, Held, CutAt}
 use Rattle.geometry.specs.declared.slots.Shape.{Shape}
 use Rattle.geometry.proofs.slots.Piece.{fits-piece, count-points, piece-placed, held-placed}
 use Rattle.geometry.proofs.slots.Apart.{part-beside}
@@ -40,21 +40,22 @@ length-bezier : (p : ℕ) (a t b : Float) → length (bezierKnots p a t b) ≡ s
 unfolding bezierKnots
 length-bezier p a t b = simp (length-append, length-replicate)
 
-pub bezier-filled : (l l₁ l₂ l₃ : List Float) (base p : ℕ) (a t b : Float) → base + 3 * p + 4 ≤ length l → l₁ ≡ put l (base + 1) (replicate (p + 1) a) → l₂ ≡ put l₁ (base + 1 + (p + 1)) (replicate (p + 1) t)
-    → l₃ ≡ put l₂ (base + 1 + (p + 1) + (p + 1)) (replicate (p + 1) b) → l₃ ≡ put l (base + 1) (bezierKnots p a t b)
+pub bezier-filled : (l l₁ l₂ l₃ : List Float) (base f p : ℕ) (a t b : Float) → f ≡ knotsFrom base → base + 3 * p + 4 ≤ length l
+    → l₁ ≡ put l f (replicate (p + 1) a) → l₂ ≡ put l₁ (f + (p + 1)) (replicate (p + 1) t) → l₃ ≡ put l₂ (f + (p + 1) + (p + 1)) (replicate (p + 1) b)
+    → l₃ ≡ put l (knotsFrom base) (bezierKnots p a t b)
 unfolding bezierKnots
-bezier-filled l l₁ l₂ l₃ base p a t b h e₁ e₂ e₃ =
+bezier-filled l l₁ l₂ l₃ base f p a t b ef h e₁ e₂ e₃ =
     let A : List Float = replicate (p + 1) a in
     let T : List Float = replicate (p + 1) t in
     let B : List Float = replicate (p + 1) b in
     let la : length A ≡ p + 1 = length-replicate (p + 1) a in
     let lt : length T ≡ p + 1 = length-replicate (p + 1) t in
     let ab : length (A ++ T) ≡ (p + 1) + (p + 1) = length-append A T ∙ (λ j. la j + lt j) in
-    let m₁ : base + 1 + (p + 1) ≡ base + 1 + length A = omega arith in
-    let m₂ : base + 1 + (p + 1) + (p + 1) ≡ base + 1 + length (A ++ T) = omega arith in
-    e₃ ∙ (λ j. put ((e₂ ∙ (λ i. put (e₁ i) (m₁ i) T) ∙ put-put l (base + 1) A T (omega arith)) j) (m₂ j) B)
-    ∙ put-put l (base + 1) (A ++ T) B (omega arith)
-    ∙ ap (put l (base + 1)) (append-assoc A T B ∙ (λ j. replicate (add-one p j) a ++ (replicate (add-one p j) t ++ replicate (add-one p j) b)))
+    let m₁ : f + (p + 1) ≡ f + length A = omega arith in
+    let m₂ : f + (p + 1) + (p + 1) ≡ f + length (A ++ T) = omega arith in
+    e₃ ∙ (λ j. put ((e₂ ∙ (λ i. put (e₁ i) (m₁ i) T) ∙ put-put l f A T (omega arith)) j) (m₂ j) B)
+    ∙ put-put l f (A ++ T) B (omega arith)
+    ∙ (λ j. put l (ef j) ((append-assoc A T B ∙ (λ i. replicate (add-one p i) a ++ (replicate (add-one p i) t ++ replicate (add-one p i) b))) j))
 
 -- ---- the cut by the triangle
 
@@ -82,31 +83,31 @@ module _ (s : Shape) (c : Piece) (t : Float) (α : Scalar) (w : Wide (suc (s .di
   fits-bezier = record { knots = omega (arith, bezier-long, bezier-knots-long); points = omega (arith, bezier-long); wide = bezier-wide }
 
 -- a knot of a slot's piece is a word of the slot
-pub knot-word : (s : Shape) (l : List Float) (base i : ℕ) → i < countAt l base + s .degree + 1 → knot (pieceAt s l base .knots) i ≡ getD l (base + 1 + i) nan
+pub knot-word : (s : Shape) (l : List Float) (base f i : ℕ) → f ≡ knotsFrom base → i < countAt l base + s .degree + 1 → knot (pieceAt s l base .knots) i ≡ getD l (f + i) nan
 unfolding pieceAt
-knot-word s l base i h = getD-part l (base + 1) (countAt l base + s .degree + 1) i nan h
+knot-word s l base f i e h = getD-part l (knotsFrom base) (countAt l base + s .degree + 1) i nan h ∙ ap (λ (k : ℕ). getD l (k + i) nan) (sym e)
 
 same-points : (s : Shape) (l : List Float) (base : ℕ) → countAt l base ≡ suc (s .degree) → pointsOf (suc (s .dim)) (suc (s .degree)) (drop (pointsFrom s base) l) ≡ pieceAt s l base .points
 unfolding pieceAt
 same-points s l base n = ap (λ (k : ℕ). pointsOf (suc (s .dim)) k (drop (pointsFrom s base) l)) (sym n)
 
-pub bezier-done : (s : Shape) (l l₁ l₂ l₃ : List Float) (base : ℕ) (t : Float) (α : Scalar) → Held s l base → countAt l base ≡ suc (s .degree) → s .degree < s .count
-    → l₁ ≡ withSides s l base α
-    → l₂ ≡ put l₁ (base + 1) (bezierKnots (s .degree) (getD l (base + 1 + s .degree) nan) t (getD l (base + 2 + s .degree) nan)) → l₃ ≡ put l₂ base (word (2 * s .degree + 2) ∷ [])
+pub bezier-done : (s : Shape) (l l₁ l₂ l₃ : List Float) (base f : ℕ) (t : Float) (α : Scalar) → Held s l base → countAt l base ≡ suc (s .degree) → s .degree < s .count
+    → f ≡ knotsFrom base → l₁ ≡ withSides s l base α
+    → l₂ ≡ put l₁ (knotsFrom base) (bezierKnots (s .degree) (getD l (f + s .degree) nan) t (getD l (f + s .degree + 1) nan)) → l₃ ≡ put l₂ base (word (2 * s .degree + 2) ∷ [])
     → l₃ ≡ placed s l base (bezierCut geop (s .degree) t α (pieceAt s l base) .piece)
 unfolding bezierCut
-bezier-done s l l₁ l₂ l₃ base t α h n small e₁ e₂ e₃ =
+bezier-done s l l₁ l₂ l₃ base f t α h n small ef e₁ e₂ e₃ =
     let p : ℕ = s .degree in
     let c : Piece = pieceAt s l base in
     let d : Piece = bezierCut geop p t α c .piece in
     let m : length (c .points) ≡ suc p = count-points s l base h ∙ n in
     let fo : Fits s d = fits-bezier s c t α (fits-piece s l base h .wide) m small in
     let long : 2 * p + 2 ≡ length (d .points) = omega (arith, bezier-long s c t α (fits-piece s l base h .wide) m small) in
-    let q : base + 1 + suc p ≡ base + 2 + p = omega arith in
-    let ka : getD l (base + 1 + p) nan ≡ knot (c .knots) p = sym (knot-word s l base p (omega arith)) in
-    let kb : getD l (base + 2 + p) nan ≡ knot (c .knots) (suc p) = ap (λ (k : ℕ). getD l k nan) (sym q) ∙ sym (knot-word s l base (suc p) (omega arith)) in
+    let q : f + suc p ≡ f + p + 1 = omega arith in
+    let ka : getD l (f + p) nan ≡ knot (c .knots) p = sym (knot-word s l base f p ef (omega arith)) in
+    let kb : getD l (f + p + 1) nan ≡ knot (c .knots) (suc p) = ap (λ (k : ℕ). getD l k nan) (sym q) ∙ sym (knot-word s l base f (suc p) ef (omega arith)) in
     let x₁ : l₁ ≡ put l (pointsFrom s base) (numbers (d .points)) = e₁ ∙ ap (λ (v : List Vector). put l (pointsFrom s base) (numbers (sides (triangle geop α (suc p) v)))) (same-points s l base n) in
-    let x₂ : l₂ ≡ put (put l (pointsFrom s base) (numbers (d .points))) (base + 1) (d .knots) = e₂ ∙ (λ j. put (x₁ j) (base + 1) (bezierKnots p (ka j) t (kb j))) in
+    let x₂ : l₂ ≡ put (put l (pointsFrom s base) (numbers (d .points))) (knotsFrom base) (d .knots) = e₂ ∙ (λ j. put (x₁ j) (knotsFrom base) (bezierKnots p (ka j) t (kb j))) in
     e₃ ∙ (λ j. put (x₂ j) base (word (long j) ∷ [])) ∙ assembled s l base d (h .inside) fo
 
 pub bezier-at : (p : ℕ) (t : Float) (α : Scalar) (c : Piece) → p + 1 ≡ bezierCut geop p t α c .at
@@ -188,13 +189,13 @@ module _ (s : Shape) (l ks : List Float) (base m n : ℕ) (t : Float) (h : Held 
   single-no b z eb = eb ∙ sym (ne-eqb (multiplicity t (pieceAt s l base .knots)) 0 (λ q. z (same-times ∙ q))) ∙ and-no (eqb (multiplicity t (pieceAt s l base .knots)) 0) _ (ne-eqb (multiplicity t (pieceAt s l base .knots)) 0 (λ q. z (same-times ∙ q)))
 
 -- how far t lies along the span, as the code comes to it
-pub along-done : (s : Shape) (l : List Float) (base : ℕ) (t : Float) (fa fb ft x y : Scalar) (r : Divided) → s .degree < countAt l base → fa ≡ sharp (getD l (base + 1 + s .degree) nan)
-    → fb ≡ sharp (getD l (base + 1 + s .degree + 1) nan) → ft ≡ sharp t → x ≡ subS ft fa → y ≡ subS fb fa → r ≡ divS x y
+pub along-done : (s : Shape) (l : List Float) (base f : ℕ) (t : Float) (fa fb ft x y : Scalar) (r : Divided) → s .degree < countAt l base → f ≡ knotsFrom base
+    → fa ≡ sharp (getD l (f + s .degree) nan) → fb ≡ sharp (getD l (f + s .degree + 1) nan) → ft ≡ sharp t → x ≡ subS ft fa → y ≡ subS fb fa → r ≡ divS x y
     → r ≡ divS (subS (sharp t) (sharp (knot (pieceAt s l base .knots) (s .degree)))) (subS (sharp (knot (pieceAt s l base .knots) (suc (s .degree)))) (sharp (knot (pieceAt s l base .knots) (s .degree))))
-along-done s l base t fa fb ft x y r h ea eb et ex ey er =
-    let q : base + 1 + s .degree + 1 ≡ base + 1 + suc (s .degree) = omega arith in
-    let a : fa ≡ sharp (knot (pieceAt s l base .knots) (s .degree)) = ea ∙ ap sharp (sym (knot-word s l base (s .degree) (omega arith))) in
-    let b : fb ≡ sharp (knot (pieceAt s l base .knots) (suc (s .degree))) = eb ∙ ap (λ (k : ℕ). sharp (getD l k nan)) q ∙ ap sharp (sym (knot-word s l base (suc (s .degree)) (omega arith))) in
+along-done s l base f t fa fb ft x y r h ef ea eb et ex ey er =
+    let q : f + s .degree + 1 ≡ f + suc (s .degree) = omega arith in
+    let a : fa ≡ sharp (knot (pieceAt s l base .knots) (s .degree)) = ea ∙ ap sharp (sym (knot-word s l base f (s .degree) ef (omega arith))) in
+    let b : fb ≡ sharp (knot (pieceAt s l base .knots) (suc (s .degree))) = eb ∙ ap (λ (k : ℕ). sharp (getD l k nan)) q ∙ ap sharp (sym (knot-word s l base f (suc (s .degree)) ef (omega arith))) in
     er ∙ (λ j. divS ((ex ∙ (λ i. subS (et i) (a i))) j) ((ey ∙ (λ i. subS (b i) (a i))) j))
 
 module _ (p : ℕ) (t : Float) (c : Piece) where

@@ -1,22 +1,21 @@
 -- One insertion in memory: a blend, the points that move up, the blends from the last one down, and the knots. Leans on the laws of lists and of slots.
-use mathlib.Core.Path.{_≡_, refl, sym, ap, _∙_}
-use mathlib.Core.Logic.{_⊎_, inl, inr}
+use mathlib.Core.Path.{_≡_, sym, ap, _∙_}
 use mathlib.Core.Bool.{true, false}
-use mathlib.Core.List.{List, [], _∷_, _++_}
-use Prim.Native.Nat.{ℕ, zero, suc, _+_, _-_, _*_, _≤_, _<_}
+use mathlib.Core.List.{List, _∷_, _++_}
+use Prim.Native.Nat.{ℕ, suc, _+_, _-_, _*_, _≤_, _<_}
 use native.Mathlib.Numerals.{add-one}
 use native.Mathlib.Omega.{arith}
-use lib.ListN.{length, take, drop, set}
+use lib.ListN.{length, drop, set}
 use lib.Ieee.{Float}
 use Rattle.lists.specs.Lists.{part, put}
 use Rattle.lists.proofs.Part.{length-part}
 use Rattle.lists.proofs.Put.{put-part, put-cons}
 use Rattle.math.specs.declared.scalars.Scalar.{Scalar}
 use Rattle.math.specs.Scalars.{geop, isSame, ZERO, ONE}
-use Rattle.model.specs.Vector.{Vector, interpolateV}
+use Rattle.model.specs.Vector.{interpolateV}
 use Rattle.model.specs.KnotInsertion.{alpha, blend, knotsWith}
 use Rattle.model.specs.Layout.{flat}
-use Rattle.geometry.specs.Slots.{placeOf, vectorAt, knotsAt, blendAt, Inside}
+use Rattle.geometry.specs.Slots.{knotsFrom, placeOf, vectorAt, knotsAt, blendAt, Inside}
 use Rattle.geometry.specs.declared.slots.Shape.{Shape}
 use Rattle.geometry.proofs.Lists.Copies.{put-wider, take-part, drop-part}
 use Rattle.geometry.proofs.slots.Counts.{place-le, place-next, place-room, from-room}
@@ -41,20 +40,21 @@ module _ (l : List Float) (a b d : ℕ) (α : Scalar) where
 -- ---- the knots
 
 -- the knots behind number k have moved up by one, and t is stored
-pub knot-in : (l w : List Float) (base m k : ℕ) (t : Float) → w ≡ put l (base + k + 2 + 1) (part l (base + k + 2) (m - k - 1)) → k < m → base + 1 + m < length l
-    → set w (base + k + 2) t ≡ put l (base + 1) (knotsWith k t (part l (base + 1) m))
+pub knot-in : (l w : List Float) (base f m k : ℕ) (t : Float) → f ≡ knotsFrom base → w ≡ put l (f + k + 1 + 1) (part l (f + k + 1) (m - k - 1)) → k < m → knotsFrom base + m < length l
+    → set w (f + k + 1) t ≡ put l (knotsFrom base) (knotsWith k t (part l (knotsFrom base) m))
 unfolding knotsWith
-knot-in l w base m k t e h g =
-    let a : ℕ = base + k + 2 in
+knot-in l w base f m k t ef e h g =
+    let a : ℕ = f + k + 1 in
     let r : List Float = part l a (m - k - 1) in
     let n : length r ≡ m - k - 1 = length-part l a (m - k - 1) (omega arith) in
-    let x : base + 1 + suc k ≡ a = omega arith in
+    let x : f + suc k ≡ a = omega arith in
     let y : m - suc k ≡ m - k - 1 = omega arith in
-    let d : drop (suc k) (part l (base + 1) m) ≡ r = drop-part l (base + 1) m (suc k) h ∙ (λ j. part l (x j) (y j)) in
+    let d : drop (suc k) (part l f m) ≡ r = drop-part l f m (suc k) h ∙ (λ j. part l (x j) (y j)) in
     ap (λ (z : List Float). set z a t) (e ∙ ap (λ (i : ℕ). put l i r) (add-one a))
     ∙ put-cons l a r t (omega arith)
-    ∙ put-wider l (base + 1) (suc k) a (t ∷ r) (sym x) (omega arith)
-    ∙ ap (put l (base + 1)) (sym (λ j. take-part l (base + 1) m (suc k) h j ++ (t ∷ d j)))
+    ∙ put-wider l f (suc k) a (t ∷ r) (sym x) (omega arith)
+    ∙ ap (put l f) (sym (λ j. take-part l f m (suc k) h j ++ (t ∷ d j)))
+    ∙ ap (λ (i : ℕ). put l i (knotsWith k t (part l i m))) ef
 
 -- ---- the points that move up
 
@@ -76,7 +76,7 @@ module _ (s : Shape) (l : List Float) (base n k : ℕ) (i : Inside s l base) (h 
 -- ---- the blend of two points of a slot
 
 -- the knots of n points lie in the memory
-pub knots-within : (s : Shape) (l : List Float) (base n : ℕ) → Inside s l base → n ≤ s .count + s .degree + 1 → base + 1 + n + s .degree + 1 ≤ length l
+pub knots-within : (s : Shape) (l : List Float) (base n : ℕ) → Inside s l base → n ≤ s .count + s .degree + 1 → knotsFrom base + n + s .degree + 1 ≤ length l
 knots-within s l base n i h = omega (arith, from-room s base, i .within)
 
 module _ (s : Shape) (l : List Float) (base n j : ℕ) (t : Float) (i : Inside s l base) (h : j + 1 < n) (g : n ≤ s .count + s .degree + 1) where
@@ -90,10 +90,10 @@ module _ (s : Shape) (l : List Float) (base n j : ℕ) (t : Float) (i : Inside s
       omega (arith, next-of, place-next s base (suc j), place-le s base (suc (suc j)) n (omega arith), place-room s base n g, i .within),
     )
 
-    pub blend-done : (w : List Float) (α : Scalar) → α ≡ alpha geop (s .degree) (part l (base + 1) (base + 1 + n + s .degree + 1 - (base + 1))) t (j + 1)
+    pub blend-done : (w : List Float) (f : ℕ) (α : Scalar) → f ≡ knotsFrom base → α ≡ alpha geop (s .degree) (part l f (f + n + s .degree + 1 - f)) t (j + 1)
         → w ≡ put l b (flat (blend geop α (vectorAt (s .dim + 1) l a) (vectorAt (s .dim + 1) l b))) → w ≡ put l (placeOf s base (suc j)) (flat (blendAt s l base n t j))
     unfolding blendAt
-    blend-done w α e f =
-        let k : base + 1 + n + s .degree + 1 - (base + 1) ≡ n + s .degree + 1 = omega arith in
-        let u : α ≡ alpha geop (s .degree) (knotsAt s l base n) t (suc j) = e ∙ (λ z. alpha geop (s .degree) (part l (base + 1) (k z)) t (add-one j z)) in
-        f ∙ (λ z. put l (next-of z) (flat (blend geop (u z) (vectorAt (add-one (s .dim) z) l (ea z)) (vectorAt (add-one (s .dim) z) l (next-of z)))))
+    blend-done w f α ef e d =
+        let k : f + n + s .degree + 1 - f ≡ n + s .degree + 1 = omega arith in
+        let u : α ≡ alpha geop (s .degree) (knotsAt s l base n) t (suc j) = e ∙ (λ z. alpha geop (s .degree) (part l (ef z) (k z)) t (add-one j z)) in
+        d ∙ (λ z. put l (next-of z) (flat (blend geop (u z) (vectorAt (add-one (s .dim) z) l (ea z)) (vectorAt (add-one (s .dim) z) l (next-of z)))))

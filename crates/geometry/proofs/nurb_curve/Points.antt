@@ -17,11 +17,13 @@ use Rattle.model.specs.Layout.{scalarAt, pointAt, pointsOf}
 use Rattle.geometry.proofs.Lists.Walks.{all-keep, all-stop, all-end}
 
 -- interval k of point i
-pub coordinate-at : (dim i k : ℕ) (l : List Float) → k ≤ dim → scalarAt l ((dim + 1) * i + k) ≡ coordinate (pointAt (suc dim) l i) k
+pub coordinate-is : (dim i k : ℕ) (l : List Float) → k ≤ dim → coordinate (pointAt (suc dim) l i) k ≡ scalarAt l (suc dim * i + k)
 unfolding pointAt
-coordinate-at dim i k l h =
-    let e : (dim + 1) * i + k ≡ suc dim * i + k = omega arith in
-    ap (scalarAt l) e ∙ sym (getD-tab (suc dim) (λ j. scalarAt l (suc dim * i + j)) k absent (omega arith))
+coordinate-is dim i k l h = getD-tab (suc dim) (λ j. scalarAt l (suc dim * i + j)) k absent (omega arith)
+
+-- as the code counts
+pub coordinate-at : (dim i k : ℕ) (l : List Float) → k ≤ dim → scalarAt l ((dim + 1) * i + k) ≡ coordinate (pointAt (suc dim) l i) k
+coordinate-at dim i k l h = let e : (dim + 1) * i + k ≡ suc dim * i + k = omega arith in ap (scalarAt l) e ∙ sym (coordinate-is dim i k l h)
 
 -- a point before the last lies within the list
 pub point-in : (dim i count n : ℕ) → i < count → 2 * (suc dim * count) ≤ n → 2 * (suc dim * suc i) ≤ n

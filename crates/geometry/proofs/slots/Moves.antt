@@ -1,27 +1,25 @@
 -- Pieces that are read into a slot, and what is left or right of a point that is kept or moved. Leans on the laws of lists and of slots.
-use mathlib.Core.Path.{_≡_, refl, sym, ap, _∙_, subst}
+use mathlib.Core.Path.{_≡_, sym, ap, _∙_}
 use mathlib.Core.Logic.{_⊎_, inl, inr}
-use mathlib.Core.List.{List, [], _∷_, _++_}
-use Prim.Native.Nat.{ℕ, zero, suc, _+_, _-_, _*_, _≤_, _<_, min}
-use native.Mathlib.Nat.{zero-add, mul-le-mul-left}
+use mathlib.Core.List.{List, [], _∷_}
+use Prim.Native.Nat.{ℕ, suc, _+_, _-_, _*_, _≤_, _<_, min}
 use native.Mathlib.Omega.{arith}
-use lib.ListN.{length, take, drop, length-take, length-drop}
+use lib.ListN.{length, drop, length-take, length-drop}
 use lib.Seq.{take-all}
 use lib.Ieee.{Float}
 use Rattle.lists.specs.Lists.{part, put}
 use Rattle.lists.proofs.Part.{length-part}
-use Rattle.lists.proofs.Put.{length-put, put-part, put-swap}
+use Rattle.lists.proofs.Put.{put-part, put-swap}
 use Rattle.lists.proofs.Read.{part-put-other}
-use Rattle.model.specs.Vector.{Vector}
 use Rattle.model.specs.NurbCurve.{Piece}
 use Rattle.model.specs.KnotInsertion.{leftOf, rightOf}
-use Rattle.model.specs.Layout.{pointsOf, slotWords}
-use Rattle.geometry.specs.Slots.{pointWords, pointsFrom, placeOf, word, countAt, knotsAt, numbers, pieceAt, placed, Wide, Fits, Inside, Held, Apart}
+use Rattle.model.specs.Layout.{pointsOf}
+use Rattle.geometry.specs.Slots.{pointWords, knotsFrom, pointsFrom, placeOf, word, countAt, numbers, pieceAt, placed, Fits, Inside, Held, Apart}
 use Rattle.geometry.specs.declared.slots.Shape.{Shape}
 use Rattle.geometry.proofs.Lists.Copies.{take-part, drop-part}
 use Rattle.geometry.proofs.slots.Counts.{place-zero, place-at, place-add, place-le, place-from, place-room, place-within, from-room}
-use Rattle.geometry.proofs.Lists.Numbers.{length-numbers, length-points, wide-points, numbers-points, take-points, drop-points}
-use Rattle.geometry.proofs.slots.Piece.{wordsOf, room, fits-front, fits-points, fits-piece, count-points}
+use Rattle.geometry.proofs.Lists.Numbers.{length-points, wide-points, numbers-points, take-points, drop-points}
+use Rattle.geometry.proofs.slots.Piece.{room, fits-front, fits-points, fits-piece, count-points}
 use Rattle.geometry.proofs.knot_insertion.Wide.{wide-take, wide-drop}
 use Rattle.geometry.proofs.knot_insertion.Once.{assembled}
 
@@ -43,11 +41,11 @@ module _ (s : Shape) (l ks qs : List Float) (base : ℕ) (i : Inside s l base) (
       numbers-points (suc (s .dim)) (s .count) qs 0 (omega arith)
       ∙ take-all (pointWords s * s .count) qs (omega arith)
 
-  pub loaded : (l₁ l₂ l₃ : List Float) (b : ℕ) → b ≡ placeOf s base 0 → l₁ ≡ put l b qs → l₂ ≡ put l₁ (base + 1) ks → l₃ ≡ put l₂ base (word (s .count) ∷ [])
+  pub loaded : (l₁ l₂ l₃ : List Float) (b f : ℕ) → b ≡ placeOf s base 0 → f ≡ knotsFrom base → l₁ ≡ put l b qs → l₂ ≡ put l₁ f ks → l₃ ≡ put l₂ base (word (s .count) ∷ [])
       → l₃ ≡ placed s l base (record { knots = ks; points = pointsOf (suc (s .dim)) (s .count) qs })
-  loaded l₁ l₂ l₃ b eb e₁ e₂ e₃ =
-      let f : b ≡ pointsFrom s base = eb ∙ place-zero s base in
-      e₃ ∙ (λ j. put ((e₂ ∙ (λ k. put ((e₁ ∙ (λ m. put l (f m) (sym whole-numbers m))) k) (base + 1) ks)) j) base (word (sym whole-long j) ∷ []))
+  loaded l₁ l₂ l₃ b f eb ef e₁ e₂ e₃ =
+      let g : b ≡ pointsFrom s base = eb ∙ place-zero s base in
+      e₃ ∙ (λ j. put ((e₂ ∙ (λ k. put ((e₁ ∙ (λ m. put l (g m) (sym whole-numbers m))) k) (ef k) ks)) j) base (word (sym whole-long j) ∷ []))
       ∙ assembled s l base whole i fits-whole
 
 -- ---- what is left of a point
@@ -161,10 +159,10 @@ module _ (s : Shape) (l : List Float) (from at : ℕ) (h : Held s l from) (g : a
         by (inl (inr q)) = inr (omega (arith, from-room s to, place-from s from at, h .room))
         by (inr q) = inr (omega (arith, place-from s from at, h .room))
 
-    pub moved-right : (n a b c : ℕ) (l₁ l₂ l₃ : List Float) → n ≡ countAt l from → a ≡ placeOf s from at → b ≡ placeOf s to 0 → c ≡ placeOf s from n
-        → l₁ ≡ put l (to + 1) (part l (from + 1 + at) (n - at + s .degree + 1)) → l₂ ≡ put l₁ b (part l₁ a (c - a)) → l₃ ≡ put l₂ to (word (n - at) ∷ [])
+    pub moved-right : (n u v a b c : ℕ) (l₁ l₂ l₃ : List Float) → n ≡ countAt l from → u ≡ knotsFrom from → v ≡ knotsFrom to → a ≡ placeOf s from at → b ≡ placeOf s to 0 → c ≡ placeOf s from n
+        → l₁ ≡ put l v (part l (u + at) (n - at + s .degree + 1)) → l₂ ≡ put l₁ b (part l₁ a (c - a)) → l₃ ≡ put l₂ to (word (n - at) ∷ [])
         → l₃ ≡ placed s l to (rightOf (record { piece = pieceAt s l from; at = at }))
-    moved-right n a b c l₁ l₂ l₃ en ea eb ec e₁ e₂ e₃ =
+    moved-right n u v a b c l₁ l₂ l₃ en eu ev ea eb ec e₁ e₂ e₃ =
         let m : ℕ = countAt l from in
         let P : ℕ = pointsFrom s to in
         let K : List Float = right .knots in
@@ -175,7 +173,7 @@ module _ (s : Shape) (l : List Float) (from at : ℕ) (h : Held s l from) (g : a
         let fp : P + length N ≤ length l = fits-points s l to i right fr in
         let c′ : c ≡ placeOf s from m = ec ∙ ap (placeOf s from) en in
         let b′ : b ≡ P = eb ∙ place-zero s to in
-        let x₁ : l₁ ≡ put l (to + 1) K = e₁ ∙ (λ j. put l (to + 1) (part l (from + 1 + at) (en j - at + s .degree + 1))) ∙ ap (put l (to + 1)) (sym right-knots) in
+        let x₁ : l₁ ≡ put l (to + 1) K = e₁ ∙ (λ j. put l (ev j) (part l (eu j + at) (en j - at + s .degree + 1))) ∙ ap (put l (to + 1)) (sym right-knots) in
         let pn : part l₁ a (c - a) ≡ N = (λ j. part (x₁ j) (ea j) (c′ j - ea j)) ∙ points-still K kl ∙ sym right-numbers in
         let x₂ : l₂ ≡ put (put l (to + 1) K) P N = e₂ ∙ (λ j. put (x₁ j) (b′ j) (pn j)) in
         let sw : put (put l (to + 1) K) P N ≡ put (put l P N) (to + 1) K = put-swap l (to + 1) K P N (omega arith) fp (inl (omega arith)) in
@@ -184,11 +182,13 @@ module _ (s : Shape) (l : List Float) (from at : ℕ) (h : Held s l from) (g : a
 
     -- what the code asks, in its own numbers
     module _ (n : ℕ) (en : n ≡ countAt l from) where
-      pub knots-asked : ((to + 1 + (n - at + s .degree + 1) ≤ length l) × (from + 1 + at + (n - at + s .degree + 1) ≤ length l)) × ((from + 1 + at + (n - at + s .degree + 1) ≤ to + 1) ⊎ (to + 1 ≤ from + 1 + at))
-      knots-asked = (
-        (omega (arith, from-room s to, i .within, h .room), omega (arith, right-knots-in, from-room s from, h .inside .within)),
-        subst (λ (k : ℕ). (from + 1 + at + (k - at + s .degree + 1) ≤ to + 1) ⊎ (to + 1 ≤ from + 1 + at)) (sym en) knots-clear,
-      )
+      pub knots-asked : (u v : ℕ) → u ≡ knotsFrom from → v ≡ knotsFrom to
+          → ((v + (n - at + s .degree + 1) ≤ length l) × (u + at + (n - at + s .degree + 1) ≤ length l)) × ((u + at + (n - at + s .degree + 1) ≤ v) ⊎ (v ≤ u + at))
+      knots-asked u v eu ev = ((omega (arith, from-room s to, i .within, h .room), omega (arith, right-knots-in, from-room s from, h .inside .within)), by knots-clear)
+        where
+          by : (knotsFrom from + at + (countAt l from - at + s .degree + 1) ≤ knotsFrom to) ⊎ (knotsFrom to ≤ knotsFrom from + at) → (u + at + (n - at + s .degree + 1) ≤ v) ⊎ (v ≤ u + at)
+          by (inl q) = inl (omega arith)
+          by (inr q) = inr (omega arith)
 
       module _ (a b c : ℕ) (ea : a ≡ placeOf s from at) (eb : b ≡ placeOf s to 0) (ec : c ≡ placeOf s from n) where
         end-is : c ≡ placeOf s from (countAt l from)

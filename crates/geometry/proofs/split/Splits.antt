@@ -1,44 +1,41 @@
 -- Cuts in two slots, and cuts in one slot of which one part is kept. Leans on the laws of cuts and of slots.
 use mathlib.Core.Path.{_≡_, refl, sym, ap, _∙_, subst}
-use mathlib.Core.Logic.{_⊎_, inl, inr}
-use mathlib.Core.Bool.{Bool, true, false, not, _&&_}
+use mathlib.Core.Bool.{Bool, true, false}
 use mathlib.Core.List.{List}
-use Prim.Native.Nat.{ℕ, zero, suc, _+_, _-_, _≤_, _<_}
+use Prim.Native.Nat.{ℕ, _+_, _-_, _≤_, _<_}
 use native.Mathlib.Omega.{arith}
-use lib.ListN.{length, drop, getD}
-use lib.Ieee.{Float, nan, lt, eq}
+use lib.ListN.{length, getD}
+use lib.Ieee.{Float, nan}
 use Rattle.lists.specs.Lists.{part}
 use Rattle.math.specs.declared.scalars.Scalar.{Scalar}
 use Rattle.math.specs.declared.scalars.Divided.{Divided}
 use Rattle.math.specs.declared.scalars.Divided.the-variants.{Value, Failed}
 use Rattle.math.specs.Scalars.{geop, sharp, addS, divS, TWO, ENTIRE, middle, valueOr}
-use Rattle.math.proofs.Bools.{and-yes, and-no}
 use Rattle.model.specs.NurbCurve.{Piece, knot, start, end, inDomain, midParameter}
 use Rattle.model.specs.KnotInsertion.{Cut, fullCut, leftOf, rightOf}
-use Rattle.model.specs.Split.{Halves, uncut, both, splitBy, split, fromBy, upToBy, restrict}
-use Rattle.geometry.specs.Slots.{countAt, pieceAt, placed, Fits, Inside, Held, Apart, OnlyAt, OnlyAtBoth, Holding, HoldingBoth, wasCut, splitInto, SplitAt, keepInto, FromAt, UpToAt, restrictInto, RestrictAt, Whole, within, CutAt}
+use Rattle.model.specs.Split.{splitBy, split, fromBy, upToBy, restrict}
+use Rattle.geometry.specs.Slots.{knotsFrom, countAt, pieceAt, placed, Fits, Inside, Held, Apart, OnlyAt, Holding, HoldingBoth, wasCut, splitInto, SplitAt, keepInto, FromAt, UpToAt, restrictInto, RestrictAt, Whole, within, CutAt}
 use Rattle.geometry.specs.declared.slots.Shape.{Shape}
-use Rattle.geometry.proofs.slots.Piece.{fits-piece, count-points, count-placed, piece-placed, held-placed, inside-placed, length-placed, placed-again}
+use Rattle.geometry.proofs.slots.Piece.{fits-piece, count-points, count-placed, piece-placed, held-placed, inside-placed, placed-again}
 use Rattle.geometry.proofs.slots.Apart.{other, part-beside, held-apart, piece-apart, inside-apart}
 use Rattle.geometry.proofs.knot_insertion.Cuts.{knot-word}
 use Rattle.geometry.proofs.knot_insertion.Separate.{Sound, full-sound, inside-self, fits-left-of, fits-right-of}
 
 -- ---- the domain
 
-module _ (s : Shape) (l : List Float) (base m : ℕ) (t : Float) (h : Held s l base) (e : m ≡ countAt l base) where
-  pub start-word : start (s .degree) (pieceAt s l base) ≡ getD l (base + 1 + s .degree) nan
-  start-word = knot-word s l base (s .degree) (omega arith)
+module _ (s : Shape) (l : List Float) (base m f : ℕ) (h : Held s l base) (e : m ≡ countAt l base) (ef : f ≡ knotsFrom base) where
+  start-word : start (s .degree) (pieceAt s l base) ≡ getD l (f + s .degree) nan
+  start-word = knot-word s l base f (s .degree) ef (omega arith)
 
-  pub end-word : end (pieceAt s l base) ≡ getD l (base + 1 + m) nan
-  end-word = ap (knot (pieceAt s l base .knots)) (count-points s l base h ∙ sym e) ∙ knot-word s l base m (omega arith)
+  end-word : end (pieceAt s l base) ≡ getD l (f + m) nan
+  end-word = ap (knot (pieceAt s l base .knots)) (count-points s l base h ∙ sym e) ∙ knot-word s l base f m ef (omega arith)
 
-  pub inside-yes : lt (getD l (base + 1 + s .degree) nan) t ≡ true → lt t (getD l (base + 1 + m) nan) ≡ within (s .degree) (pieceAt s l base) t
-  unfolding inDomain
-  inside-yes q = and-yes _ _ q ∙ sym (λ j. lt (start-word j) t && lt t (end-word j))
+  -- whether t lies inside, and the middle, by the words of the slot
+  pub within-words : (t : Float) → inDomain (getD l (f + s .degree) nan) (getD l (f + m) nan) t ≡ within (s .degree) (pieceAt s l base) t
+  within-words t = sym (λ j. inDomain (start-word j) (end-word j) t)
 
-  pub inside-no : lt (getD l (base + 1 + s .degree) nan) t ≡ false → lt (getD l (base + 1 + s .degree) nan) t ≡ within (s .degree) (pieceAt s l base) t
-  unfolding inDomain
-  inside-no q = and-no _ (lt t (getD l (base + 1 + m) nan)) q ∙ sym (λ j. lt (start-word j) t && lt t (end-word j))
+  pub mid-words : midParameter geop (getD l (f + s .degree) nan) (getD l (f + m) nan) ≡ midParameter geop (start (s .degree) (pieceAt s l base)) (end (pieceAt s l base))
+  mid-words = sym (λ j. midParameter geop (start-word j) (end-word j))
 
 -- ---- the middle
 
@@ -346,10 +343,6 @@ module _ (s : Shape) (l : List Float) (src to : ℕ) (lo hi : Float) (h : Held s
                 ∙ from-only s l₁ to lo whole copied whole-fits w x v q ∙ ap (λ (m : List Float). part m x v) e₁ ∙ part-beside s l to x whole i whole-fits v q;
           }
 
--- the middle of a slot's domain, as the code reads it
-pub mid-of : (s : Shape) (l : List Float) (base m : ℕ) (t : Float) → Held s l base → m ≡ countAt l base → t ≡ midParameter geop (getD l (base + 1 + s .degree) nan) (getD l (base + 1 + m) nan)
-    → t ≡ midParameter geop (start (s .degree) (pieceAt s l base)) (end (pieceAt s l base))
-mid-of s l base m t h e f = f ∙ sym (λ j. midParameter geop (start-word s l base m t h e j) (end-word s l base m t h e j))
-
+-- a split at t is one at u, where t is u
 pub split-same : (s : Shape) (l m : List Float) (a b : ℕ) (t u : Float) (c : Piece) (r : Bool) → t ≡ u → SplitAt s l m a b t c r → SplitAt s l m a b u c r
 split-same s l m a b t u c r e h = subst (λ (v : Float). SplitAt s l m a b v c r) e h

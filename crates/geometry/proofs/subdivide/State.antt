@@ -1,10 +1,10 @@
 -- One visit of the code is one step of the search: the ring that it leaves holds the queue of the definition. Leans on the laws of the ring.
 use mathlib.Core.Path.{_≡_, refl, sym, ap, _∙_, subst}
 use mathlib.Core.Bool.{true, false}
-use mathlib.Core.List.{List, [], _∷_, _++_}
+use mathlib.Core.List.{List}
 use mathlib.Core.Option.{Option, none, some}
-use Prim.Native.Nat.{ℕ, zero, suc, _+_, _-_, _*_, _≤_, _<_}
-use native.Mathlib.Nat.{add-zero}
+use Prim.Native.Nat.{ℕ, suc, _+_, _-_, _*_, _≤_, _<_}
+use native.Mathlib.Nat.{add-zero, zero-add}
 use native.Mathlib.Omega.{arith}
 use lib.ListN.{length, drop}
 use lib.Dec.{eqb}
@@ -15,7 +15,7 @@ use Rattle.math.specs.declared.scalars.Scalar.{Scalar}
 use Rattle.math.proofs.Bools.{yes, no, pick-yes, pick-no}
 use Rattle.model.specs.NurbCurve.{Piece}
 use Rattle.model.specs.Layout.{slotWords}
-use Rattle.model.specs.Subdivide.{Visit, State, Step, going, over, after, step}
+use Rattle.model.specs.Subdivide.{Visit, State, going, over, after, step}
 use Rattle.geometry.specs.Slots.{pieceAt, Inside, Held, Apart, Fit}
 use Rattle.geometry.specs.Ring.{baseOf, ringBase, waiting, Ring, Beside}
 use Rattle.geometry.specs.State.{foundOf, outcomeOf, HandedOn, Visited, children, withReport, hasBadWeight, stateOf, Next}
@@ -38,7 +38,6 @@ unfolding foundOf
 found-some f e = sym (pick-no (eqb (f .any) 0) none (some (f .all)) (ne-eqb (f .any) 0 e))
 
 pub children-few : (o : Outcome) → children o ≤ 2
-unfolding children
 children-few Dropped = omega arith
 children-few (Reported t) = omega arith
 children-few (Restricted n) = omega arith
@@ -58,7 +57,6 @@ module _ (s : Shape) (l m : List Float) (slots h n : ℕ) (r : Ring s l slots h 
   module _ (d : Beside s (ringBase s slots h n) (ringBase s slots h (n + 1)) l m) where
     -- the ring that is left
     ring-after : (o : Outcome) → HandedOn s m (ringBase s slots h n) (ringBase s slots h (n + 1)) o → Ring s m slots h (n + children o)
-    unfolding children
     ring-after Dropped k = rw (add-zero n) (ring-none s l m slots h n r room d)
     ring-after (Reported t) k = rw (add-zero n) (ring-none s l m slots h n r room d)
     ring-after (Restricted i) k = ring-one s l m slots h n r room d (pieceAt s m a) k refl
@@ -72,7 +70,7 @@ module _ (s : Shape) (l m : List Float) (slots h n : ℕ) (r : Ring s l slots h 
     -- and what waits in it
     after-goes : (v : ℕ) (f : Option Scalar) (o : Outcome) → hasBadWeight o ≡ false → HandedOn s m (ringBase s slots h n) (ringBase s slots h (n + 1)) o
         → after (waiting s l slots h n) v f (outcomeOf s m (ringBase s slots h n) (ringBase s slots h (n + 1)) o) ≡ going (left v f o)
-    unfolding after outcomeOf children withReport hasBadWeight
+    unfolding after outcomeOf
     after-goes v f Dropped e k = rw (add-zero n) (ap (λ (q : List Piece). going (record { queue = q; visited = v; found = f })) (sym (push-none s l m slots h n r room d)))
     after-goes v f (Reported t) e k = rw (add-zero n) (ap (λ (q : List Piece). going (record { queue = q; visited = v; found = withReport f (Reported t) })) (sym (push-none s l m slots h n r room d)))
     after-goes v f (Restricted i) e k =
@@ -82,7 +80,7 @@ module _ (s : Shape) (l m : List Float) (slots h n : ℕ) (r : Ring s l slots h 
     after-goes v f BadWeight e k = absurd (no true e tt)
 
     after-fails : (v : ℕ) (f : Option Scalar) (o : Outcome) → hasBadWeight o ≡ true → after (waiting s l slots h n) v f (outcomeOf s m (ringBase s slots h n) (ringBase s slots h (n + 1)) o) ≡ over (Refused 11 v)
-    unfolding after outcomeOf hasBadWeight
+    unfolding after outcomeOf
     after-fails v f BadWeight e = refl
     after-fails v f Dropped e = absurd (yes false e)
     after-fails v f (Reported t) e = absurd (yes false e)
@@ -180,39 +178,43 @@ module _ (see : Piece → Visit) (s : Shape) (l m : List Float) (slots : ℕ) (x
 -- ---- what a turn asks of its visit
 
 module _ (s : Shape) (l : List Float) (slots h n w : ℕ) (r : Ring s l slots h n) (some : 1 ≤ n) (room : n + 1 < slots) (W : w ≡ slotWords (s .dim) (s .degree) (s .count)) where
-  -- the slots behind the last, and that of the first, lie in the memory
-  pub place-in : (j i : ℕ) → j ≤ slots → i ≡ wrapped slots (h + j) → i * w ≤ length l
-  place-in j i k e = omega (arith, ap (λ (x : ℕ). x * w) e, ap (λ (x : ℕ). wrapped slots (h + j) * x) W, ring-inside s l slots h n r j k .within)
+  -- the places of the code: slot i of slots of w words
+  pub slot-is : (j i x : ℕ) → i ≡ wrapped slots (h + j) → x ≡ 0 + i * w → x ≡ ringBase s slots h j
+  slot-is j i x I X = X ∙ zero-add (i * w) ∙ (λ k. I k * W k)
 
-  head-place : h * w ≡ baseOf s h
-  head-place = ap (λ (x : ℕ). h * x) W
+  pub head-is : (x : ℕ) → x ≡ 0 + h * w → x ≡ baseOf s h
+  head-is x X = X ∙ zero-add (h * w) ∙ ap (λ (y : ℕ). h * y) W
+
+  -- the slots behind the last, and that of the first, lie in the memory
+  pub slot-in : (j i : ℕ) → j ≤ slots → i ≡ wrapped slots (h + j) → 0 + i * w ≤ length l
+  slot-in j i k e = omega (arith, slot-is j i (0 + i * w) e refl, ring-inside s l slots h n r j k .within)
 
   ring′′ : Ring s l slots h (suc (n - 1))
   ring′′ = let e : n ≡ suc (n - 1) = omega arith in subst (λ (k : ℕ). Ring s l slots h k) e r
 
-  pub head-in : h * w ≤ length l
-  head-in = omega (arith, head-place, head-held s l slots h (n - 1) ring′′ .inside .within)
+  pub head-in : 0 + h * w ≤ length l
+  head-in = omega (arith, head-is (0 + h * w) refl, head-held s l slots h (n - 1) ring′′ .inside .within)
 
-  pub turn-asks : (i k B : ℕ) → i ≡ wrapped slots (h + n) → k ≡ wrapped slots (h + (n + 1)) → Fit s (pieceAt s l (baseOf s h)) → 2 * s .dim ≤ B
-      → (Held s l (h * w) × Fit s (pieceAt s l (h * w)) × (2 * s .dim ≤ B)) × (Inside s l (i * w) × Inside s l (k * w) × Apart s (h * w) (i * w) × Apart s (h * w) (k * w) × Apart s (i * w) (k * w))
-  turn-asks i k B I K f b =
-      let x : i * w ≡ ringBase s slots h n = λ j. I j * W j in
-      let y : k * w ≡ ringBase s slots h (n + 1) = λ j. K j * W j in
-      let z : h * w ≡ baseOf s h = head-place in (
-        (subst (Held s l) (sym z) (head-held s l slots h (n - 1) ring′′), subst (λ (v : ℕ). Fit s (pieceAt s l v)) (sym z) f, b),
-        (
-          subst (Inside s l) (sym x) (ring-inside s l slots h n r n (omega arith)),
-          subst (Inside s l) (sym y) (ring-inside s l slots h n r (n + 1) (omega arith)),
-          subst (λ (v : ℕ). Apart s v (i * w)) (sym z) (subst (Apart s (baseOf s h)) (sym x) (other s (ringBase s slots h n) (baseOf s h) (head-apart s l slots h (n - 1) ring′′ n (omega arith) (omega arith)))),
-          subst (λ (v : ℕ). Apart s v (k * w)) (sym z) (subst (Apart s (baseOf s h)) (sym y) (other s (ringBase s slots h (n + 1)) (baseOf s h) (head-apart s l slots h (n - 1) ring′′ (n + 1) (omega arith) (omega arith)))),
-          subst (λ (v : ℕ). Apart s v (k * w)) (sym x) (subst (Apart s (ringBase s slots h n)) (sym y) (other s (ringBase s slots h (n + 1)) (ringBase s slots h n) (ring-apart s l slots h n r n (n + 1) (omega arith) room))),
-        ),
-      )
+  -- the slots of the first and of what a visit hands on
+  module _ (x y z : ℕ) (X : x ≡ baseOf s h) (Y : y ≡ ringBase s slots h n) (Z : z ≡ ringBase s slots h (n + 1)) where
+    pub turn-asks : (B : ℕ) → Fit s (pieceAt s l (baseOf s h)) → 2 * s .dim ≤ B
+        → (Held s l x × Fit s (pieceAt s l x) × (2 * s .dim ≤ B)) × (Inside s l y × Inside s l z × Apart s x y × Apart s x z × Apart s y z)
+    turn-asks B f b =
+        let xy : Apart s (baseOf s h) (ringBase s slots h n) = other s (ringBase s slots h n) (baseOf s h) (head-apart s l slots h (n - 1) ring′′ n (omega arith) (omega arith)) in
+        let xz : Apart s (baseOf s h) (ringBase s slots h (n + 1)) = other s (ringBase s slots h (n + 1)) (baseOf s h) (head-apart s l slots h (n - 1) ring′′ (n + 1) (omega arith) (omega arith)) in
+        let yz : Apart s (ringBase s slots h n) (ringBase s slots h (n + 1)) = other s (ringBase s slots h (n + 1)) (ringBase s slots h n) (ring-apart s l slots h n r n (n + 1) (omega arith) room) in (
+          (subst (Held s l) (sym X) (head-held s l slots h (n - 1) ring′′), subst (λ (v : ℕ). Fit s (pieceAt s l v)) (sym X) f, b),
+          (
+            subst (Inside s l) (sym Y) (ring-inside s l slots h n r n (omega arith)),
+            subst (Inside s l) (sym Z) (ring-inside s l slots h n r (n + 1) (omega arith)),
+            subst (λ (v : ℕ). Apart s v y) (sym X) (subst (Apart s (baseOf s h)) (sym Y) xy),
+            subst (λ (v : ℕ). Apart s v z) (sym X) (subst (Apart s (baseOf s h)) (sym Z) xz),
+            subst (λ (v : ℕ). Apart s v z) (sym Y) (subst (Apart s (ringBase s slots h n)) (sym Z) yz),
+          ),
+        )
 
-  pub turn-gives : (see : Piece → Visit) (m : List Float) (o : Outcome) (i k : ℕ) → i ≡ wrapped slots (h + n) → k ≡ wrapped slots (h + (n + 1)) → Visited (see (pieceAt s l (h * w))) s (i * w) (k * w) l m o
-      → Visited (see (pieceAt s l (baseOf s h))) s (ringBase s slots h n) (ringBase s slots h (n + 1)) l m o
-  turn-gives see m o i k I K v =
-      let x : i * w ≡ ringBase s slots h n = λ j. I j * W j in
-      let y : k * w ≡ ringBase s slots h (n + 1) = λ j. K j * W j in
-      subst (λ (z : ℕ). Visited (see (pieceAt s l z)) s (ringBase s slots h n) (ringBase s slots h (n + 1)) l m o) head-place
-      (subst (λ (z : ℕ). Visited (see (pieceAt s l (h * w))) s (ringBase s slots h n) z l m o) y (subst (λ (z : ℕ). Visited (see (pieceAt s l (h * w))) s z (k * w) l m o) x v))
+    pub turn-gives : (see : Piece → Visit) (m : List Float) (o : Outcome) → Visited (see (pieceAt s l x)) s y z l m o
+        → Visited (see (pieceAt s l (baseOf s h))) s (ringBase s slots h n) (ringBase s slots h (n + 1)) l m o
+    turn-gives see m o v =
+        subst (λ (k : ℕ). Visited (see (pieceAt s l k)) s (ringBase s slots h n) (ringBase s slots h (n + 1)) l m o) X
+        (subst (λ (k : ℕ). Visited (see (pieceAt s l x)) s (ringBase s slots h n) k l m o) Z (subst (λ (k : ℕ). Visited (see (pieceAt s l x)) s k z l m o) Y v))

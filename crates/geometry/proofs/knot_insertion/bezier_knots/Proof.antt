@@ -7,8 +7,8 @@ use Rattle.geometry.proofs.knot_insertion.bezier_knots.Tie as tie
 add-m : tie.Need-add-m
 add-m c = search needs
 
-add-first : tie.Need-add-first
-add-first c = search needs
+knots-from-requires : tie.Need-knots-from-requires
+knots-from-requires c κs = search needs
 
 add-second : tie.Need-add-second
 add-second c = search needs
@@ -30,16 +30,20 @@ same-length c = search needs
 
 returns : tie.Need-returns
 returns c =
-    let k = c .before .before .before .before .before .before .before .before .before .before .before .before .before in
+    let third = c .before .before in
+    let second = third .before .before .before .before in
+    let first = second .before .before .before .before in
+    let at-knots = first .before .before in
+    let k = at-knots .before .before in
     let g = k .args in
-    bezier-filled (g .work .now) _ _ _ (g .base) (g .degree) (g .a) (g .t) (g .b) (k .pre .1) (c .before .before .before .before .before .before .before .before .before .before .fill .ensures) (c .before .before .before .before .before .before .fill2 .ensures) (c .before .before .fill3 .ensures)
+    bezier-filled (g .work .now) _ _ _ (g .base) _ (g .degree) (g .a) (g .t) (g .b) (at-knots .knots-from .ensures) (k .pre .1) (first .fill .ensures) (second .fill2 .ensures) (third .fill3 .ensures)
 
 pub bezier-knots-spec : {M : Type 1} → statement M
 bezier-knots-spec =
     tie.close
     (tie.spec
     add-m
-    add-first
+    knots-from-requires
     add-second
     fill-requires
     fill-requires-2

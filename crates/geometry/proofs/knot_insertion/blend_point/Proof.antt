@@ -5,8 +5,16 @@ use native.Mathlib.Omega.{arith}
 use Rattle.geometry.proofs.knot_insertion.blend_point.Statement.{statement}
 use Rattle.geometry.proofs.knot_insertion.blend_point.Tie as tie
 
-add-from : tie.Need-add-from
-add-from c = search needs
+-- ---- the places
+
+abbrev from-knots : tie.After-knots-from → tie.Start
+from-knots c = c .before .before
+
+abbrev at-knots : tie.After-place-of2 → tie.After-knots-from
+at-knots c = c .before .before .before .before .before .before
+
+knots-from-requires : tie.Need-knots-from-requires
+knots-from-requires c κs = search needs
 
 add-end : tie.Need-add-end
 add-end c = search needs
@@ -27,7 +35,7 @@ part-alpha-at-start : tie.Need-part-alpha-at-start
 part-alpha-at-start c = search needs
 
 part-alpha-at-end : tie.Need-part-alpha-at-end
-part-alpha-at-end c = let k = c .before .before .before in omega (arith, knots-within (k .args .s) (k .args .work .now) (k .args .base) (k .args .n) (k .pre .0) (k .pre .2))
+part-alpha-at-end c = let k = from-knots (c .before .before) in omega (arith, c .before .before .knots-from .ensures, knots-within (k .args .s) (k .args .work .now) (k .args .base) (k .args .n) (k .pre .0) (k .pre .2))
 
 add-alpha-at : tie.Need-add-alpha-at
 add-alpha-at c = search needs
@@ -49,22 +57,26 @@ add-blend-into c = search needs
 
 blend-into-requires : tie.Need-blend-into-requires
 blend-into-requires c κs =
-    let k = c .before .before .before .before .before .before .before .before .before in
-    blend-fits (k .args .s) (k .args .work .now) (k .args .base) (k .args .n) (k .args .j) (k .args .t) (k .pre .0) (k .pre .1) (k .pre .2) _ _ (c .before .before .before .place-of .ensures) (c .before .before .place-of2 .ensures)
+    let at-next = c .before .before in
+    let k = from-knots (at-knots at-next) in
+    blend-fits (k .args .s) (k .args .work .now) (k .args .base) (k .args .n) (k .args .j) (k .args .t) (k .pre .0) (k .pre .1) (k .pre .2) _ _ (at-next .before .place-of .ensures) (at-next .place-of2 .ensures)
 
 same-length : tie.Need-same-length
 same-length c = search needs
 
 returns : tie.Need-returns
 returns c =
-    let k = c .before .before .before .before .before .before .before .before .before .before .before .before in
-    blend-done (k .args .s) (k .args .work .now) (k .args .base) (k .args .n) (k .args .j) (k .args .t) (k .pre .0) (k .pre .1) (k .pre .2) _ _ (c .before .before .before .before .before .before .place-of .ensures) (c .before .before .before .before .before .place-of2 .ensures) _ _ (c .before .before .before .before .before .before .before .alpha-at .ensures) (c .before .before .blend-into .ensures)
+    let at-blend = c .before .before in
+    let at-next = at-blend .before .before .before in
+    let knots = at-knots at-next in
+    let k = from-knots knots in
+    blend-done (k .args .s) (k .args .work .now) (k .args .base) (k .args .n) (k .args .j) (k .args .t) (k .pre .0) (k .pre .1) (k .pre .2) _ _ (at-next .before .place-of .ensures) (at-next .place-of2 .ensures) _ _ _ (knots .knots-from .ensures) (at-next .before .before .alpha-at .ensures) (at-blend .blend-into .ensures)
 
 pub blend-point-spec : {M : Type 1} → statement M
 blend-point-spec =
     tie.close
     (tie.spec
-    add-from
+    knots-from-requires
     add-end
     add-end-2
     add-end-3

@@ -4,6 +4,9 @@ use borrow.Author.Needs.{needs}
 use Rattle.geometry.proofs.knot_insertion.insert_knot.Statement.{statement}
 use Rattle.geometry.proofs.knot_insertion.insert_knot.Tie as tie
 
+knots-from-requires : tie.Need-knots-from-requires
+knots-from-requires c κs = search needs
+
 add-at : tie.Need-add-at
 add-at c = search needs
 
@@ -33,13 +36,16 @@ same-length c = search needs
 
 returns : tie.Need-returns
 returns c =
-    let k = c .before .before .before .before .before in
-    knot-in (k .args .work .now) _ (k .args .base) (k .args .m) (k .args .k) (k .args .t) (c .before .before .copy-up .ensures) (k .pre .0) (k .pre .1)
+    let copied = c .before .before in
+    let at-knots = copied .before .before in
+    let k = at-knots .before .before in
+    knot-in (k .args .work .now) _ (k .args .base) _ (k .args .m) (k .args .k) (k .args .t) (at-knots .knots-from .ensures) (copied .copy-up .ensures) (k .pre .0) (k .pre .1)
 
 pub insert-knot-spec : {M : Type 1} → statement M
 insert-knot-spec =
     tie.close
     (tie.spec
+    knots-from-requires
     add-at
     add-at-2
     add-copy-up

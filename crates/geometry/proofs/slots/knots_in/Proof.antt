@@ -9,8 +9,8 @@ use Rattle.geometry.proofs.slots.knots_in.Tie as tie
 count-at-requires : tie.Need-count-at-requires
 count-at-requires c κs = let k = c .before in count-readable (k .args .s) (k .args .work .now) (k .args .base) (k .pre)
 
-add-from : tie.Need-add-from
-add-from c = search needs
+knots-from-requires : tie.Need-knots-from-requires
+knots-from-requires c κs = search needs
 
 add-end : tie.Need-add-end
 add-end c = search needs
@@ -31,17 +31,23 @@ part-result-start : tie.Need-part-result-start
 part-result-start c = search needs
 
 part-result-end : tie.Need-part-result-end
-part-result-end c = let k = c .before .before .before in omega (arith, knots-fit (k .args .s) (k .args .work .now) (k .args .base) _ (k .pre) (c .before .count-at .ensures))
+part-result-end c =
+    let at-count = c .before .before in
+    let k = at-count .before .before in
+    omega (arith, c .before .knots-from .ensures, knots-fit (k .args .s) (k .args .work .now) (k .args .base) _ (k .pre) (at-count .count-at .ensures))
 
 returns : tie.Need-returns
-returns c = let k = c .before .before .before .before in knots-view (k .args .s) (k .args .work .now) (k .args .base) _ (k .pre) (c .before .before .count-at .ensures)
+returns c =
+    let at-count = c .before .before .before in
+    let k = at-count .before .before in
+    knots-view (k .args .s) (k .args .work .now) (k .args .base) _ (k .pre) (at-count .count-at .ensures) _ (c .before .before .knots-from .ensures)
 
 pub knots-in-spec : {M : Type 1} → statement M
 knots-in-spec =
     tie.close
     (tie.spec
     count-at-requires
-    add-from
+    knots-from-requires
     add-end
     add-end-2
     add-end-3

@@ -7,14 +7,14 @@ use borrow.Author.Needs.{needs}
 use Rattle.geometry.proofs.split.cut_from.Statement.{statement}
 use Rattle.geometry.proofs.split.cut_from.Tie as tie
 
-in-domain-requires : tie.Need-in-domain-requires
-in-domain-requires c κs = search needs
+is-inside-requires : tie.Need-is-inside-requires
+is-inside-requires c κs = search needs
 
 same-length : tie.Need-same-length
 same-length c = search needs
 
 returns : tie.Need-returns
-returns c = let g = c .before .before .before .before .args in from-none (g .s) (g .work .now) (g .base) (g .t) (sym (c .before .in-domain .ensures) ∙ not-true _ (c .if1 .taken))
+returns c = let g = c .before .before .before .before .args in from-none (g .s) (g .work .now) (g .base) (g .t) (sym (c .before .is-inside .ensures) ∙ not-true _ (c .if1 .taken))
 
 insert-to-full-multiplicity-requires : tie.Need-insert-to-full-multiplicity-requires
 insert-to-full-multiplicity-requires c κs =
@@ -26,7 +26,7 @@ copy-right-requires : tie.Need-copy-right-requires
 copy-right-requires c κs =
     let k = c .before .before .before .before .before .before .before .before .before in
     let g = k .args in
-    let d = sym (c .before .before .before .before .before .before .in-domain .ensures) ∙ not-false _ (c .before .before .before .before .before .if1 .left) in
+    let d = sym (c .before .before .before .before .before .before .is-inside .ensures) ∙ not-false _ (c .before .before .before .before .before .if1 .left) in
     let i = c .before .before .before .insert-to-full-multiplicity .ensures in
     let h = cut-held (g .s) (g .work .now) (g .base) (g .t) (k .pre .0) (k .pre .1) d _ _ i in
     ((h, h .inside, cut-upto (g .s) (g .work .now) (g .base) (g .t) (k .pre .0) (k .pre .1) d _ _ i), inr refl)
@@ -38,7 +38,7 @@ returns-2 : tie.Need-returns-2
 returns-2 c =
     let k = c .before .before .before .before .before .before .before .before .before .before .before .before in
     let g = k .args in
-    let d = sym (c .before .before .before .before .before .before .before .before .before .in-domain .ensures) ∙ not-false _ (c .before .before .before .before .before .before .before .before .if1 .left) in
+    let d = sym (c .before .before .before .before .before .before .before .before .before .is-inside .ensures) ∙ not-false _ (c .before .before .before .before .before .before .before .before .if1 .left) in
     let i = c .before .before .before .before .before .before .insert-to-full-multiplicity .ensures in
     from-kept (g .s) (g .work .now) (g .base) (g .t) (k .pre .0) (k .pre .1) d _ _ i _ _ (c .before .before .copy-right .ensures) refl
 
@@ -46,7 +46,7 @@ pub cut-from-spec : {M : Type 1} → statement M
 cut-from-spec =
     tie.close
     (tie.spec
-    in-domain-requires
+    is-inside-requires
     same-length
     returns
     insert-to-full-multiplicity-requires

@@ -6,14 +6,14 @@ use borrow.Author.Needs.{needs}
 use Rattle.geometry.proofs.split.cut_up_to.Statement.{statement}
 use Rattle.geometry.proofs.split.cut_up_to.Tie as tie
 
-in-domain-requires : tie.Need-in-domain-requires
-in-domain-requires c κs = search needs
+is-inside-requires : tie.Need-is-inside-requires
+is-inside-requires c κs = search needs
 
 same-length : tie.Need-same-length
 same-length c = search needs
 
 returns : tie.Need-returns
-returns c = let g = c .before .before .before .before .args in upto-none (g .s) (g .work .now) (g .base) (g .t) (sym (c .before .in-domain .ensures) ∙ not-true _ (c .if1 .taken))
+returns c = let g = c .before .before .before .before .args in upto-none (g .s) (g .work .now) (g .base) (g .t) (sym (c .before .is-inside .ensures) ∙ not-true _ (c .if1 .taken))
 
 insert-to-full-multiplicity-requires : tie.Need-insert-to-full-multiplicity-requires
 insert-to-full-multiplicity-requires c κs =
@@ -25,7 +25,7 @@ keep-left-requires : tie.Need-keep-left-requires
 keep-left-requires c κs =
     let k = c .before .before .before .before .before .before .before .before .before in
     let g = k .args in
-    let d = sym (c .before .before .before .before .before .before .in-domain .ensures) ∙ not-false _ (c .before .before .before .before .before .if1 .left) in
+    let d = sym (c .before .before .before .before .before .before .is-inside .ensures) ∙ not-false _ (c .before .before .before .before .before .if1 .left) in
     let i = c .before .before .before .insert-to-full-multiplicity .ensures in
     (cut-held (g .s) (g .work .now) (g .base) (g .t) (k .pre .0) (k .pre .1) d _ _ i, cut-upto (g .s) (g .work .now) (g .base) (g .t) (k .pre .0) (k .pre .1) d _ _ i)
 
@@ -36,7 +36,7 @@ returns-2 : tie.Need-returns-2
 returns-2 c =
     let k = c .before .before .before .before .before .before .before .before .before .before .before .before in
     let g = k .args in
-    let d = sym (c .before .before .before .before .before .before .before .before .before .in-domain .ensures) ∙ not-false _ (c .before .before .before .before .before .before .before .before .if1 .left) in
+    let d = sym (c .before .before .before .before .before .before .before .before .before .is-inside .ensures) ∙ not-false _ (c .before .before .before .before .before .before .before .before .if1 .left) in
     let i = c .before .before .before .before .before .before .insert-to-full-multiplicity .ensures in
     upto-kept (g .s) (g .work .now) (g .base) (g .t) (k .pre .0) (k .pre .1) d _ _ i _ _ (c .before .before .keep-left .ensures) refl
 
@@ -44,7 +44,7 @@ pub cut-up-to-spec : {M : Type 1} → statement M
 cut-up-to-spec =
     tie.close
     (tie.spec
-    in-domain-requires
+    is-inside-requires
     same-length
     returns
     insert-to-full-multiplicity-requires

@@ -8,8 +8,8 @@ use native.Mathlib.Omega.{arith}
 use Rattle.geometry.proofs.split.split.Statement.{statement}
 use Rattle.geometry.proofs.split.split.Tie as tie
 
-in-domain-requires : tie.Need-in-domain-requires
-in-domain-requires c κs = search needs
+is-inside-requires : tie.Need-is-inside-requires
+is-inside-requires c κs = search needs
 
 same-length : tie.Need-same-length
 same-length c = search needs
@@ -18,7 +18,7 @@ returns : tie.Need-returns
 returns c =
     let k = c .before .before .before .before in
     let g = k .args in
-    split-none (g .s) (g .work .now) (g .src) (g .left) (g .right) (g .t) (k .pre .0 .0) (k .pre .0 .1) (k .pre .0 .2) (k .pre .0 .3) (k .pre .1 .0) (k .pre .1 .1) (k .pre .1 .2) (sym (c .before .in-domain .ensures) ∙ not-true _ (c .if1 .taken))
+    split-none (g .s) (g .work .now) (g .src) (g .left) (g .right) (g .t) (k .pre .0 .0) (k .pre .0 .1) (k .pre .0 .2) (k .pre .0 .3) (k .pre .1 .0) (k .pre .1 .1) (k .pre .1 .2) (sym (c .before .is-inside .ensures) ∙ not-true _ (c .if1 .taken))
 
 copy-right-requires : tie.Need-copy-right-requires
 copy-right-requires c κs = let k = c .before .before .before .before .before in ((k .pre .0 .0, k .pre .0 .2, omega arith), inl (k .pre .1 .0))
@@ -27,7 +27,7 @@ insert-to-full-multiplicity-requires : tie.Need-insert-to-full-multiplicity-requ
 insert-to-full-multiplicity-requires c κs =
     let k = c .before .before .before .before .before .before .before .before .before in
     let g = k .args in
-    let d = sym (c .before .before .before .before .before .before .in-domain .ensures) ∙ not-false _ (c .before .before .before .before .before .if1 .left) in
+    let d = sym (c .before .before .before .before .before .before .is-inside .ensures) ∙ not-false _ (c .before .before .before .before .before .if1 .left) in
     let h = held₁ (g .s) (g .work .now) (g .src) (g .left) (g .right) (g .t) (k .pre .0 .0) (k .pre .0 .1) (k .pre .0 .2) (k .pre .0 .3) (k .pre .1 .0) (k .pre .1 .1) (k .pre .1 .2) d _ (c .before .before .before .copy-right .ensures) in
     let q = whole-count (g .s) _ (g .left) h (whole₁ (g .s) (g .work .now) (g .src) (g .left) (g .right) (g .t) (k .pre .0 .0) (k .pre .0 .1) (k .pre .0 .2) (k .pre .0 .3) (k .pre .1 .0) (k .pre .1 .1) (k .pre .1 .2) d _ (c .before .before .before .copy-right .ensures)) in
     (h, q .0, q .1)
@@ -36,7 +36,7 @@ copy-right-requires-2 : tie.Need-copy-right-requires-2
 copy-right-requires-2 c κs =
     let k = c .before .before .before .before .before .before .before .before .before .before .before .before .before in
     let g = k .args in
-    let d = sym (c .before .before .before .before .before .before .before .before .before .before .in-domain .ensures) ∙ not-false _ (c .before .before .before .before .before .before .before .before .before .if1 .left) in
+    let d = sym (c .before .before .before .before .before .before .before .before .before .before .is-inside .ensures) ∙ not-false _ (c .before .before .before .before .before .before .before .before .before .if1 .left) in
     let i = c .before .before .before .insert-to-full-multiplicity .ensures in (
       (
         held₂ (g .s) (g .work .now) (g .src) (g .left) (g .right) (g .t) (k .pre .0 .0) (k .pre .0 .1) (k .pre .0 .2) (k .pre .0 .3) (k .pre .1 .0) (k .pre .1 .1) (k .pre .1 .2) d _ (c .before .before .before .before .before .before .before .copy-right .ensures) _ _ i,
@@ -50,7 +50,7 @@ keep-left-requires : tie.Need-keep-left-requires
 keep-left-requires c κs =
     let k = c .before .before .before .before .before .before .before .before .before .before .before .before .before .before .before .before .before in
     let g = k .args in
-    let d = sym (c .before .before .before .before .before .before .before .before .before .before .before .before .before .before .in-domain .ensures) ∙ not-false _ (c .before .before .before .before .before .before .before .before .before .before .before .before .before .if1 .left) in
+    let d = sym (c .before .before .before .before .before .before .before .before .before .before .before .before .before .before .is-inside .ensures) ∙ not-false _ (c .before .before .before .before .before .before .before .before .before .before .before .before .before .if1 .left) in
     let i = c .before .before .before .before .before .before .before .insert-to-full-multiplicity .ensures in (
       held₃ (g .s) (g .work .now) (g .src) (g .left) (g .right) (g .t) (k .pre .0 .0) (k .pre .0 .1) (k .pre .0 .2) (k .pre .0 .3) (k .pre .1 .0) (k .pre .1 .1) (k .pre .1 .2) d _ (c .before .before .before .before .before .before .before .before .before .before .before .copy-right .ensures) _ _ i _ (c .before .before .before .copy-right2 .ensures),
       upto₃ (g .s) (g .work .now) (g .src) (g .left) (g .right) (g .t) (k .pre .0 .0) (k .pre .0 .1) (k .pre .0 .2) (k .pre .0 .3) (k .pre .1 .0) (k .pre .1 .1) (k .pre .1 .2) d _ (c .before .before .before .before .before .before .before .before .before .before .before .copy-right .ensures) _ _ i _ (c .before .before .before .copy-right2 .ensures),
@@ -63,7 +63,7 @@ returns-2 : tie.Need-returns-2
 returns-2 c =
     let k = c .before .before .before .before .before .before .before .before .before .before .before .before .before .before .before .before .before .before .before .before in
     let g = k .args in
-    let d = sym (c .before .before .before .before .before .before .before .before .before .before .before .before .before .before .before .before .before .in-domain .ensures) ∙ not-false _ (c .before .before .before .before .before .before .before .before .before .before .before .before .before .before .before .before .if1 .left) in
+    let d = sym (c .before .before .before .before .before .before .before .before .before .before .before .before .before .before .before .before .before .is-inside .ensures) ∙ not-false _ (c .before .before .before .before .before .before .before .before .before .before .before .before .before .before .before .before .if1 .left) in
     let i = c .before .before .before .before .before .before .before .before .before .before .insert-to-full-multiplicity .ensures in
     split-done (g .s) (g .work .now) (g .src) (g .left) (g .right) (g .t) (k .pre .0 .0) (k .pre .0 .1) (k .pre .0 .2) (k .pre .0 .3) (k .pre .1 .0) (k .pre .1 .1) (k .pre .1 .2) d _ (c .before .before .before .before .before .before .before .before .before .before .before .before .before .before .copy-right .ensures) _ _ i _ (c .before .before .before .before .before .before .copy-right2 .ensures) _ (c .before .before .keep-left .ensures)
 
@@ -71,7 +71,7 @@ pub split-spec : {M : Type 1} → statement M
 split-spec =
     tie.close
     (tie.spec
-    in-domain-requires
+    is-inside-requires
     same-length
     returns
     copy-right-requires

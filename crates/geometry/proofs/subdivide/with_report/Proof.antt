@@ -24,23 +24,18 @@ enum-told-4 : tie.Need-enum-told-4
 enum-told-4 c = search needs
 
 returns : tie.Need-returns
-unfolding withReport
 returns c = ap (withReport (foundOf (c .before .before .args .f))) (sym (c .enum-told .given .1))
 
 returns-2 : tie.Need-returns-2
-unfolding withReport
 returns-2 c = c .joined .ensures ∙ ap (withReport (foundOf (c .before .before .before .before .args .f))) (sym (c .before .before .o .given .1))
 
 returns-3 : tie.Need-returns-3
-unfolding withReport
 returns-3 c = ap (withReport (foundOf (c .before .before .args .f))) (sym (c .enum-told2 .given .1))
 
 returns-4 : tie.Need-returns-4
-unfolding withReport
 returns-4 c = ap (withReport (foundOf (c .before .before .args .f))) (sym (c .enum-told3 .given .1))
 
 returns-5 : tie.Need-returns-5
-unfolding withReport
 returns-5 c = ap (withReport (foundOf (c .before .before .args .f))) (sym (c .enum-told4 .given .1))
 
 pub with-report-spec : {M : Type 1} → statement M

@@ -9,6 +9,7 @@ use Rattle.math.specs.Scalars.{mulS}
 use Rattle.math.specs.declared.scalars.Scalar.{Scalar}
 use Rattle.model.specs.Layout.{flat}
 use Rattle.geometry.proofs.Lists.Flat.{flat-none, flat-next}
+use Rattle.geometry.proofs.nurb_curve.Points.{coordinate-is}
 use Rattle.geometry.proofs.visits.Clips.{axisAt, axis-at, axis-done}
 use borrow.Author.Needs.{needs}
 use Rattle.geometry.proofs.visits.axis.Statement.{statement}
@@ -91,7 +92,7 @@ loop-again c =
         simp length-set (l .loop .inv .1 .0),
         (
           flat-next (axisAt (a .points .now) (a .dim) (a .k) (a .e)) _ (l .loop .d) (l .loop .i) (c .sub .result) (omega arith) (l .loop .inv .1 .1 .0)
-              (axis-at (a .points .now) (a .dim) (a .k) (l .loop .i) (a .e) _ _ _ _ (c .before .coordinate3 .ensures) (t .before .coordinate2 .ensures) (w .1) (c .sub .ensures)),
+              (axis-at (a .points .now) (a .dim) (a .k) (l .loop .i) (a .e) _ _ _ _ (c .before .coordinate3 .ensures ∙ coordinate-is (a .dim) (l .loop .i) (a .k) (a .points .now) (omega arith)) (t .before .coordinate2 .ensures ∙ coordinate-is (a .dim) (l .loop .i) (a .dim) (a .points .now) (omega arith)) (w .1) (c .sub .ensures)),
           w .1 ∙ ap (λ (v : Scalar). mulS (a .e) v) (sym (w .0)),
         ),
       ),

@@ -1,4 +1,4 @@
--- `hand_on` equals its definition: what is cut down is children on, if its weights are above zero.
+-- `hand_on` equals its definition: what is cut down is handed on, if its weights are above zero.
 use borrow.Author.Needs.{needs}
 use borrow.Author.Tests.{not-true, not-false}
 use Rattle.geometry.proofs.visits.Handed.{handed-on, handed-bad}
