@@ -93,7 +93,7 @@ unfolding zipWith add sub mul div lt le eq isNan neg ofInt toBits ofBits
     abscissa greville crossing zerosBy fatLineZeros cartesian distance distances pathLength extent toF64 widest carriedBy carriedWidth restricts halves
     positiveZero joined complete after ended step stop advance answered
     axis narrowed clip carried handOn handBoth shrink clipped visit couldContain
-    pointAt pointsOf slotWords dimFits degreeFits countFits lengthsFit numbersUsable boundsOrdered weightsFit rising multiplicityOk knotsValid knotsFit nodesFit stated areaFits firstFailed orElse sizesRefusal curveRefusal refusal searchedBy searched
+    pointAt pointsOf slotWords dimFits degreeFits countFits lengthsFit numbersUsable boundsOrdered weightsFit rising multiplicityOk knotsValid knotsFit stated areaFits firstFailed orElse sizesRefusal curveRefusal refusal searchedBy searched
 right (prints t expected) = alike (printed (paper (searched geop (callOf t)))) expected
 right (sums a b lo hi) = alike (ends (some (addS (number a) (number b)))) (lo ∷ hi ∷ [])
 right (products a b lo hi) = alike (ends (some (mulS (number a) (number b)))) (lo ∷ hi ∷ [])
