@@ -12,7 +12,7 @@ use Rattle.lists.specs.Lists.{part, put}
 use Rattle.lists.proofs.Read.{part-put-in, getD-put}
 use Rattle.math.specs.Scalars.{geop}
 use Rattle.math.proofs.Bools.{and-l}
-use Rattle.math.proofs.Doubles.Order.{le-number-r}
+use Rattle.math.proofs.Laws.{le-number-r}
 use Rattle.model.specs.NurbCurve.{start, end}
 use Rattle.model.specs.Call.{Curve, lent, asPiece, searched}
 use Rattle.model.specs.Enclosure.{OfBounds, BoundsInDomain}
