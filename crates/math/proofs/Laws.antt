@@ -30,4 +30,4 @@ pub use Rattle.math.proofs.Intervals.Instance.{geop-encloses}
 -- ---- the square root
 
 -- the root of a double is a double, and not below zero where the operand is not; a limit is below a root where the square of the next double says so
-pub use Rattle.math.proofs.Roots.Over.{sqrt-fits, sqrt-nonneg, square-decides}
+pub use Rattle.math.proofs.root.Over.{sqrt-fits, sqrt-nonneg, square-decides}

@@ -4,5 +4,4 @@ pub mod Doubles
 pub mod Intervals
 pub mod Picks
 pub mod Paper
-pub mod Roots
 pub mod Laws

@@ -63,6 +63,7 @@ pub record Sizes : Type 0 where
 abbrev pub sizesOf : ℕ → ℕ → ℕ → Sizes
 sizesOf dim degree count = record { dim = dim; degree = degree; count = count }
 
+-- The first three lines.
 unfoldable pub sizes : List ℕ → Read Sizes
 sizes t =
     then (smallLine (bytes "dim=") t) (λ dim a.
@@ -76,11 +77,11 @@ sizes t =
 abbrev pub knotDoubles : Sizes → ℕ
 knotDoubles s = s .count + s .degree + 1
 
--- The line of a point.
+-- How many the line of a point has.
 abbrev pub pointDoubles : Sizes → ℕ
 pointDoubles s = 2 * suc (s .dim)
 
--- The line of the box.
+-- How many the line of the box has.
 abbrev pub boxDoubles : Sizes → ℕ
 boxDoubles s = 2 * s .dim
 
@@ -92,6 +93,7 @@ pub record Numbers : Type 0 where
   pub points : List Float
   pub box : List Float
 
+-- The other lines, in their order.
 unfoldable pub numbers : Sizes → List ℕ → Read Numbers
 numbers s t =
     then (smallLine (bytes "nodes=") t) (λ nodes a.

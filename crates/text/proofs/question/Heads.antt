@@ -36,7 +36,8 @@ module _ (text : List ℕ) (r : Small) (one : SmallRead text (smallLine (bytes "
           ≡ then (smallLine (bytes "count=") (drop j text)) (λ count rest.
           got (sizesOf d p count) rest)
       sizes-last =
-          sizes-next ∙ then-got (smallLine (bytes "degree=") (drop i text)) _ p (drop j text) (subst (SmallRead text _) f two .2)
+          sizes-next
+          ∙ then-got (smallLine (bytes "degree=") (drop i text)) _ p (drop j text) (subst (SmallRead text _) f two .2)
 
       pub sizes-two : z ≡ NoNumber → sizes text ≡ bad
       sizes-two g = sizes-last ∙ then-bad (smallLine (bytes "count=") (drop j text)) _ (subst (SmallRead text _) g three)

@@ -18,7 +18,8 @@ use Rattle.model.specs.Paper.{paper}
 use Rattle.model.specs.declared.contains.Found.{Found}
 use Rattle.model.specs.declared.contains.Found.the-variants.{Refused}
 use Rattle.text.specs.Bytes.{Read}
-use Rattle.text.specs.Question.{Sizes, sizesOf, sizes, Numbers, numbers, refusedBy, asks, callOf, completeBy, openedBy, readBy, reading}
+use Rattle.text.specs.Question.{Sizes, sizesOf, sizes, Numbers, numbers}
+use Rattle.text.specs.Question.{refusedBy, asks, callOf, completeBy, openedBy, readBy, reading}
 use Rattle.text.specs.Respond.{answeredBy, answered, printed, response, fitting}
 use Rattle.text.specs.Cursor.{HeadRead, NumbersAt, NumbersRead, numbersIn}
 use Rattle.text.specs.Counts.{Counts}
@@ -61,7 +62,8 @@ module _ (s : Sizes) (text : List ℕ) (spec : Read Numbers) (l m : List Float) 
     pub numbers-more : length text ≤ 65536 → i < length text → Refused 12 0 ≡ after spec
     unfolding answeredBy
     numbers-more a b =
-        by-tests (le-leb (length text) 65536 a) (ne-eqb (length (drop i text)) 0 (λ z. omega (arith, z, length-drop i text)))
+        by-tests (le-leb (length text) 65536 a)
+        (ne-eqb (length (drop i text)) 0 (λ z. omega (arith, z, length-drop i text)))
 
     -- a question is asked
     pub numbers-all : (f : Found) → length text ≤ 65536 → length text ≤ i

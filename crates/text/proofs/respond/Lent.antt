@@ -4,10 +4,11 @@ use mathlib.Core.Path.{_≡_, refl, sym, ap, _∙_}
 use mathlib.Core.List.{List, [], _∷_, _++_, append-assoc, append-nil}
 use Prim.Native.Nat.{ℕ, _+_, _*_, _≤_}
 use native.Mathlib.Omega.{arith}
-use lib.ListN.{length, take, drop, getD, length-append}
+use lib.ListN.{length, take, getD, length-append}
+use lib.Seq.{take-at, drop-at}
 use lib.Dec.{T}
 use lib.Ieee.{Float, nan, isNan, le}
-use mathlib.Core.Bool.{not, _&&_}
+use mathlib.Core.Bool.{not}
 use Rattle.lists.specs.Lists.{part, put}
 use Rattle.lists.proofs.Read.{part-put-in, getD-put}
 use Rattle.math.specs.Scalars.{geop}
@@ -15,7 +16,7 @@ use Rattle.math.proofs.Bools.{and-l}
 use Rattle.math.proofs.Laws.{le-number-r}
 use Rattle.model.specs.NurbCurve.{start, end}
 use Rattle.model.specs.Call.{Curve, lent, asPiece, searched}
-use Rattle.model.specs.Enclosure.{OfBounds, BoundsInDomain}
+use Rattle.model.specs.Enclosure.{OfBounds, NotOutside, BoundsInDomain}
 use Rattle.model.specs.Paper.{paper}
 use Rattle.math.specs.declared.scalars.Scalar.{Scalar}
 use mathlib.Core.Option.{Option, none, some}
@@ -43,10 +44,10 @@ printable v r = by (paper r .bounds)
     b : Float
     b = end (asPiece v)
 
-    number : (x : Float) → T (le a x && le x b) → T (not (isNan x))
+    number : (x : Float) → NotOutside a b x → T (not (isNan x))
     number x k = le-number-r a x (and-l (le a x) (le x b) k)
 
-    by : (x : Option Scalar) → OfBounds (λ y. T (le a (y .lo) && le (y .lo) b) × T (le a (y .hi) && le (y .hi) b)) x
+    by : (x : Option Scalar) → OfBounds (λ y. NotOutside a b (y .lo) × NotOutside a b (y .hi)) x
         → OfBounds (λ y. T (not (isNan (y .lo))) × T (not (isNan (y .hi)))) x
     by none h = tt
     by (some x) h = (number (x .lo) (h .0), number (x .hi) (h .1))
@@ -54,17 +55,9 @@ printable v r = by (paper r .bounds)
 -- ---- parts of a list that was put together
 
 module _ {A : Type 0} where
-  take-front : (xs ys : List A) → take (length xs) (xs ++ ys) ≡ xs
-  take-front [] ys = refl
-  take-front (x ∷ xs) ys = ap (λ (l : List A). x ∷ l) (take-front xs ys)
-
-  drop-front : (xs ys : List A) → drop (length xs) (xs ++ ys) ≡ ys
-  drop-front [] ys = refl
-  drop-front (x ∷ xs) ys = drop-front xs ys
-
   part-middle : (xs ys zs l : List A) (a w : ℕ) → l ≡ xs ++ (ys ++ zs) → length xs ≡ a → length ys ≡ w → part l a w ≡ ys
   part-middle xs ys zs l a w e f g =
-      (λ i. part (e i) (sym f i) (sym g i)) ∙ ap (take (length ys)) (drop-front xs (ys ++ zs)) ∙ take-front ys zs
+      ap (λ (x : List A). part x a w) e ∙ ap (take w) (drop-at xs (ys ++ zs) a f) ∙ take-at ys zs w g
 
   part-written : (l vs : List A) (a w : ℕ) → a + w ≤ length vs → part (put l 0 vs) a w ≡ part vs a w
   part-written l vs a w h =

@@ -7,6 +7,10 @@ use borrow.Author.Needs.{needs}
 use Rattle.text.proofs.question.limits.Statement.{statement}
 use Rattle.text.proofs.question.limits.Tie as tie
 
+-- The start, from where the nodes are read.
+abbrev begin : tie.After-small-line → tie.Start
+begin c = c .before .before .before .before
+
 slice-aggregate-small-line : tie.Need-slice-aggregate-small-line
 slice-aggregate-small-line c = search needs
 
@@ -23,7 +27,7 @@ returns : tie.Need-returns
 unfolding bytes
 returns c =
     let nodes = c .before .before in
-    let a = nodes .before .before .before .before .args in
+    let a = begin nodes .args in
     limits-none (a .text .now) _ _ (nodes .small-line .ensures) (a .out .now) (a .out .now) (c .enum-told .given .1)
 
 slice-aggregate-line : tie.Need-slice-aggregate-line
@@ -34,7 +38,7 @@ line-requires c κs =
     let at-nodes = c .before .before .before in
     let nodes = at-nodes .before .before in (
       subst (SmallRead _ _) (at-nodes .n .given .1) (nodes .small-line .ensures) .1,
-      nodes .before .before .before .before .pre .1,
+      begin nodes .pre .1,
     )
 
 enum-known-j : tie.Need-enum-known-j
@@ -52,7 +56,7 @@ returns-2 c =
     let resolution = c .before .before .before .before in
     let at-nodes = resolution .before .before .before .before in
     let nodes = at-nodes .before .before in
-    let a = nodes .before .before .before .before .args in
+    let a = begin nodes .args in
     limits-one (a .text .now) _ _ (nodes .small-line .ensures) (a .out .now) (resolution .line .last .1 .1 .1 .1 .0)
     _ _ (at-nodes .n .given .1) _ (resolution .line .ensures) (c .enum-told2 .given .1)
 
@@ -66,7 +70,7 @@ returns-3 c =
     let resolution = at-resolution .before .before .before .before in
     let at-nodes = resolution .before .before .before .before in
     let nodes = at-nodes .before .before in
-    let a = nodes .before .before .before .before .args in
+    let a = begin nodes .args in
     limits-two (a .text .now) _ _ (nodes .small-line .ensures) (a .out .now) (resolution .line .last .1 .1 .1 .1 .0)
     _ _ (at-nodes .n .given .1) _ (resolution .line .ensures) _ (at-resolution .j .given .1)
 

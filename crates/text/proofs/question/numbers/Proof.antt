@@ -22,30 +22,37 @@ enum-told c = search needs
 same-length : tie.Need-same-length
 same-length c = search needs
 
--- The sizes, from where the limits are read.
-abbrev these : tie.After-limits → Sizes
-these c = let a = c .before .before .before .before .args in sizesOf (a .dim) (a .degree) (a .count)
+-- The start, from where the limits are read.
+abbrev begin : tie.After-limits → tie.Start
+begin c = c .before .before .before .before
 
--- The memory with the limits in it.
+-- Where the limits are read, from where it is known that they are.
+abbrev limits-at : tie.After-n → tie.After-limits
+limits-at c = c .before .before .before .before
+
+-- The sizes, and the memory with the limits in it, from where these are read.
+abbrev these : tie.After-limits → Sizes
+these c = let a = begin c .args in sizesOf (a .dim) (a .degree) (a .count)
+
 abbrev memory : tie.After-limits → List Float
 memory c = c .limits .last .1 .1 .0
 
 returns : tie.Need-returns
 returns c =
     let limits = c .before .before .before .before in
-    let a = limits .before .before .before .before .args in
+    let a = begin limits .args in
     numbers-none (a .text .now) _ (these limits) (a .out .now) (memory limits) _ (limits .limits .ensures)
     (c .enum-told .given .1)
 
 shape-requires : tie.Need-shape-requires
 shape-requires c κs =
-    let at-limits = c .before .before in
-    let limits = at-limits .before .before .before .before in
-    let begin = limits .before .before .before .before in
-    let a = begin .args in
-    let read = subst (LimitsRead (a .text .now) _ (a .out .now) (memory limits)) (at-limits .n .given .1)
+    let known = c .before .before in
+    let limits = limits-at known in
+    let a = begin limits .args in
+    let p = begin limits .pre in
+    let read = subst (LimitsRead (a .text .now) _ (a .out .now) (memory limits)) (known .n .given .1)
     (limits .limits .ensures) in
-    (read .inside, begin .pre .1, begin .pre .2, begin .pre .3, omega (arith, begin .pre .4, limits .limits .kept .1 .1 .0))
+    (read .inside, p .1, p .2, p .3, omega (arith, p .4, limits .limits .kept .1 .1 .0))
 
 enum-known-j : tie.Need-enum-known-j
 enum-known-j c = search needs
@@ -59,26 +66,25 @@ same-length-2 c = search needs
 returns-2 : tie.Need-returns-2
 returns-2 c =
     let shape = c .before .before .before .before in
-    let at-limits = shape .before .before .before in
-    let limits = at-limits .before .before .before .before in
-    let a = limits .before .before .before .before .args in
-    numbers-one (a .text .now) _ (these limits) (a .out .now) (memory limits) _ (limits .limits .ensures)
-    _ _ (at-limits .n .given .1) (shape .shape .last .1 .1 .1 .1 .1 .0) _ (shape .shape .ensures) (c .enum-told2 .given .1)
+    let known = shape .before .before .before in
+    let limits = limits-at known in
+    let a = begin limits .args in
+    numbers-one (a .text .now) _ (these limits) (a .out .now) (memory limits) _ (limits .limits .ensures) _ _
+    (known .n .given .1) (shape .shape .last .1 .1 .1 .1 .1 .0) _ (shape .shape .ensures) (c .enum-told2 .given .1)
 
 same-length-3 : tie.Need-same-length-3
 same-length-3 c = search needs
 
 returns-3 : tie.Need-returns-3
 returns-3 c =
-    let at-shape = c .before in
-    let shape = at-shape .before .before .before .before in
-    let at-limits = shape .before .before .before in
-    let limits = at-limits .before .before .before .before in
-    let begin = limits .before .before .before .before in
-    let a = begin .args in
-    numbers-two (a .text .now) _ (these limits) (a .out .now) (memory limits) _ (limits .limits .ensures)
-    _ _ (at-limits .n .given .1) (shape .shape .last .1 .1 .1 .1 .1 .0) _ (shape .shape .ensures)
-    _ (at-shape .j .given .1) (omega (arith, begin .pre .4))
+    let shape-known = c .before in
+    let shape = shape-known .before .before .before .before in
+    let known = shape .before .before .before in
+    let limits = limits-at known in
+    let a = begin limits .args in
+    numbers-two (a .text .now) _ (these limits) (a .out .now) (memory limits) _ (limits .limits .ensures) _ _
+    (known .n .given .1) (shape .shape .last .1 .1 .1 .1 .1 .0) _ (shape .shape .ensures) _ (shape-known .j .given .1)
+    (omega (arith, begin limits .pre .4))
 
 pub numbers-spec : {M : Type 1} → statement M
 numbers-spec =

@@ -1,14 +1,39 @@
 -- `shape` reads the knots, the points and the box, and writes them one behind the other.
 use mathlib.Core.Path.{subst}
+use mathlib.Core.List.{List}
+use lib.Ieee.{Float}
 use Prim.Native.Nat.{_+_, _*_, _≤_}
 use native.Mathlib.Omega.{arith}
-use Rattle.text.specs.Question.{sizesOf}
+use Rattle.text.specs.Question.{Sizes, sizesOf}
 use Rattle.text.specs.Cursor.{ValuesRead}
 use Rattle.text.proofs.question.Others.{few-numbers, shape-none, shape-one, shape-two}
 use Rattle.text.specs.Bytes.{bytes}
 use borrow.Author.Needs.{needs}
 use Rattle.text.proofs.question.shape.Statement.{statement}
 use Rattle.text.proofs.question.shape.Tie as tie
+
+-- The start, from where the knots are read.
+abbrev begin : tie.After-line → tie.Start
+begin c = c .before .before .before .before .before
+
+-- Where the knots are read, from where it is known that they are.
+abbrev knots-at : tie.After-i → tie.After-line
+knots-at c = c .before .before .before .before
+
+-- Where it is known, from where the points are read.
+abbrev before-points : tie.After-lines → tie.After-i
+before-points c = c .before .before .before .before
+
+-- Where the points are read, from where it is known that they are.
+abbrev points-at : tie.After-j → tie.After-lines
+points-at c = c .before .before .before .before
+
+-- The sizes and the memory with the knots in it, from where these are read.
+abbrev these : tie.After-line → Sizes
+these c = let a = begin c .args in sizesOf (a .dim) (a .degree) (a .count)
+
+abbrev memory : tie.After-line → List Float
+memory c = c .line .last .1 .1 .1 .1 .0
 
 -- The points have few numbers.
 few : (c : tie.Start) → 2 * (c .args .dim + 1) * c .args .count ≤ 256
@@ -39,9 +64,8 @@ returns : tie.Need-returns
 unfolding bytes
 returns c =
     let knots = c .before .before .before .before in
-    let a = knots .before .before .before .before .before .args in
-    shape-none (a .text .now) _ (sizesOf (a .dim) (a .degree) (a .count)) (a .out .now) (knots .line .last .1 .1 .1 .1 .0)
-    _ (knots .line .ensures) (c .enum-told .given .1)
+    let a = begin knots .args in
+    shape-none (a .text .now) _ (these knots) (a .out .now) (memory knots) _ (knots .line .ensures) (c .enum-told .given .1)
 
 add-w : tie.Need-add-w
 add-w c = search needs
@@ -57,11 +81,10 @@ add-lines c = search needs
 
 lines-requires : tie.Need-lines-requires
 lines-requires c κs =
-    let at-knots = c .before .before .before in
-    let knots = at-knots .before .before .before .before in
-    let begin = knots .before .before .before .before .before in (
-      subst (ValuesRead _ _ _ _ _ _) (at-knots .i .given .1) (knots .line .ensures) .inside,
-      omega (arith, few begin, knots .line .kept .1 .1 .1 .1 .0),
+    let known = c .before .before .before in
+    let knots = knots-at known in (
+      subst (ValuesRead _ _ _ _ _ _) (known .i .given .1) (knots .line .ensures) .inside,
+      omega (arith, few (begin knots), knots .line .kept .1 .1 .1 .1 .0),
     )
 
 enum-known-j : tie.Need-enum-known-j
@@ -77,12 +100,11 @@ returns-2 : tie.Need-returns-2
 unfolding bytes
 returns-2 c =
     let points = c .before .before .before .before in
-    let at-knots = points .before .before .before .before in
-    let knots = at-knots .before .before .before .before in
-    let a = knots .before .before .before .before .before .args in
-    shape-one (a .text .now) _ (sizesOf (a .dim) (a .degree) (a .count)) (a .out .now) (knots .line .last .1 .1 .1 .1 .0)
-    _ (knots .line .ensures) _ _ (at-knots .i .given .1) (omega arith) (points .lines .last .1 .1 .1 .1 .1 .0)
-    _ (points .lines .ensures) (c .enum-told2 .given .1)
+    let known = before-points points in
+    let knots = knots-at known in
+    let a = begin knots .args in
+    shape-one (a .text .now) _ (these knots) (a .out .now) (memory knots) _ (knots .line .ensures) _ _ (known .i .given .1)
+    (omega arith) (points .lines .last .1 .1 .1 .1 .1 .0) _ (points .lines .ensures) (c .enum-told2 .given .1)
 
 slice-aggregate-line-2 : tie.Need-slice-aggregate-line-2
 slice-aggregate-line-2 c = search needs
@@ -93,12 +115,9 @@ mul-line c = search needs
 add-line : tie.Need-add-line
 add-line c = search needs
 
--- Where the function begins, from where the line of the box is to be read.
+-- The start, from where the line of the box is to be read.
 abbrev start : tie.After-line-arg2 → tie.Start
-start c =
-    let points = c .before .before .before .before .before .before .before in
-    let knots = points .before .before .before .before .before .before .before .before in
-    knots .before .before .before .before .before
+start c = begin (knots-at (before-points (points-at (c .before .before .before))))
 
 mul-line-2 : tie.Need-mul-line-2
 mul-line-2 c = omega (arith, few (start c))
@@ -108,10 +127,10 @@ add-line-2 c = omega (arith, few (start c))
 
 line-requires-2 : tie.Need-line-requires-2
 line-requires-2 c κs =
-    let at-points = c .before .before .before in
-    let points = at-points .before .before .before .before in
-    let knots = points .before .before .before .before .before .before .before .before in (
-      subst (ValuesRead _ _ _ _ _ _) (at-points .j .given .1) (points .lines .ensures) .inside,
+    let known = c .before .before .before in
+    let points = points-at known in
+    let knots = knots-at (before-points points) in (
+      subst (ValuesRead _ _ _ _ _ _) (known .j .given .1) (points .lines .ensures) .inside,
       omega (arith, few (start c), points .lines .kept .1 .1 .1 .1 .1 .0, knots .line .kept .1 .1 .1 .1 .0),
     )
 
@@ -122,17 +141,15 @@ returns-3 : tie.Need-returns-3
 unfolding bytes
 returns-3 c =
     let box = c .before .before in
-    let at-points = box .before .before .before .before in
-    let points = at-points .before .before .before .before in
-    let at-knots = points .before .before .before .before in
-    let knots = at-knots .before .before .before .before in
-    let begin = knots .before .before .before .before .before in
-    let a = begin .args in
-    shape-two (a .text .now) _ (sizesOf (a .dim) (a .degree) (a .count)) (a .out .now) (knots .line .last .1 .1 .1 .1 .0)
-    _ (knots .line .ensures) _ _ (at-knots .i .given .1) (omega arith) (points .lines .last .1 .1 .1 .1 .1 .0)
-    _ (points .lines .ensures) _ (at-points .j .given .1) (box .line2 .last .1 .1 .1 .1 .0)
-    (box .line2 .result) (box .line2 .ensures)
-    (omega (arith, few begin, begin .pre))
+    let points-known = box .before .before .before .before in
+    let points = points-at points-known in
+    let known = before-points points in
+    let knots = knots-at known in
+    let a = begin knots .args in
+    shape-two (a .text .now) _ (these knots) (a .out .now) (memory knots) _ (knots .line .ensures) _ _ (known .i .given .1)
+    (omega arith) (points .lines .last .1 .1 .1 .1 .1 .0) _ (points .lines .ensures) _ (points-known .j .given .1)
+    (box .line2 .last .1 .1 .1 .1 .0) (box .line2 .result) (box .line2 .ensures)
+    (omega (arith, few (begin knots), begin knots .pre))
 
 pub shape-spec : {M : Type 1} → statement M
 shape-spec =

@@ -6,6 +6,10 @@ use borrow.Author.Needs.{needs}
 use Rattle.text.proofs.question.small_line.Statement.{statement}
 use Rattle.text.proofs.question.small_line.Tie as tie
 
+-- The start, from where the key is read.
+abbrev begin : tie.After-word → tie.Start
+begin c = c .before .before .before
+
 word-requires : tie.Need-word-requires
 word-requires c κs = search needs
 
@@ -18,7 +22,7 @@ enum-told c = search needs
 returns : tie.Need-returns
 returns c =
     let key = c .before .before in
-    let a = key .before .before .before .args in
+    let a = begin key .args in
     small-line-keyless (a .text .now) (a .key .now) _ _ (key .word .ensures) (c .enum-told .given .1)
 
 small-requires : tie.Need-small-requires
@@ -37,7 +41,7 @@ returns-2 c =
     let number = c .before .before in
     let at-key = number .before .before in
     let key = at-key .before .before in
-    let a = key .before .before .before .args in
+    let a = begin key .args in
     small-line-none (a .text .now) (a .key .now) _ _ (key .word .ensures) _ (at-key .i .given .1) _ (number .small .ensures)
     (c .enum-told2 .given .1)
 
@@ -59,7 +63,7 @@ returns-3 c =
     let number = at-number .before .before in
     let at-key = number .before .before in
     let key = at-key .before .before in
-    let a = key .before .before .before .args in
+    let a = begin key .args in
     small-line-endless (a .text .now) (a .key .now) _ _ (key .word .ensures) _ (at-key .i .given .1) _ (number .small .ensures)
     _ _ (at-number .n .given .1) _ (end .byte .ensures) (c .enum-told3 .given .1)
 
@@ -71,7 +75,7 @@ returns-4 c =
     let number = at-number .before .before in
     let at-key = number .before .before in
     let key = at-key .before .before in
-    let a = key .before .before .before .args in
+    let a = begin key .args in
     small-line-whole (a .text .now) (a .key .now) _ _ (key .word .ensures) _ (at-key .i .given .1) _ (number .small .ensures)
     _ _ (at-number .n .given .1) _ (end .byte .ensures) _ (at-end .k .given .1)
 

@@ -13,8 +13,8 @@ use lib.Ieee.Digits.{size-lt, size-le}
 use lib.Ieee.Bits.{is-true, is-false}
 use Rattle.math.specs.Root.{root, nearestRoot, rootOf}
 use Rattle.math.specs.Scale.{Normal, Even}
-use Rattle.math.proofs.Roots.Whole.{Whole, root-whole, root-is}
-use Rattle.math.proofs.Roots.Scaled.{bound, pattern, four, four-pos, squared}
+use Rattle.math.proofs.root.Whole.{Whole, root-whole, root-is}
+use Rattle.math.proofs.root.Scaling.{bound, pattern, four, four-pos, squared}
 
 -- ---- the size of a root
 size-is : (z k : ℕ) → 2 ^ (52 + k) ≤ z → z < 2 ^ (53 + k) → size z - 53 ≡ k

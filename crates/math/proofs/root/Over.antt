@@ -25,7 +25,7 @@ use Rattle.math.proofs.Doubles.Next.{upward, nextUp-fits, nextUp-above,
 use Rattle.math.proofs.Doubles.NextLeast.{nextUp-least}
 use Rattle.math.proofs.Doubles.Operations.{mul-rounds}
 use Rattle.math.proofs.Doubles.Nonneg.{at-least-zero, worth, square-nonneg}
-use Rattle.math.proofs.Roots.Law.{root-fits, sqrt-encloses}
+use Rattle.math.proofs.root.Law.{root-fits, sqrt-encloses}
 
 -- ---- finite doubles
 finite-number : (x : Float) → T (isFinite x) → T (number x)

@@ -12,8 +12,8 @@ use lib.Ieee.{binary64, size, units, ofBits}
 use lib.Ieee.Digits.{size-lt, size-le, size-reaches}
 use Rattle.math.specs.Root.{root, nearestRoot, rootOf}
 use Rattle.math.proofs.Doubles.Patterns.{top-bits, sizeOf, rises}
-use Rattle.math.proofs.Roots.Whole.{Whole, root-whole}
-use Rattle.math.proofs.Roots.Scaled.{pattern, size-of, four, four-pos, squared}
+use Rattle.math.proofs.root.Whole.{Whole, root-whole}
+use Rattle.math.proofs.root.Scaling.{pattern, size-of, four, four-pos, squared}
 
 -- ---- the leading 53 digits q of √y, for a y from 2 ^ 1074 on
 module _ (y k q : ℕ) (K : k ≡ size (root y) - 53) (Q : q ≡ root (y / 4 ^ k)) (big : 2 ^ 1074 ≤ y) (small : y < 2 ^ 3172) where

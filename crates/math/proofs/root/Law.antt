@@ -22,9 +22,9 @@ use Rattle.math.specs.RootLaws.{isFinite, square, SqrtEncloses, SqrtNear
 use Rattle.math.proofs.Doubles.Held.{held}
 use Rattle.math.proofs.Doubles.Patterns.{top-bits, sizeOf, bits-val, rises, written}
 use Rattle.math.proofs.Doubles.Next.{bits-pos, value as written-value}
-use Rattle.math.proofs.Roots.Ends.{read-fin}
-use Rattle.math.proofs.Roots.Near.{near}
-use Rattle.math.proofs.Roots.Beside.{up-is, down-is}
+use Rattle.math.proofs.root.Ends.{read-fin}
+use Rattle.math.proofs.root.Near.{near}
+use Rattle.math.proofs.root.Beside.{up-is, down-is}
 
 -- ---- a / c against n / c, by whole numbers
 ÷-lt : (a b c d : ℕ) → 0 < c → 0 < d → a * d < b * c → a ÷ c <ℚ b ÷ d

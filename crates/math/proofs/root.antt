@@ -1,10 +1,10 @@
 -- The square root: what each function of src/root.rt needs, on plain values, in the order of the source; then the two laws of the root that are published, in Law.
 pub mod Turns
 pub mod Squares
-pub mod Guess
+pub mod Estimate
 pub mod Shift
 pub mod Whole
-pub mod Scaled
+pub mod Scaling
 pub mod Result
 pub mod Ends
 pub mod Near
