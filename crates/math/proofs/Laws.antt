@@ -1,5 +1,5 @@
--- The published laws: what the proofs of geometry lean on beyond the contracts of the arithmetic. Each group passes on laws that are proved in the file that it names;
--- facts about tests alone are in Bools.
+-- The published laws: what the proofs of geometry and text lean on beyond the contracts of the arithmetic. Each group passes on laws that
+-- are proved in the file that it names; facts about tests alone are in Bools.
 
 -- ---- doubles
 

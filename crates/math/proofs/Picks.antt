@@ -35,7 +35,8 @@ picked-number : (t : Bool) (a b : Float) → (t ≡ true → isNan b ≡ false) 
 picked-number true a b h n = h refl
 picked-number false a b h n = n
 
-picked-is : (t : Bool) (a b : Float) → (t ≡ true → isNan a ≡ false) → isNan (cond t b a) ≡ false → cond t b a ≡ cond (isNan a) b (cond t b a)
+picked-is : (t : Bool) (a b : Float) → (t ≡ true → isNan a ≡ false) → isNan (cond t b a) ≡ false
+    → cond t b a ≡ cond (isNan a) b (cond t b a)
 picked-is true a b h n = rw (h refl)
 picked-is false a b h n = rw n
 
@@ -62,19 +63,25 @@ module _ (a b : Float) where
   greater-max n = greater-is (greater-number n)
 
 -- ---- the least and the greatest of four, by four picks from a number on
-module _ (pick def : Float → Float → Float) (same : (a b : Float) → isNan a ≡ false → (pick a b ≡ def a b) × (isNan (def a b) ≡ false)) where
+module _ (pick def : Float → Float → Float)
+    (same : (a b : Float) → isNan a ≡ false → (pick a b ≡ def a b) × (isNan (def a b) ≡ false)) where
   step : (x y b r : Float) → (x ≡ y) × (isNan y ≡ false) → r ≡ pick x b → (r ≡ def y b) × (isNan (def y b) ≡ false)
   step x y b r h e = let k = same y b (h .1) in (e ∙ ap (λ (z : Float). pick z b) (h .0) ∙ k .0, k .1)
 
-  four : (o a b c d p q r s : Float) → isNan o ≡ false → p ≡ pick o a → q ≡ pick p b → r ≡ pick q c → s ≡ pick r d → s ≡ def (def (def (def o a) b) c) d
+  four : (o a b c d p q r s : Float) → isNan o ≡ false → p ≡ pick o a → q ≡ pick p b → r ≡ pick q c → s ≡ pick r d
+      → s ≡ def (def (def (def o a) b) c) d
   four o a b c d p q r s n e1 e2 e3 e4 = step _ _ d s (step _ _ c r (step _ _ b q (step o o a p (refl, n) e1) e2) e3) e4 .0
 
 module _ (a b c d p q r s : Float) where
   pub least-of : p ≡ lesserF (inf false) a → q ≡ lesserF p b → r ≡ lesserF q c → s ≡ lesserF r d → s ≡ least4 a b c d
-  least-of = four lesserF minF (λ x y n. (lesser-min x y n, sym (ap isNan (lesser-min x y n)) ∙ lesser-number x y n)) (inf false) a b c d p q r s (unfold isNan in refl)
+  least-of =
+      four lesserF minF (λ x y n. (lesser-min x y n, sym (ap isNan (lesser-min x y n)) ∙ lesser-number x y n))
+      (inf false) a b c d p q r s (unfold isNan in refl)
 
   pub most-of : p ≡ greaterF (inf true) a → q ≡ greaterF p b → r ≡ greaterF q c → s ≡ greaterF r d → s ≡ most4 a b c d
-  most-of = four greaterF maxF (λ x y n. (greater-max x y n, sym (ap isNan (greater-max x y n)) ∙ greater-number x y n)) (inf true) a b c d p q r s (unfold isNan in refl)
+  most-of =
+      four greaterF maxF (λ x y n. (greater-max x y n, sym (ap isNan (greater-max x y n)) ∙ greater-number x y n))
+      (inf true) a b c d p q r s (unfold isNan in refl)
 
 -- the bounds of a product before it is widened are numbers
 pub corners-lower : (x y : Scalar) → isNan (corners x y .lo) ≡ false
@@ -122,7 +129,7 @@ module _ (a b : Scalar) (f : Fraction) where
   unfolding betweenS
   kept e = pick-yes _ _ _ e
 
-  pub blended : (d m p q r : Scalar) → d ≡ subS b a → m ≡ mulS (f .alpha) d → p ≡ mulS (f .beta) a → q ≡ mulS (f .alpha) b → r ≡ intersectS (addS a m) (addS p q)
-      → sameOperands a b (f .alpha) ≡ false → r ≡ betweenS a b f
+  pub blended : (d m p q r : Scalar) → d ≡ subS b a → m ≡ mulS (f .alpha) d → p ≡ mulS (f .beta) a → q ≡ mulS (f .alpha) b
+      → r ≡ intersectS (addS a m) (addS p q) → sameOperands a b (f .alpha) ≡ false → r ≡ betweenS a b f
   unfolding betweenS
   blended d m p q r D M P Q R e = R ∙ (λ i. intersectS (addS a ((M ∙ ap (mulS (f .alpha)) D) i)) (addS (P i) (Q i))) ∙ pick-no _ _ _ e

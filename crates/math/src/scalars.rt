@@ -5,7 +5,9 @@ ghost use mathlib.Core.Bool.{true, false};
 ghost use lib.Ieee.{isNan};
 ghost use Rattle.math.specs.Neighbours.{nextUp, nextDown};
 ghost use Rattle.math.specs.Picks.{lesserF, greaterF, minF, maxF};
-ghost use Rattle.math.specs.Scalars.{geop, ENTIRE, sharp, middle, widthS, addS, subS, corners, mulS, inverseS, hasZero, couldBeEqual, definitelyGreater, definitelyLess, isSubsetOf, isExactly, inUnit, sameOperands, unionS, intersectS, interpolateS};
+ghost use Rattle.math.specs.Scalars.{geop, ENTIRE, sharp, middle, widthS, addS, subS, corners, mulS, inverseS};
+ghost use Rattle.math.specs.Scalars.{unionS, intersectS, interpolateS};
+ghost use Rattle.math.specs.Scalars.{hasZero, couldBeEqual, definitelyGreater, definitelyLess, isSubsetOf, isExactly, inUnit, sameOperands};
 ghost use Rattle.math.specs.Paper.{Divides, IsRatio};
 ghost use Rattle.math.specs.Factors.{isFactor, inOrder, allInOrder, fractionOf, betweenS};
 
@@ -398,7 +400,8 @@ impl Scalar {
         alpha.is_factor() && beta.is_factor() && a.in_order() && b.in_order() && diff.in_order()
     }
 
-    // `interpolate`, for a caller that has the fraction at hand. Where `all_in_order` says so it goes the short way, with products by factors.
+    // `interpolate`, for a caller that has the fraction at hand. Where `all_in_order` says so it goes the short way, with
+    // products by factors.
     pub fn between(a: Scalar, b: Scalar, f: Fraction) -> Scalar
         ensures { λ r. ⌜ r ≡ betweenS a b f ⌝ }
     {

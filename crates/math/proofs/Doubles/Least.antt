@@ -138,9 +138,12 @@ pub most-is : (a b c d : Float) → most4 a b c d ≡ neg (least4 (neg a) (neg b
 most-is a b c d = mirrored _ d _ (mirrored _ c _ (mirrored _ b _ (mirrored (inf true) a (inf false) low-end)))
 
 pub most-number : (a b c d : Float) → T (number (most4 a b c d))
-most-number a b c d = subst (λ (x : Float). T (number x)) (sym (most-is a b c d)) (number-neg (least4 (neg a) (neg b) (neg c) (neg d)) (least-number (neg a) (neg b) (neg c) (neg d)))
+most-number a b c d =
+    subst (λ (x : Float). T (number x)) (sym (most-is a b c d))
+    (number-neg (least4 (neg a) (neg b) (neg c) (neg d)) (least-number (neg a) (neg b) (neg c) (neg d)))
 
-pub most-fits : (a b c d : Float) → T (fits binary64 a) → T (fits binary64 b) → T (fits binary64 c) → T (fits binary64 d) → T (fits binary64 (most4 a b c d))
+pub most-fits : (a b c d : Float) → T (fits binary64 a) → T (fits binary64 b) → T (fits binary64 c) → T (fits binary64 d)
+    → T (fits binary64 (most4 a b c d))
 most-fits a b c d A B C D =
     subst (λ (x : Float). T (fits binary64 x)) (sym (most-is a b c d))
     (neg-fits binary64 (least4 (neg a) (neg b) (neg c) (neg d))

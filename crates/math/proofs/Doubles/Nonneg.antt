@@ -24,7 +24,9 @@ at-least-zero nan h = absurd h
 at-least-zero (inf true) h = absurd h
 at-least-zero (inf false) h = tt
 at-least-zero (fin true m e) h = absurd h
-at-least-zero (fin false m e) h = unfold le in value→le false 0 (pos 0) false m e (subst (λ (z : ℚ). z ≤ℚ value (fin false m e)) (sym (value-zero false (pos 0))) (value-nonneg m e))
+at-least-zero (fin false m e) h =
+    unfold le in value→le false 0 (pos 0) false m e
+    (subst (λ (z : ℚ). z ≤ℚ value (fin false m e)) (sym (value-zero false (pos 0))) (value-nonneg m e))
 
 -- its number is not below zero
 pub worth : (s : Bool) (m : ℕ) (e : ℤ) → T (le zeroF (fin s m e)) → 0ℚ ≤ℚ value (fin s m e)
@@ -58,7 +60,8 @@ more′ : (x y : ℚ) → 0ℚ ≤ℚ x → y ≤ℚ x +ℚ y
 more′ x y h = le-by (nn-of h) (by-rep ℚring (x ∷ y ∷ []) (search read depth 9) (search read depth 9) tt)
 
 -- a sum of two that are not below zero is at least each of them
-pub add-grows : (a b : Float) → T (fits binary64 a) → T (fits binary64 b) → T (le zeroF a) → T (le zeroF b) → T (le a (add binary64 a b)) × T (le b (add binary64 a b))
+pub add-grows : (a b : Float) → T (fits binary64 a) → T (fits binary64 b) → T (le zeroF a) → T (le zeroF b)
+    → T (le a (add binary64 a b)) × T (le b (add binary64 a b))
 add-grows nan b A B h k = absurd (unfold le in h)
 add-grows (inf true) b A B h k = absurd (unfold le in h)
 add-grows (inf false) nan A B h k = absurd (unfold le in k)
@@ -70,4 +73,6 @@ add-grows (fin s m e) (inf true) A B h k = absurd (unfold le in k)
 add-grows (fin s m e) (inf false) A B h k = unfold le add in (tt, tt)
 add-grows (fin s m e) (fin t n d) A B h k =
     let r = add-rounds s m e t n d in
-    (rounds-ge _ _ r s m e A (more (value (fin s m e)) (value (fin t n d)) (worth t n d k)), rounds-ge _ _ r t n d B (more′ (value (fin s m e)) (value (fin t n d)) (worth s m e h)))
+    let x = value (fin s m e) in
+    let y = value (fin t n d) in
+    (rounds-ge _ _ r s m e A (more x y (worth t n d k)), rounds-ge _ _ r t n d B (more′ x y (worth s m e h)))

@@ -17,7 +17,7 @@ use Rattle.math.specs.declared.scalars.Scalar.{Scalar}
 use Rattle.math.specs.declared.scalars.Fraction.{Fraction}
 use Rattle.math.proofs.Bools.{yes, and-l, and-r}
 use Rattle.math.proofs.Picks.{lesser-is, greater-is}
-use Rattle.math.proofs.Doubles.Order.{le-number-l, le-number-r, le-trans, lt-le, le-lt, neg-le}
+use Rattle.math.proofs.Doubles.Order.{number, le-number-l, le-number-r, le-trans, lt-le, le-lt, neg-le}
 use Rattle.math.proofs.Doubles.Mirror.{neg-neg}
 use Rattle.math.proofs.Doubles.Same.{down-same}
 use Rattle.math.proofs.Doubles.Least.{min-either, max-is, min-left, min-right, least-number, least-fits, least-a, least-b, least-c, least-d, least-above, most-is}
@@ -26,32 +26,32 @@ use Rattle.math.proofs.Intervals.Positive.{above-zero, greatest, scale-
 
 -- ---- the least of four, two of which are known to be no more than the others
 
--- w is one of the four, and no more than any
-down-least : (w a b c d : Float) → T (fits binary64 w) → T (fits binary64 a) → T (fits binary64 b) → T (fits binary64 c) → T (fits binary64 d) → T (le (least4 a b c d) w) → T (le w a) → T (le w b) → T (le w c) → T (le w d)
-    → nextDown w ≡ nextDown (least4 a b c d)
-down-least w a b c d W A B C D h p q r s =
-    down-same w (least4 a b c d) W (least-fits a b c d A B C D) (least-above w a b c d (greatest w (le-number-l w a p)) (λ _. p) (λ _. q) (λ _. r) (λ _. s)) h
-
 module _ (a b c d : Float) (A : T (fits binary64 a)) (B : T (fits binary64 b)) (C : T (fits binary64 c)) (D : T (fits binary64 d)) where
+  -- the lesser of two of them, where what is no more than these is no more than any
+  down-pair : (x y : Float) → T (fits binary64 x) → T (fits binary64 y) → T (number x) → T (number y)
+      → T (le (least4 a b c d) x) → T (le (least4 a b c d) y)
+      → ((w : Float) → T (le w x) → T (le w y) → T (le w a) × T (le w b) × T (le w c) × T (le w d))
+      → nextDown (minF x y) ≡ nextDown (least4 a b c d)
+  down-pair x y X Y n m lx ly any =
+      let w = minF x y in
+      let r = any w (min-left x y n) (min-right x y n m) in
+      let g = least-above w a b c d (greatest w (le-number-l w a (r .0))) (λ _. r .0) (λ _. r .1) (λ _. r .2) (λ _. r .3) in
+      down-same w (least4 a b c d) (min-either (λ z. T (fits binary64 z)) x y X Y) (least-fits a b c d A B C D) g
+      (min-either (λ z. T (le (least4 a b c d) z)) x y lx ly)
+
   -- the first and the third are the lesser ones
   down-two : T (le a b) → T (le c d) → nextDown (minF a c) ≡ nextDown (least4 a b c d)
   down-two h k =
       let n = le-number-l a b h in
       let m = le-number-l c d k in
-      let p = min-left a c n in
-      let q = min-right a c n m in
-      down-least (minF a c) a b c d (min-either (λ z. T (fits binary64 z)) a c A C) A B C D (min-either (λ z. T (le (least4 a b c d) z)) a c (least-a a b c d n) (least-c a b c d m))
-      p (le-trans (minF a c) a b p h) q (le-trans (minF a c) c d q k)
+      down-pair a c A C n m (least-a a b c d n) (least-c a b c d m) (λ w p q. (p, le-trans w a b p h, q, le-trans w c d q k))
 
   -- the second and the fourth are
   down-others : T (le b a) → T (le d c) → nextDown (minF b d) ≡ nextDown (least4 a b c d)
   down-others h k =
       let n = le-number-l b a h in
       let m = le-number-l d c k in
-      let p = min-left b d n in
-      let q = min-right b d n m in
-      down-least (minF b d) a b c d (min-either (λ z. T (fits binary64 z)) b d B D) A B C D (min-either (λ z. T (le (least4 a b c d) z)) b d (least-b a b c d n) (least-d a b c d m))
-      (le-trans (minF b d) b a p h) p (le-trans (minF b d) d c q k) q
+      down-pair b d B D n m (least-b a b c d n) (least-d a b c d m) (λ w p q. (le-trans w b a p h, p, le-trans w d c q k, q))
 
 -- the neighbour above is the mirror image of the one below
 turned : (x : Float) → nextUp (neg x) ≡ neg (nextDown x)
@@ -177,7 +177,9 @@ upper-number a b e = is-false (isNan b) (le-number-r a b (yes (le a b) e))
 
 -- what two sums have in common, where the sums meet before they are widened
 module _ (a m p q : Scalar) where
-  pub meet-of-sums-is : (u w lo hi : Float) → u ≡ greaterF (add binary64 (a .lo) (m .lo)) (add binary64 (p .lo) (q .lo)) → w ≡ lesserF (add binary64 (a .hi) (m .hi)) (add binary64 (p .hi) (q .hi))
+  pub meet-of-sums-is : (u w lo hi : Float)
+      → u ≡ greaterF (add binary64 (a .lo) (m .lo)) (add binary64 (p .lo) (q .lo))
+      → w ≡ lesserF (add binary64 (a .hi) (m .hi)) (add binary64 (p .hi) (q .hi))
       → le u w ≡ true → lo ≡ nextDown u → hi ≡ nextUp w → record { lo = lo; hi = hi } ≡ intersectS (addS a m) (addS p q)
   unfolding addS
   meet-of-sums-is u w lo hi L0 H0 e LO HI =

@@ -12,7 +12,8 @@ use Rattle.math.proofs.Doubles.Operations.{add-rounds}
 
 module _ (p q : ℚ) where
   -- before it is widened: the two sides of each pair of doubles
-  sums : (x y : Float) → (Below x p → Below y q → Lows (add binary64 x y) (p +ℚ q)) × (Above x p → Above y q → Highs (add binary64 x y) (p +ℚ q))
+  sums : (x y : Float)
+      → (Below x p → Below y q → Lows (add binary64 x y) (p +ℚ q)) × (Above x p → Above y q → Highs (add binary64 x y) (p +ℚ q))
   unfolding add
   sums nan y = (λ h _. absurd h, λ h _. absurd h)
   sums (inf s) nan = (λ _ k. absurd k, λ _ k. absurd k)
@@ -26,8 +27,8 @@ module _ (p q : ℚ) where
   sums (fin s m e) (inf true) = (λ _ _. lows-inf (inf true) (p +ℚ q) refl, λ _ k. absurd k)
   sums (fin s m e) (inf false) = (λ _ k. absurd k, λ _ _. highs-inf (inf false) (p +ℚ q) refl)
   sums (fin s m e) (fin t n d) = (
-    λ h k. lows-mono (add binary64 (fin s m e) (fin t n d)) (value (fin s m e) +ℚ value (fin t n d)) (p +ℚ q) (add-mono h k) (add-rounds s m e t n d .lows),
-    λ h k. highs-mono (add binary64 (fin s m e) (fin t n d)) (value (fin s m e) +ℚ value (fin t n d)) (p +ℚ q) (add-mono h k) (add-rounds s m e t n d .highs),
+    λ h k. lows-mono (add binary64 (fin s m e) (fin t n d)) _ (p +ℚ q) (add-mono h k) (add-rounds s m e t n d .lows),
+    λ h k. highs-mono (add binary64 (fin s m e) (fin t n d)) _ (p +ℚ q) (add-mono h k) (add-rounds s m e t n d .highs),
   )
 
   pub add-below : (x y : Float) → Below x p → Below y q → Under (nextDown (add binary64 x y)) (p +ℚ q)

@@ -83,8 +83,9 @@ down-no a b F G n m e h = elim (decide (lt (nextDown a) b)) [
   | inr t ↦ down-stuck a (nextDown b) F n (le-trans a b (nextDown a) (total-order a b n m (not-true (lt b a) e)) (total-order b (nextDown a) m (down-number a F n) t)) h
 ]
 
--- so a pick by the neighbours' comparison has the neighbour that the pick by their own has: the two compare alike, unless their neighbours are the same
-agree : (a b : Float) → T (fits binary64 a) → T (fits binary64 b) → T (number a) → T (number b) → (f : Bool → Float) → (nextDown a ≡ nextDown b → nextDown (f false) ≡ nextDown (f true))
+-- so a pick f by the neighbours' comparison has the neighbour of the pick by their own: they compare alike, unless their neighbours are the same
+agree : (a b : Float) → T (fits binary64 a) → T (fits binary64 b) → T (number a) → T (number b)
+    → (f : Bool → Float) → (nextDown a ≡ nextDown b → nextDown (f false) ≡ nextDown (f true))
     → nextDown (f (lt (nextDown b) (nextDown a))) ≡ nextDown (f (lt b a))
 agree a b F G n m f h = by (lt b a) refl (lt (nextDown b) (nextDown a)) refl
   where
@@ -94,6 +95,7 @@ agree a b F G n m f h = by (lt b a) refl (lt (nextDown b) (nextDown a)) refl
     by false e true g = absurd (down-no a b F G n m e (yes (lt (nextDown b) (nextDown a)) g))
     by false e false g = refl
 
+-- the neighbour of a pick
 through : (t : Bool) (a b : Float) → cond t (nextDown b) (nextDown a) ≡ nextDown (cond t b a)
 through true a b = refl
 through false a b = refl
@@ -106,10 +108,14 @@ module _ (a b : Float) (F : T (fits binary64 a)) (G : T (fits binary64 b)) (n : 
   q = is-false (isNan (nextDown a)) (down-number a F n)
 
   down-min-numbers : minF (nextDown a) (nextDown b) ≡ nextDown (minF a b)
-  down-min-numbers = sym (lesser-min _ _ q) ∙ through (lt (nextDown b) (nextDown a)) a b ∙ agree a b F G n m (λ z. cond z b a) (λ e. e) ∙ ap nextDown (lesser-min a b p)
+  down-min-numbers =
+      sym (lesser-min _ _ q) ∙ through (lt (nextDown b) (nextDown a)) a b
+      ∙ agree a b F G n m (λ z. cond z b a) (λ e. e) ∙ ap nextDown (lesser-min a b p)
 
   down-max-numbers : maxF (nextDown a) (nextDown b) ≡ nextDown (maxF a b)
-  down-max-numbers = sym (greater-max _ _ q) ∙ through (lt (nextDown a) (nextDown b)) a b ∙ agree b a G F m n (λ z. cond z b a) (λ e. sym e) ∙ ap nextDown (greater-max a b p)
+  down-max-numbers =
+      sym (greater-max _ _ q) ∙ through (lt (nextDown a) (nextDown b)) a b
+      ∙ agree b a G F m n (λ z. cond z b a) (λ e. sym e) ∙ ap nextDown (greater-max a b p)
 
 -- a pick that passes a NaN over on both sides
 module _ (P : Float → Float → Float) (after-nan : (x : Float) → P nan x ≡ x) (before-nan : (x : Float) → T (number x) → P x nan ≡ x)

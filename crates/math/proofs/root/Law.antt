@@ -1,5 +1,6 @@
 -- The laws of the root of a double above zero, over the exact numbers: √x lies between the doubles next to `sqrtF x` (`sqrt-encloses`), and `sqrtF x` is the nearest
--- double to it, with no tie (`sqrt-nearest`); that it is a double of the format is `root-fits`. They come from Near.antt's inequalities of whole numbers. The statements are in specs/RootLaws.antt.
+-- double to it, with no tie (`sqrt-nearest`); that it is a double of the format is `root-fits`.
+-- They come from Near.antt's inequalities of whole numbers. The statements are in specs/RootLaws.antt.
 use mathlib.Core.Path.{_≡_, sym, ap, _∙_, subst}
 use Prim.Native.Nat.{ℕ, suc, _+_, _-_, _*_, _^_, _≤_, _<_, zero-le}
 use native.Mathlib.Nat.{le-trans, le-of-eq, lt-of-lt-of-le, lt-of-le-of-lt, lt-trans, not-le-of-lt, one-mul, mul-assoc, mul-pos, mul-le-mul, mul-le-mul-right, mul-lt-mul-of-pos-right, eq-of-mul-eq-mul-right}

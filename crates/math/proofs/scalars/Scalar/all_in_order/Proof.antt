@@ -32,7 +32,8 @@ two n =
       | inr p ↦ p .1 ∙ e ∙ and-no _ _ (sym e ∙ p .0 .left)
     ]
 
-three : (n : tie.Joined2) → let k = n .before .before .before .args in n .if2 .if3 ≡ (isFactor (k .alpha) && isFactor (k .beta) && inOrder (k .a))
+three : (n : tie.Joined2) → let k = n .before .before .before .args in
+    n .if2 .if3 ≡ (isFactor (k .alpha) && isFactor (k .beta) && inOrder (k .a))
 three n =
     let e = two (n .before) in
     elim (n .if2 .came) [
@@ -40,7 +41,8 @@ three n =
       | inr p ↦ p .1 ∙ e ∙ and-no _ _ (sym e ∙ p .0 .left)
     ]
 
-four : (n : tie.Joined3) → let k = n .before .before .before .before .args in n .if3 .if4 ≡ (isFactor (k .alpha) && isFactor (k .beta) && inOrder (k .a) && inOrder (k .b))
+four : (n : tie.Joined3) → let k = n .before .before .before .before .args in
+    n .if3 .if4 ≡ (isFactor (k .alpha) && isFactor (k .beta) && inOrder (k .a) && inOrder (k .b))
 four n =
     let e = three (n .before) in
     elim (n .if3 .came) [

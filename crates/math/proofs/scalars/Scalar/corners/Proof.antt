@@ -37,9 +37,15 @@ greater-requires-4 c κs = search needs
 returns : tie.Need-returns
 unfolding corners ofBits neg
 returns c =
-    let hi = most-of _ _ _ _ _ _ _ _ (c .before .before .before .greater .ensures) (c .before .before .greater2 .ensures) (c .before .greater3 .ensures) (c .greater4 .ensures) in
-    let l = c .before .before .before .before in
-    let lo = least-of _ _ _ _ _ _ _ _ (l .before .before .before .lesser .ensures) (l .before .before .lesser2 .ensures) (l .before .lesser3 .ensures) (l .lesser4 .ensures) in
+    let g3 = c .before in
+    let g2 = g3 .before in
+    let g1 = g2 .before in
+    let l4 = g1 .before in
+    let l3 = l4 .before in
+    let l2 = l3 .before in
+    let l1 = l2 .before in
+    let hi = most-of _ _ _ _ _ _ _ _ (g1 .greater .ensures) (g2 .greater2 .ensures) (g3 .greater3 .ensures) (c .greater4 .ensures) in
+    let lo = least-of _ _ _ _ _ _ _ _ (l1 .lesser .ensures) (l2 .lesser2 .ensures) (l3 .lesser3 .ensures) (l4 .lesser4 .ensures) in
     λ i. record { lo = lo i; hi = hi i }
 
 pub corners-spec : {M : Type 1} → statement M

@@ -13,7 +13,9 @@ between-requires : tie.Need-between-requires
 between-requires c κs = search needs
 
 returns : tie.Need-returns
-returns c = let k = c .before .before .args in c .between .ensures ∙ ap (betweenS (k .a) (k .b)) (c .before .fraction .ensures) ∙ between-is (k .a) (k .b) (k .alpha)
+returns c =
+    let k = c .before .before .args in
+    c .between .ensures ∙ ap (betweenS (k .a) (k .b)) (c .before .fraction .ensures) ∙ between-is (k .a) (k .b) (k .alpha)
 
 pub interpolate-spec : {M : Type 1} → statement M
 interpolate-spec = tie.close (tie.spec fraction-requires between-requires returns)

@@ -23,7 +23,9 @@ unfolding mulS
 returns c =
     let d = c .before in
     let e = d .before .corners .ensures in
-    λ i. record { lo = (d .down .ensures ∙ ap (λ (s : Scalar). nextDown (s .lo)) e) i; hi = (c .up .ensures ∙ ap (λ (s : Scalar). nextUp (s .hi)) e) i }
+    let lo = d .down .ensures ∙ ap (λ (s : Scalar). nextDown (s .lo)) e in
+    let hi = c .up .ensures ∙ ap (λ (s : Scalar). nextUp (s .hi)) e in
+    λ i. record { lo = lo i; hi = hi i }
 
 pub mul-spec : {M : Type 1} → statement M
 mul-spec = tie.close (tie.spec corners-requires down-requires up-requires returns)
