@@ -52,7 +52,7 @@ uint64_t puhlwazo_curve_could_contain(
     double *work, size_t work_length,
     uint64_t *counts, double *bounds);
 
-/* How many numbers of work area a call with these sizes needs; 0 for sizes that are refused whatever else is lent. */
+/* How many numbers of work area a call with these sizes needs; 0 exactly for sizes that are refused by 1, 2, 3 or 9, whatever else is lent. */
 size_t puhlwazo_work_words(size_t dim, size_t degree, size_t count, size_t nodes);
 
 #ifdef __cplusplus

@@ -12,7 +12,6 @@
 /fn ours_from_f64/,/^}/ s/Scalar::from_f64(x)/Scalar::from_f64(x \/ 3.0 * 3.0)/
 /fn ours_from_ratio/,/^}/ s/Scalar::from_ratio(num, den)/Scalar::from_f64(1.0).div(Scalar::from_f64(den as f64))/
 /fn ours_to_f64/,/^}/ s/\.to_f64()/.lower().to_f64()/
-/fn ours_is_sharp/,/^}/ s/\.is_sharp()/.width().has_zero()/
 /fn ours_width/,/^}/ s/\.width()/.upper()/
 /fn ours_lower/,/^}/ s/\.lower()/.upper()/
 /fn ours_upper/,/^}/ s/\.upper()/.lower()/
@@ -24,10 +23,8 @@
 /fn ours_intersect/,/^}/ s/\.intersect(/.union(/
 /fn ours_union/,/^}/ s/\.union(/.intersect(/
 /fn ours_could_be_equal/,/^}/ s/\.could_be_equal(/.is_subset_of(/
-/fn ours_could_be_greater/,/^}/ s/\.could_be_greater(/.definitely_greater(/
-/fn ours_could_be_less/,/^}/ s/\.could_be_less(/.definitely_less(/
-/fn ours_definitely_greater/,/^}/ s/\.definitely_greater(/.could_be_greater(/
-/fn ours_definitely_less/,/^}/ s/\.definitely_less(/.could_be_less(/
+/fn ours_definitely_greater/,/^}/ s/\.definitely_greater(/.definitely_less(/
+/fn ours_definitely_less/,/^}/ s/\.definitely_less(/.definitely_greater(/
 /fn ours_is_subset_of/,/^}/ s/\.is_subset_of(/.is_exactly(/
 /fn ours_is_exactly/,/^}/ s/\.is_exactly(/.is_subset_of(/
 /fn ours_interpolate/,/^}/ s/{ lo: cl, hi: ch }/{ lo: scalars::max(cl, 0.0), hi: ch }/

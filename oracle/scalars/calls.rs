@@ -15,7 +15,6 @@ pub enum Call {
     B1(extern "C" fn(f64) -> bool),
     S1(extern "C" fn(f64, &mut Out)),
     F2(extern "C" fn(f64, f64) -> f64),
-    B2(extern "C" fn(f64, f64) -> bool),
     S2(extern "C" fn(f64, f64, &mut Out)),
     R2(extern "C" fn(u32, u32, &mut Out) -> bool),
     B4(extern "C" fn(f64, f64, f64, f64) -> bool),
@@ -43,7 +42,6 @@ impl Call {
             Call::F1(f) => return Answer::Number(f(v[0])),
             Call::F2(f) => return Answer::Number(f(v[0], v[1])),
             Call::B1(f) => return Answer::Truth(f(v[0])),
-            Call::B2(f) => return Answer::Truth(f(v[0], v[1])),
             Call::B4(f) => return Answer::Truth(f(v[0], v[1], v[2], v[3])),
             Call::R2(f) => f(v[0] as u32, v[1] as u32, &mut out),
             Call::R4(f) => f(v[0], v[1], v[2], v[3], &mut out),
@@ -103,7 +101,6 @@ calls! {
         Scalar::from_ratio(num as i64, den as i64).map(|r| put(r, out)).is_ok()
     }
     ours_to_f64 rust_to_f64(al: f64, ah: f64) -> f64 { s(al, ah).to_f64() }
-    ours_is_sharp rust_is_sharp(al: f64, ah: f64) -> bool { s(al, ah).is_sharp() }
     ours_width rust_width(al: f64, ah: f64, out: &mut Out) { put(s(al, ah).width(), out) }
     ours_lower rust_lower(al: f64, ah: f64, out: &mut Out) { put(s(al, ah).lower(), out) }
     ours_upper rust_upper(al: f64, ah: f64, out: &mut Out) { put(s(al, ah).upper(), out) }
@@ -126,8 +123,6 @@ methods! {
 
 tests! {
     ours_could_be_equal rust_could_be_equal could_be_equal
-    ours_could_be_greater rust_could_be_greater could_be_greater
-    ours_could_be_less rust_could_be_less could_be_less
     ours_definitely_greater rust_definitely_greater definitely_greater
     ours_definitely_less rust_definitely_less definitely_less
     ours_is_subset_of rust_is_subset_of is_subset_of

@@ -58,7 +58,6 @@ fn operations() -> Vec<Operation> {
         Numbers F2 "max" ours_max rust_max;
         Ratio R2 "from_ratio" ours_from_ratio rust_from_ratio;
         Interval F2 "to_f64" ours_to_f64 rust_to_f64;
-        Interval B2 "is_sharp" ours_is_sharp rust_is_sharp;
         Interval S2 "width" ours_width rust_width;
         Interval S2 "lower" ours_lower rust_lower;
         Interval S2 "upper" ours_upper rust_upper;
@@ -70,8 +69,6 @@ fn operations() -> Vec<Operation> {
         Intervals S4 "intersect" ours_intersect rust_intersect;
         Intervals S4 "union" ours_union rust_union;
         Intervals B4 "could_be_equal" ours_could_be_equal rust_could_be_equal;
-        Intervals B4 "could_be_greater" ours_could_be_greater rust_could_be_greater;
-        Intervals B4 "could_be_less" ours_could_be_less rust_could_be_less;
         Intervals B4 "definitely_greater" ours_definitely_greater rust_definitely_greater;
         Intervals B4 "definitely_less" ours_definitely_less rust_definitely_less;
         Intervals B4 "is_subset_of" ours_is_subset_of rust_is_subset_of;

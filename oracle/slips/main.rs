@@ -18,7 +18,7 @@ fn main() {
     for question in all {
         let answer = std::panic::catch_unwind(|| {
             let mut lines = [0u8; 160];
-            let k = text::answer::respond(&question, &mut lines);
+            let k = text::respond::respond(&question, &mut lines);
             lines[..k].to_vec()
         });
         let lines = match answer {

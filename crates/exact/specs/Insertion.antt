@@ -3,7 +3,7 @@ use mathlib.Core.Path.{_≡_}
 use Prim.Native.Nat.{ℕ, suc, pred, _+_, _≤_, _<_}
 use native.Mathlib.Decide.{decLe}
 use Rattle.exact.specs.Rational.{ℚ}
-use Rattle.exact.specs.Spline.{round, Side, Runs}
+use Rattle.exact.specs.Spline.{round, Side, OnSide}
 
 -- ---- the insertion as a relation
 
@@ -35,4 +35,4 @@ ctrls p u c x k j = pick (decLe (j + p) k) (c j) (pick (decLe j k) (round u p 1 
 
 -- Each point that the first curve passes, the second passes at the same parameter and from the same side.
 pub record Kept (p n : ℕ) (u : ℕ → ℚ) (c : ℕ → ℕ → ℚ) (n′ : ℕ) (u′ : ℕ → ℚ) (c′ : ℕ → ℕ → ℚ) : Type 0 where
-  pub keeps : (s : Side) (t : ℚ) (y : ℕ → ℚ) → Runs s p n u c t y → Runs s p n′ u′ c′ t y
+  pub keeps : (s : Side) (t : ℚ) (y : ℕ → ℚ) → OnSide s p n u c t y → OnSide s p n′ u′ c′ t y

@@ -100,7 +100,7 @@ Fit right = Right
 
 -- The curve with the control values c a has the value y a at t on each axis a, on some span that holds t in the sense of the side. On the side `right` this is
 -- `Traced` before the domain's end.
-pub record Runs (s : Side) (p n : ℕ) (u : ℕ → ℚ) (c : ℕ → ℕ → ℚ) (t : ℚ) (y : ℕ → ℚ) : Type 0 where
+pub record OnSide (s : Side) (p n : ℕ) (u : ℕ → ℚ) (c : ℕ → ℕ → ℚ) (t : ℚ) (y : ℕ → ℚ) : Type 0 where
   pub place : ℕ
   pub inside : place + p < n
   pub fits : Fit s (u (place + p)) (u (suc (place + p))) t
@@ -108,4 +108,4 @@ pub record Runs (s : Side) (p n : ℕ) (u : ℕ → ℚ) (c : ℕ → ℕ → �
 
 -- The curve passes y at t, its spans closed at both ends. Every point of the curve on paper is one of these.
 abbrev pub On : ℕ → ℕ → (ℕ → ℚ) → (ℕ → ℕ → ℚ) → ℚ → (ℕ → ℚ) → Type 0
-On = Runs shut
+On = OnSide shut

@@ -1,6 +1,8 @@
 -- The zeros by a fat line, over two lists of intervals: what they are for any two lists, and how they are found point by point. Definitions only.
 use Prim.Native.Nat.{ℕ}
+use mathlib.Core.Path.{_≡_}
 use mathlib.Core.Bool.{Bool, cond, _&&_}
+use mathlib.Core.Option.{some}
 use mathlib.Core.List.{List, map}
 use lib.ListN.{length, getD}
 use lib.Dec.{eqb, ltb}
@@ -9,6 +11,7 @@ use Rattle.math.specs.declared.scalars.Divided.{Divided}
 use Rattle.math.specs.declared.scalars.Divided.the-variants.{Value, Failed}
 use Rattle.math.specs.Scalars.{geop, absent, ZERO, ENTIRE, couldBeEqual, unionS, addS, subS, mulS, divS}
 use Rattle.model.specs.FatLine.{offset, crossing, fatLineZeros}
+use Rattle.model.specs.Paper.{hatOf}
 use Rattle.model.specs.declared.fat_line.Hat.{Hat}
 use Rattle.model.specs.declared.fat_line.Hat.the-variants.{Over, Missing}
 use Rattle.geometry.specs.declared.zeros.Line.{Line}
@@ -20,6 +23,11 @@ paired m n = eqb m n && ltb 0 n
 -- Where the spline could be zero whose graph has the control polygon (ξ i, d i), as the search defines it. Of two lists that are no polygon nothing is known.
 unfoldable pub polygonZeros : List Scalar → List Scalar → Hat
 polygonZeros ξ d = cond (paired (length ξ) (length d)) (fatLineZeros geop ξ d) (Over ENTIRE)
+
+-- What `fat_line_zeros` promises of its answer r: it is the definition's, and on paper it is the hat of the search's definition, or the whole line of what is no polygon.
+pub record ZerosFound (ξ d : List Scalar) (r : Hat) : Type 0 where
+  pub result : r ≡ polygonZeros ξ d
+  pub paper : hatOf r ≡ cond (paired (length ξ) (length d)) (hatOf (fatLineZeros geop ξ d)) (some ENTIRE)
 
 -- How far each abscissa lies from the first.
 unfoldable pub fromFirst : List Scalar → List Scalar

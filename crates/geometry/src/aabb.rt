@@ -5,20 +5,19 @@ use crate::nurb_curve::scalar_at;
 use crate::nurb_curve::value_or_entire;
 use math::scalars::Divided;
 use math::scalars::Scalar;
+use math::scalars::greater;
+use math::scalars::lesser;
 use math::scalars::next_down;
 use math::scalars::next_up;
 use model::fat_line::Hat;
 ghost use mathlib.Core.Path.{_≡_};
-ghost use mathlib.Core.Bool.{false};
 ghost use mathlib.Core.List.{map};
 ghost use Prim.Native.Nat.{suc, _*_, _≤_, _<_};
 ghost use lib.ListN.{length};
-ghost use lib.Ieee.{isNan};
-ghost use Rattle.math.specs.Picks.{minF, maxF};
 ghost use Rattle.math.specs.Scalars.{geop, ZERO, ONE, unionS, inverseS};
 ghost use Rattle.model.specs.Vector.{coordinate};
 ghost use Rattle.model.specs.Layout.{scalarsOf, pointAt, pointsOf};
-ghost use Rattle.geometry.specs.Aabb.{corners, rawPlace};
+ghost use Rattle.geometry.specs.Aabb.{rawPlace};
 ghost use Rattle.model.specs.Aabb.{unions, place, aabb, couldOverlap, along, meets, couldMeet};
 
 // Coordinate k of point i over its weight.
@@ -29,36 +28,6 @@ fn place(points: &[f64], dim: usize, i: usize, k: usize) -> Scalar
     let x = coordinate(points, dim, i, k);
     let w = coordinate(points, dim, i, dim);
     value_or_entire(x.div(w))
-}
-
-// `min` with a first operand that is a number: one machine instruction.
-fn lesser(a: f64, b: f64) -> f64
-    requires { ⌜ isNan a ≡ false ⌝ }
-    ensures { λ r. ⌜ (r ≡ minF a b) × (isNan r ≡ false) ⌝ }
-{
-    if b < a { b } else { a }
-}
-
-// `max` with a first operand that is a number.
-fn greater(a: f64, b: f64) -> f64
-    requires { ⌜ isNan a ≡ false ⌝ }
-    ensures { λ r. ⌜ (r ≡ maxF a b) × (isNan r ≡ false) ⌝ }
-{
-    if a < b { b } else { a }
-}
-
-// The least and the greatest of the four products of the bounds of x and y: their product before it is widened.
-fn corners(x: Scalar, y: Scalar) -> Scalar
-    ensures { λ r. ⌜ r ≡ corners x y ⌝ }
-{
-    let a = x.lo * y.lo;
-    let b = x.lo * y.hi;
-    let c = x.hi * y.lo;
-    let d = x.hi * y.hi;
-    let inf = f64::from_bits(0x7ff0_0000_0000_0000);
-    let lo = lesser(lesser(lesser(lesser(inf, a), b), c), d);
-    let hi = greater(greater(greater(greater(-inf, a), b), c), d);
-    Scalar { lo, hi }
 }
 
 // A weight, beside its reciprocal.
@@ -92,7 +61,7 @@ fn raw_place(points: &[f64], dim: usize, i: usize, k: usize, w: Inverted) -> Sca
     if v.has_zero() {
         return Scalar::entire();
     }
-    corners(coordinate(points, dim, i, k), w.inverse)
+    coordinate(points, dim, i, k).corners(w.inverse)
 }
 
 // The box of a piece along axis k: the union over its points, which is widened once, since neighbours keep the order of numbers.

@@ -9,7 +9,7 @@ ghost use mathlib.Core.Bool.{true, _&&_, _||_};
 ghost use Rattle.lists.specs.Lists.{all};
 ghost use Rattle.math.specs.Scalars.{zeroF};
 ghost use Rattle.model.specs.Layout.{scalarsOf, slotWords};
-ghost use Rattle.model.specs.Call.{AllDoubles, curveOf, lent, usable, ordered, rising, multiplicityOk, knotsValid, sizesRefusal, statedWords};
+ghost use Rattle.model.specs.Call.{AllDoubles, curveOf, lent, usable, ordered, rising, multiplicityOk, knotsValid, nodesFit, sizesRefusal, statedWords};
 ghost use Rattle.geometry.specs.Call.{CurveRefused, CallRefused};
 ghost use Rattle.geometry.specs.Multiplicity.{repeatsAt, multiplicityOkAt};
 
@@ -273,6 +273,13 @@ pub(crate) fn curve_refusal(
     0
 }
 
+// 9: there are at most 4,096 nodes.
+fn nodes_fit(nodes: usize) -> bool
+    ensures { λ r. ⌜ r ≡ nodesFit nodes ⌝ }
+{
+    nodes <= 4096
+}
+
 // The words of a slot of the work area.
 pub(crate) fn slot_words(dim: usize, degree: usize, count: usize) -> usize
     requires { ⌜ (dim ≤ 3) × ((degree ≤ 7) × (count ≤ 32)) ⌝ }
@@ -288,7 +295,7 @@ pub fn stated_words(dim: usize, degree: usize, count: usize, nodes: usize) -> us
     if sizes_refusal(dim, degree, count) != 0 {
         return 0;
     }
-    if nodes > 4096 {
+    if !nodes_fit(nodes) {
         return 0;
     }
     (nodes + 3) * slot_words(dim, degree, count)
@@ -323,7 +330,7 @@ pub(crate) fn refusal(
     if number != 0 {
         return number;
     }
-    if nodes > 4096 {
+    if !nodes_fit(nodes) {
         return 9;
     }
     if stated_words(dim, degree, count, nodes) > work_len {

@@ -7,7 +7,7 @@ use math::scalars::Scalar;
 use model::fat_line::Hat;
 ghost use mathlib.Core.Path.{_≡_};
 ghost use Rattle.math.specs.Scalars.{ENTIRE};
-ghost use Rattle.geometry.specs.Zeros.{paired, polygonZeros, offBy, begun, taken, zerosOf};
+ghost use Rattle.geometry.specs.Zeros.{paired, ZerosFound, offBy, begun, taken, zerosOf};
 
 // The chord of a control polygon, and its band: the union of what the points taken in so far lie off it, or of their values where there is no chord.
 struct Line {
@@ -88,7 +88,7 @@ fn end(l: Line) -> Hat
 
 // Where the spline could be zero whose graph has the control polygon (xi i, d i): anywhere, if the slices are no polygon.
 pub fn fat_line_zeros(xi: &[Scalar], d: &[Scalar]) -> Hat
-    ensures { λ r. ⌜ r ≡ polygonZeros (now (xi .entry)) (now (d .entry)) ⌝ }
+    ensures { λ r. ⌜ ZerosFound (now (xi .entry)) (now (d .entry)) r ⌝ }
 {
     let n = d.len();
     if !paired(xi.len(), n) {

@@ -1,5 +1,5 @@
 // Reads a question from standard input and prints the answer in five lines.
-use text::answer::respond;
+use text::respond::respond;
 
 fn main() {
     let mut question = [0u8; 65537];

@@ -7,6 +7,7 @@ pub mod Mirror
 pub mod Next
 pub mod Rounding
 pub mod Operations
+pub mod Nonneg
 pub mod Least
 pub mod NextLeast
 pub mod Grid

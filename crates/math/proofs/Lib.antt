@@ -3,4 +3,5 @@ pub mod Bools
 pub mod Doubles
 pub mod Intervals
 pub mod Picks
-pub mod Roots
+pub mod Paper
+pub mod Laws

@@ -1,20 +1,26 @@
--- What the picks of `lesser`, `greater`, `below`, `above`, `mul`, `intersect` and `between` give, over plain values. Assumes nothing.
+-- What the picks of `lesser`, `greater`, `corners`, `intersect` and `between` give, over plain values. Assumes nothing.
 use mathlib.Core.Path.{_≡_, refl, sym, ap, _∙_}
-use mathlib.Core.Bool.{Bool, true, false, false≢true}
-use lib.Ieee.{Float, nan, inf, fin, binary64, isNan, lt, le, sub}
-use Rattle.math.specs.Picks.{minF, maxF}
-use Rattle.math.specs.Scalars.{geop, ONE, least4, most4, addS, subS, mulS, intersectS, isSteady, viaDelta, viaWeights, interpolateS}
+use mathlib.Core.Bool.{Bool, true, false, cond, false≢true}
+use lib.Ieee.{Float, nan, inf, fin, binary64, fits, isNan, lt, le, sub}
+use lib.Ieee.Bits.{is-false}
+use lib.Ieee.Fits.{mul-fits}
+use lib.Dec.{T}
+use Rattle.math.specs.Picks.{lesserF, greaterF, minF, maxF}
+use Rattle.math.specs.Scalars.{least4, most4, corners, addS, subS, mulS, intersectS, sameOperands}
+use Rattle.math.specs.Factors.{betweenS}
 use Rattle.math.specs.declared.scalars.Scalar.{Scalar}
+use Rattle.math.specs.declared.scalars.Fraction.{Fraction}
 use Rattle.math.proofs.Bools.{pick-yes, pick-no}
+use Rattle.math.proofs.Doubles.Least.{least-number, most-number, least-fits, most-fits}
 
--- ---- the lesser and the greater of a number and another, which is a number too
-pub left-number : (a b : Float) → lt a b ≡ true → isNan a ≡ false
+-- ---- the lesser and the greater by one comparison: one that passed had no NaN
+left-number : (a b : Float) → lt a b ≡ true → isNan a ≡ false
 unfolding lt isNan
 left-number nan b e = absurd (false≢true e)
 left-number (inf s) b e = refl
 left-number (fin s m k) b e = refl
 
-pub right-number : (a b : Float) → lt a b ≡ true → isNan b ≡ false
+right-number : (a b : Float) → lt a b ≡ true → isNan b ≡ false
 unfolding lt isNan
 right-number nan b e = absurd (false≢true e)
 right-number (inf s) nan e = absurd (false≢true e)
@@ -24,30 +30,77 @@ right-number (fin s m k) nan e = absurd (false≢true e)
 right-number (fin s m k) (inf t) e = refl
 right-number (fin s m k) (fin t n l) e = refl
 
-module _ (a b : Float) (n : isNan a ≡ false) where
-  pub lesser-yes : lt b a ≡ true → (b ≡ minF a b) × (isNan b ≡ false)
+-- b where a test passes that only numbers pass, else a: a number where a is one, and `min` or `max` where it is a number
+picked-number : (t : Bool) (a b : Float) → (t ≡ true → isNan b ≡ false) → isNan a ≡ false → isNan (cond t b a) ≡ false
+picked-number true a b h n = h refl
+picked-number false a b h n = n
+
+picked-is : (t : Bool) (a b : Float) → (t ≡ true → isNan a ≡ false) → isNan (cond t b a) ≡ false
+    → cond t b a ≡ cond (isNan a) b (cond t b a)
+picked-is true a b h n = rw (h refl)
+picked-is false a b h n = rw n
+
+module _ (a b : Float) where
+  pub lesser-is : isNan (lesserF a b) ≡ false → lesserF a b ≡ minF a b
   unfolding minF
-  lesser-yes e = (rw (n, e), left-number b a e)
+  lesser-is = picked-is (lt b a) a b (right-number b a)
 
-  pub lesser-no : lt b a ≡ false → (a ≡ minF a b) × (isNan a ≡ false)
-  unfolding minF
-  lesser-no e = (rw (n, e), n)
-
-  pub greater-yes : lt a b ≡ true → (b ≡ maxF a b) × (isNan b ≡ false)
+  pub greater-is : isNan (greaterF a b) ≡ false → greaterF a b ≡ maxF a b
   unfolding maxF
-  greater-yes e = (rw (n, e), right-number a b e)
+  greater-is = picked-is (lt a b) a b (left-number a b)
 
-  pub greater-no : lt a b ≡ false → (a ≡ maxF a b) × (isNan a ≡ false)
-  unfolding maxF
-  greater-no e = (rw (n, e), n)
+  -- with a first operand that is a number
+  pub lesser-number : isNan a ≡ false → isNan (lesserF a b) ≡ false
+  lesser-number = picked-number (lt b a) a b (left-number b a)
 
--- ---- the least and the greatest of four, by four picks
+  pub greater-number : isNan a ≡ false → isNan (greaterF a b) ≡ false
+  greater-number = picked-number (lt a b) a b (right-number a b)
+
+  pub lesser-min : isNan a ≡ false → lesserF a b ≡ minF a b
+  lesser-min n = lesser-is (lesser-number n)
+
+  pub greater-max : isNan a ≡ false → greaterF a b ≡ maxF a b
+  greater-max n = greater-is (greater-number n)
+
+-- ---- the least and the greatest of four, by four picks from a number on
+module _ (pick def : Float → Float → Float)
+    (same : (a b : Float) → isNan a ≡ false → (pick a b ≡ def a b) × (isNan (def a b) ≡ false)) where
+  step : (x y b r : Float) → (x ≡ y) × (isNan y ≡ false) → r ≡ pick x b → (r ≡ def y b) × (isNan (def y b) ≡ false)
+  step x y b r h e = let k = same y b (h .1) in (e ∙ ap (λ (z : Float). pick z b) (h .0) ∙ k .0, k .1)
+
+  four : (o a b c d p q r s : Float) → isNan o ≡ false → p ≡ pick o a → q ≡ pick p b → r ≡ pick q c → s ≡ pick r d
+      → s ≡ def (def (def (def o a) b) c) d
+  four o a b c d p q r s n e1 e2 e3 e4 = step _ _ d s (step _ _ c r (step _ _ b q (step o o a p (refl, n) e1) e2) e3) e4 .0
+
 module _ (a b c d p q r s : Float) where
-  pub least-of : p ≡ minF (inf false) a → q ≡ minF p b → r ≡ minF q c → s ≡ minF r d → s ≡ least4 a b c d
-  least-of e1 e2 e3 e4 = rw (e4, e3, e2, e1)
+  pub least-of : p ≡ lesserF (inf false) a → q ≡ lesserF p b → r ≡ lesserF q c → s ≡ lesserF r d → s ≡ least4 a b c d
+  least-of =
+      four lesserF minF (λ x y n. (lesser-min x y n, sym (ap isNan (lesser-min x y n)) ∙ lesser-number x y n))
+      (inf false) a b c d p q r s (unfold isNan in refl)
 
-  pub most-of : p ≡ maxF (inf true) a → q ≡ maxF p b → r ≡ maxF q c → s ≡ maxF r d → s ≡ most4 a b c d
-  most-of e1 e2 e3 e4 = rw (e4, e3, e2, e1)
+  pub most-of : p ≡ greaterF (inf true) a → q ≡ greaterF p b → r ≡ greaterF q c → s ≡ greaterF r d → s ≡ most4 a b c d
+  most-of =
+      four greaterF maxF (λ x y n. (greater-max x y n, sym (ap isNan (greater-max x y n)) ∙ greater-number x y n))
+      (inf true) a b c d p q r s (unfold isNan in refl)
+
+-- the bounds of a product before it is widened are numbers
+pub corners-lower : (x y : Scalar) → isNan (corners x y .lo) ≡ false
+unfolding corners
+corners-lower x y = is-false _ (least-number _ _ _ _)
+
+pub corners-upper : (x y : Scalar) → isNan (corners x y .hi) ≡ false
+unfolding corners
+corners-upper x y = is-false _ (most-number _ _ _ _)
+
+-- and doubles
+pub corners-doubles : (x y : Scalar) → T (fits binary64 (corners x y .lo)) × T (fits binary64 (corners x y .hi))
+unfolding corners
+corners-doubles x y =
+    let A = mul-fits binary64 (x .lo) (y .lo) in
+    let B = mul-fits binary64 (x .lo) (y .hi) in
+    let C = mul-fits binary64 (x .hi) (y .lo) in
+    let D = mul-fits binary64 (x .hi) (y .hi) in
+    (least-fits _ _ _ _ A B C D, most-fits _ _ _ _ A B C D)
 
 -- ---- the three answers of `intersect`
 module _ (x y : Scalar) (l h : Float) (L : l ≡ maxF (x .lo) (y .lo)) (H : h ≡ minF (x .hi) (y .hi)) where
@@ -71,12 +124,12 @@ pub sums-meet : (a m p q x y r : Scalar) → x ≡ addS a m → y ≡ addS p q �
 sums-meet a m p q x y r X Y R = R ∙ (λ i. intersectS (X i) (Y i))
 
 -- ---- the two answers of `between`: its first operand, or its calls one after the other
-pub kept : (a b t : Scalar) → isSteady a b t ≡ true → a ≡ interpolateS geop a b t
-unfolding interpolateS
-kept a b t e = pick-yes (isSteady a b t) a (intersectS (viaDelta geop a b t) (viaWeights geop a b t)) e
+module _ (a b : Scalar) (f : Fraction) where
+  pub kept : sameOperands a b (f .alpha) ≡ true → a ≡ betweenS a b f
+  unfolding betweenS
+  kept e = pick-yes _ _ _ e
 
-pub blended : (a b t u d m p q r : Scalar) → u ≡ subS ONE t → d ≡ subS b a → m ≡ mulS t d → p ≡ mulS u a → q ≡ mulS t b → r ≡ intersectS (addS a m) (addS p q) → isSteady a b t ≡ false → r ≡ interpolateS geop a b t
-unfolding interpolateS
-blended a b t u d m p q r e1 e2 e3 e4 e5 e6 e =
-    let k : r ≡ intersectS (viaDelta geop a b t) (viaWeights geop a b t) = simp (e6, e5, e4, e3, e2, e1) in
-    k ∙ pick-no (isSteady a b t) a (intersectS (viaDelta geop a b t) (viaWeights geop a b t)) e
+  pub blended : (d m p q r : Scalar) → d ≡ subS b a → m ≡ mulS (f .alpha) d → p ≡ mulS (f .beta) a → q ≡ mulS (f .alpha) b
+      → r ≡ intersectS (addS a m) (addS p q) → sameOperands a b (f .alpha) ≡ false → r ≡ betweenS a b f
+  unfolding betweenS
+  blended d m p q r D M P Q R e = R ∙ (λ i. intersectS (addS a ((M ∙ ap (mulS (f .alpha)) D) i)) (addS (P i) (Q i))) ∙ pick-no _ _ _ e

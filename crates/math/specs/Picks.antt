@@ -3,8 +3,16 @@
 use mathlib.Core.Bool.{cond}
 use lib.Ieee.{Float, isNan, lt}
 
+-- by one comparison: the first where a NaN is compared
+abbrev pub lesserF : Float → Float → Float
+lesserF a b = cond (lt b a) b a
+
+abbrev pub greaterF : Float → Float → Float
+greaterF a b = cond (lt a b) b a
+
+-- `f64::min` and `f64::max`
 unfoldable pub minF : Float → Float → Float
-minF a b = cond (isNan a) b (cond (lt b a) b a)
+minF a b = cond (isNan a) b (lesserF a b)
 
 unfoldable pub maxF : Float → Float → Float
-maxF a b = cond (isNan a) b (cond (lt a b) b a)
+maxF a b = cond (isNan a) b (greaterF a b)

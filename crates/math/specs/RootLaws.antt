@@ -1,4 +1,4 @@
--- What the rounded root r of a double x above zero is worth, among the exact numbers: the two laws that proofs/Roots/Law.antt shows for r = sqrtF x. Definitions only.
+-- What the rounded root r of a double x above zero is worth, among the exact numbers: the two laws that proofs/root/Law.antt shows for r = sqrtF x. Definitions only.
 -- Neither names √x, which need not be rational: two numbers that are not negative compare as their squares do.
 use mathlib.Core.Bool.{Bool, true, false}
 use lib.Dec.{T}

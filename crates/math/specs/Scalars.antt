@@ -49,20 +49,11 @@ ENTIRE = record { lo = inf true; hi = inf false }
 abbrev pub couldBeEqual : Scalar → Scalar → Bool
 couldBeEqual x y = le (x .lo) (y .hi) && le (y .lo) (x .hi)
 
-abbrev pub couldBeGreater : Scalar → Scalar → Bool
-couldBeGreater x y = lt (y .lo) (x .hi)
-
 abbrev pub definitelyGreater : Scalar → Scalar → Bool
 definitelyGreater x y = lt (y .hi) (x .lo)
 
-abbrev pub couldBeLess : Scalar → Scalar → Bool
-couldBeLess x y = lt (x .lo) (y .hi)
-
 abbrev pub definitelyLess : Scalar → Scalar → Bool
 definitelyLess x y = lt (x .hi) (y .lo)
-
-abbrev pub isSharp : Scalar → Bool
-isSharp x = eq (x .lo) (x .hi)
 
 abbrev pub isSubsetOf : Scalar → Scalar → Bool
 isSubsetOf x y = le (y .lo) (x .lo) && le (x .hi) (y .hi)
@@ -136,13 +127,17 @@ least4 a b c d = minF (minF (minF (minF (inf false) a) b) c) d
 abbrev pub most4 : Float → Float → Float → Float → Float
 most4 a b c d = maxF (maxF (maxF (maxF (inf true) a) b) c) d
 
-unfoldable pub mulS : Scalar → Scalar → Scalar
-mulS x y =
+-- the least and the greatest of the four products of two intervals' bounds: their product before it is widened
+unfoldable pub corners : Scalar → Scalar → Scalar
+corners x y =
     let a = mul binary64 (x .lo) (y .lo) in
     let b = mul binary64 (x .lo) (y .hi) in
     let c = mul binary64 (x .hi) (y .lo) in
     let d = mul binary64 (x .hi) (y .hi) in
-    widened (least4 a b c d) (most4 a b c d)
+    record { lo = least4 a b c d; hi = most4 a b c d }
+
+unfoldable pub mulS : Scalar → Scalar → Scalar
+mulS x y = let c = corners x y in widened (c .lo) (c .hi)
 
 -- the widened reciprocal
 unfoldable pub inverseS : Scalar → Scalar
@@ -169,8 +164,8 @@ geop = record { add = addS; sub = subS; mul = mulS; div = divS; fourFifths = fou
 -- ---- interpolate
 
 -- both are the same, and t lies in 0 to 1: every point between them is in the first
-abbrev pub isSteady : Scalar → Scalar → Scalar → Bool
-isSteady a b t = isExactly a b && inUnit t
+abbrev pub sameOperands : Scalar → Scalar → Scalar → Bool
+sameOperands a b t = isExactly a b && inUnit t
 
 -- a + t (b - a), and (1 - t) a + t b
 abbrev pub viaDelta : Arithmetic → Scalar → Scalar → Scalar → Scalar
@@ -179,6 +174,6 @@ viaDelta ar a b t = ar .add a (ar .mul t (ar .sub b a))
 abbrev pub viaWeights : Arithmetic → Scalar → Scalar → Scalar → Scalar
 viaWeights ar a b t = ar .add (ar .mul (ar .sub ONE t) a) (ar .mul t b)
 
--- the first operand where it is steady, else the meeting of the two forms
+-- the first operand where `sameOperands` says so, else the meeting of the two forms
 unfoldable pub interpolateS : Arithmetic → Scalar → Scalar → Scalar → Scalar
-interpolateS ar a b t = cond (isSteady a b t) a (intersectS (viaDelta ar a b t) (viaWeights ar a b t))
+interpolateS ar a b t = cond (sameOperands a b t) a (intersectS (viaDelta ar a b t) (viaWeights ar a b t))

@@ -4,9 +4,12 @@ ghost use mathlib.Core.Path.{_≡_};
 ghost use mathlib.Core.Bool.{true, false};
 ghost use lib.Ieee.{isNan};
 ghost use Rattle.math.specs.Neighbours.{nextUp, nextDown};
-ghost use Rattle.math.specs.Picks.{minF, maxF};
-ghost use Rattle.math.specs.Scalars.{geop, ENTIRE, sharp, middle, widthS, fromRatio, addS, subS, mulS, divS, inverseS, hasZero, couldBeEqual, couldBeGreater, definitelyGreater, couldBeLess, definitelyLess, isSharp, isSubsetOf, isExactly, inUnit, isSteady, unionS, intersectS, interpolateS};
-ghost use Rattle.math.specs.Factors.{isFactor, inOrder, fractionOf, isTame};
+ghost use Rattle.math.specs.Picks.{lesserF, greaterF, minF, maxF};
+ghost use Rattle.math.specs.Scalars.{geop, ENTIRE, sharp, middle, widthS, addS, subS, corners, mulS, inverseS};
+ghost use Rattle.math.specs.Scalars.{unionS, intersectS, interpolateS};
+ghost use Rattle.math.specs.Scalars.{hasZero, couldBeEqual, definitelyGreater, definitelyLess, isSubsetOf, isExactly, inUnit, sameOperands};
+ghost use Rattle.math.specs.Paper.{Divides, IsRatio};
+ghost use Rattle.math.specs.Factors.{isFactor, inOrder, allInOrder, fractionOf, betweenS};
 
 // The neighbouring f64 above a number: 2^-1074 from either zero; the positive infinity stays. The bits go one up from zero on, and one down below it.
 fn up(x: f64) -> f64
@@ -70,6 +73,20 @@ pub fn is_nan(x: f64) -> bool
     x != x
 }
 
+// The lesser of two by one comparison, which is one machine instruction: the first where a NaN is compared.
+pub fn lesser(a: f64, b: f64) -> f64
+    ensures { λ r. ⌜ r ≡ lesserF a b ⌝ }
+{
+    if b < a { b } else { a }
+}
+
+// The greater of two, by the same rule.
+pub fn greater(a: f64, b: f64) -> f64
+    ensures { λ r. ⌜ r ≡ greaterF a b ⌝ }
+{
+    if a < b { b } else { a }
+}
+
 // The lesser of two: a NaN is passed over where the other is a number, and of two equal ones it is the first.
 pub fn min(a: f64, b: f64) -> f64
     ensures { λ r. ⌜ r ≡ minF a b ⌝ }
@@ -77,7 +94,7 @@ pub fn min(a: f64, b: f64) -> f64
     if a != a {
         return b;
     }
-    if b < a { b } else { a }
+    lesser(a, b)
 }
 
 // The greater of two, by the same rules.
@@ -87,37 +104,7 @@ pub fn max(a: f64, b: f64) -> f64
     if a != a {
         return b;
     }
-    if a < b { b } else { a }
-}
-
-// `min` with a first operand that is a number: one machine instruction.
-fn lesser(a: f64, b: f64) -> f64
-    requires { ⌜ isNan a ≡ false ⌝ }
-    ensures { λ r. ⌜ (r ≡ minF a b) × (isNan r ≡ false) ⌝ }
-{
-    if b < a { b } else { a }
-}
-
-// `max` with a first operand that is a number.
-fn greater(a: f64, b: f64) -> f64
-    requires { ⌜ isNan a ≡ false ⌝ }
-    ensures { λ r. ⌜ (r ≡ maxF a b) × (isNan r ≡ false) ⌝ }
-{
-    if a < b { b } else { a }
-}
-
-// The same instruction for any two operands: a number that it gives is their `min`.
-fn below(a: f64, b: f64) -> f64
-    ensures { λ r. ⌜ (isNan r ≡ false → r ≡ minF a b) ⌝ }
-{
-    if b < a { b } else { a }
-}
-
-// And so for `max`.
-fn above(a: f64, b: f64) -> f64
-    ensures { λ r. ⌜ (isNan r ≡ false → r ≡ maxF a b) ⌝ }
-{
-    if a < b { b } else { a }
+    greater(a, b)
 }
 
 // An interval from lo to hi.
@@ -132,8 +119,6 @@ pub struct Fraction {
     pub alpha: Scalar,
     // 1 - alpha.
     pub beta: Scalar,
-    // Products by alpha and beta keep the order of what they multiply.
-    pub gentle: bool,
 }
 
 // What a division gives: an interval, or nothing, where the divisor holds zero.
@@ -166,7 +151,7 @@ impl Scalar {
 
     // num / den, widened. Fails where den is 0.
     pub fn from_ratio(num: u32, den: u32) -> Divided
-        ensures { λ r. ⌜ r ≡ fromRatio num den ⌝ }
+        ensures { λ r. ⌜ IsRatio num den r ⌝ }
     {
         if den == 0 {
             return Divided::Failed;
@@ -203,8 +188,9 @@ impl Scalar {
         }
     }
 
-    pub fn mul(self, other: Scalar) -> Scalar
-        ensures { λ r. ⌜ r ≡ mulS self other ⌝ }
+    // The least and the greatest of the four products of the bounds: the product before it is widened.
+    pub fn corners(self, other: Scalar) -> Scalar
+        ensures { λ r. ⌜ r ≡ corners self other ⌝ }
     {
         let a = self.lo * other.lo;
         let b = self.lo * other.hi;
@@ -213,9 +199,16 @@ impl Scalar {
         let inf = f64::from_bits(0x7ff0_0000_0000_0000);
         let lo = lesser(lesser(lesser(lesser(inf, a), b), c), d);
         let hi = greater(greater(greater(greater(-inf, a), b), c), d);
+        Scalar { lo, hi }
+    }
+
+    pub fn mul(self, other: Scalar) -> Scalar
+        ensures { λ r. ⌜ r ≡ mulS self other ⌝ }
+    {
+        let c = self.corners(other);
         Scalar {
-            lo: down(lo),
-            hi: up(hi),
+            lo: down(c.lo),
+            hi: up(c.hi),
         }
     }
 
@@ -238,7 +231,7 @@ impl Scalar {
 
     // Fails where the divisor holds zero.
     pub fn div(self, other: Scalar) -> Divided
-        ensures { λ r. ⌜ r ≡ divS self other ⌝ }
+        ensures { λ r. ⌜ Divides self other r ⌝ }
     {
         if other.has_zero() {
             return Divided::Failed;
@@ -252,35 +245,16 @@ impl Scalar {
         self.lo <= other.hi && other.lo <= self.hi
     }
 
-    pub fn could_be_greater(self, other: Scalar) -> bool
-        ensures { λ r. ⌜ r ≡ couldBeGreater self other ⌝ }
-    {
-        self.hi > other.lo
-    }
-
     pub fn definitely_greater(self, other: Scalar) -> bool
         ensures { λ r. ⌜ r ≡ definitelyGreater self other ⌝ }
     {
         self.lo > other.hi
     }
 
-    pub fn could_be_less(self, other: Scalar) -> bool
-        ensures { λ r. ⌜ r ≡ couldBeLess self other ⌝ }
-    {
-        self.lo < other.hi
-    }
-
     pub fn definitely_less(self, other: Scalar) -> bool
         ensures { λ r. ⌜ r ≡ definitelyLess self other ⌝ }
     {
         self.hi < other.lo
-    }
-
-    // It is a single value.
-    pub fn is_sharp(self) -> bool
-        ensures { λ r. ⌜ r ≡ isSharp self ⌝ }
-    {
-        self.lo == self.hi
     }
 
     // hi - lo, rounded and never below zero, as a single value.
@@ -354,9 +328,9 @@ impl Scalar {
         self.lo >= 0.0 && self.hi <= 1.0
     }
 
-    // Every point between a and b is a itself.
-    fn steady(a: Scalar, b: Scalar, alpha: Scalar) -> bool
-        ensures { λ r. ⌜ r ≡ isSteady a b alpha ⌝ }
+    // a and b are the same, and alpha lies in 0 to 1: every point between them is a itself.
+    fn same_operands(a: Scalar, b: Scalar, alpha: Scalar) -> bool
+        ensures { λ r. ⌜ r ≡ sameOperands a b alpha ⌝ }
     {
         a.is_exactly(b) && alpha.in_unit()
     }
@@ -397,11 +371,11 @@ impl Scalar {
     }
 
     // What a + m and p + q have in common: where the sums meet before they are widened, each bound is widened once, after the pick.
-    fn common(a: Scalar, m: Scalar, p: Scalar, q: Scalar) -> Scalar
+    fn meet_of_sums(a: Scalar, m: Scalar, p: Scalar, q: Scalar) -> Scalar
         ensures { λ r. ⌜ r ≡ intersectS (addS a m) (addS p q) ⌝ }
     {
-        let lo = above(a.lo + m.lo, p.lo + q.lo);
-        let hi = below(a.hi + m.hi, p.hi + q.hi);
+        let lo = greater(a.lo + m.lo, p.lo + q.lo);
+        let hi = lesser(a.hi + m.hi, p.hi + q.hi);
         if lo <= hi {
             return Scalar {
                 lo: down(lo),
@@ -416,39 +390,34 @@ impl Scalar {
         ensures { λ r. ⌜ r ≡ fractionOf alpha ⌝ }
     {
         let beta = Scalar::ONE.sub(alpha);
-        let gentle = alpha.is_factor() && beta.is_factor();
-        Fraction {
-            alpha,
-            beta,
-            gentle,
-        }
+        Fraction { alpha, beta }
     }
 
-    // The fraction is gentle, and what `between` multiplies by it is in order: diff is b - a before it is widened.
-    fn tame(gentle: bool, a: Scalar, b: Scalar, diff: Scalar) -> bool
-        ensures { λ r. ⌜ r ≡ isTame gentle a b diff ⌝ }
+    // Alpha and beta are factors, and what `between` multiplies by them is in order: diff is b - a before it is widened.
+    fn all_in_order(alpha: Scalar, beta: Scalar, a: Scalar, b: Scalar, diff: Scalar) -> bool
+        ensures { λ r. ⌜ r ≡ allInOrder alpha beta a b diff ⌝ }
     {
-        gentle && a.in_order() && b.in_order() && diff.in_order()
+        alpha.is_factor() && beta.is_factor() && a.in_order() && b.in_order() && diff.in_order()
     }
 
-    // `interpolate`, for a caller that has the fraction at hand. Where `tame` says so it goes the short way, with products by factors.
+    // `interpolate`, for a caller that has the fraction at hand. Where `all_in_order` says so it goes the short way, with
+    // products by factors.
     pub fn between(a: Scalar, b: Scalar, f: Fraction) -> Scalar
-        requires { ⌜ f ≡ fractionOf (f .alpha) ⌝ }
-        ensures { λ r. ⌜ r ≡ interpolateS geop a b (f .alpha) ⌝ }
+        ensures { λ r. ⌜ r ≡ betweenS a b f ⌝ }
     {
         let alpha = f.alpha;
         let beta = f.beta;
-        if Scalar::steady(a, b, alpha) {
+        if Scalar::same_operands(a, b, alpha) {
             return a;
         }
         let lo = b.lo - a.hi;
         let hi = b.hi - a.lo;
-        if Scalar::tame(f.gentle, a, b, Scalar { lo, hi }) {
+        if Scalar::all_in_order(alpha, beta, a, b, Scalar { lo, hi }) {
             let delta = Scalar {
                 lo: down(lo),
                 hi: up(hi),
             };
-            return Scalar::common(a, alpha.scale(delta), beta.scale(a), alpha.scale(b));
+            return Scalar::meet_of_sums(a, alpha.scale(delta), beta.scale(a), alpha.scale(b));
         }
         let via_delta = a.add(alpha.mul(b.sub(a)));
         let via_weights = beta.mul(a).add(alpha.mul(b));

@@ -120,7 +120,7 @@ module _ (ar : Arithmetic) (c : Call) (m words : ℕ) where
 
 -- ---- the checks
 still : (c : Call) (m words : ℕ) → Larger c m words → Accepted c → Accepted (withNodes c m words)
-unfolding nodesFit areaFits
+unfolding areaFits
 still c m words w e = accepted-by (withNodes c m words) (curve-accepted c e) (le→leb m 4096 (w .most)) (le→leb (stated (withNodes c m words)) words (w .long))
 
 -- ---- THE LAW

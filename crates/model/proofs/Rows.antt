@@ -10,7 +10,7 @@ use Rattle.math.specs.declared.scalars.Scalar.{Scalar}
 use Rattle.math.specs.Neighbours.{nextUp, nextDown}
 use Rattle.math.specs.Picks.{minF, maxF}
 use Rattle.math.specs.Root.{rootIn, root, nearestRoot, rootOf, sqrtF}
-use Rattle.math.specs.Scalars.{sharp, unionS, intersectS, middle, widthS, valueOr, addS, subS, mulS, inverseS, divS, fourFifthsS, geop, interpolateS}
+use Rattle.math.specs.Scalars.{sharp, unionS, intersectS, middle, widthS, valueOr, addS, subS, corners, mulS, inverseS, divS, fourFifthsS, geop, interpolateS}
 use Rattle.model.specs.Vector.{interpolateV}
 use Rattle.model.specs.NurbCurve.{domain, inDomain, midParameter, weightsPositive}
 use Rattle.model.specs.KnotInsertion.{highest, insertionSpan, alpha, blend, knotsWith, pointsWith, insertOnce, insertTimes, isBezier, level, triangle, sides, bezierKnots, bezierCut, boehmCut, cutBy, fullCut}
@@ -84,7 +84,7 @@ number b = sharp (ofBits binary64 b)
 -- What the row says is what the definitions give. All of them are open here, so that each row is decided by computation.
 unfoldable pub right : Row → Bool
 unfolding zipWith add sub mul div lt le eq isNan neg ofInt toBits ofBits
-    nextUp nextDown minF maxF rootIn root nearestRoot rootOf sqrtF unionS intersectS middle widthS valueOr addS subS mulS inverseS divS fourFifthsS interpolateS
+    nextUp nextDown minF maxF rootIn root nearestRoot rootOf sqrtF unionS intersectS middle widthS valueOr addS subS corners mulS inverseS divS fourFifthsS interpolateS
     all count position foldl
     interpolateV domain inDomain midParameter weightsPositive
     highest insertionSpan alpha blend knotsWith pointsWith insertOnce insertTimes isBezier level triangle sides bezierKnots bezierCut boehmCut cutBy fullCut
@@ -93,7 +93,7 @@ unfolding zipWith add sub mul div lt le eq isNan neg ofInt toBits ofBits
     abscissa greville crossing zerosBy fatLineZeros cartesian distance distances pathLength extent toF64 widest carriedBy carriedWidth restricts halves
     positiveZero joined complete after ended step stop advance answered
     axis narrowed clip carried handOn handBoth shrink clipped visit couldContain
-    pointAt pointsOf slotWords dimFits degreeFits countFits lengthsFit numbersUsable boundsOrdered weightsFit rising multiplicityOk knotsValid knotsFit nodesFit stated areaFits firstFailed orElse sizesRefusal curveRefusal refusal searchedBy searched
+    pointAt pointsOf slotWords dimFits degreeFits countFits lengthsFit numbersUsable boundsOrdered weightsFit rising multiplicityOk knotsValid knotsFit stated areaFits firstFailed orElse sizesRefusal curveRefusal refusal searchedBy searched
 right (prints t expected) = alike (printed (paper (searched geop (callOf t)))) expected
 right (sums a b lo hi) = alike (ends (some (addS (number a) (number b)))) (lo ∷ hi ∷ [])
 right (products a b lo hi) = alike (ends (some (mulS (number a) (number b)))) (lo ∷ hi ∷ [])

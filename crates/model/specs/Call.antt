@@ -133,7 +133,7 @@ knotsFit v = knotsValid (v .degree) (v .count) (v .knots)
 -- ---- the nodes and the work area
 
 -- 9: nodes is at most 4,096.
-unfoldable pub nodesFit : ℕ → Bool
+abbrev pub nodesFit : ℕ → Bool
 nodesFit nodes = leb nodes 4096
 
 -- Document 01: how many are the stated words of the work area.

@@ -11,12 +11,12 @@ use mathlib.Core.Option.{Option, none, some}
 use lib.ListN.{length, getD, take, drop}
 use lib.Dec.{eqb}
 use lib.IntN.{pos}
-use lib.Ieee.{Float, binary64, lt, eq, ofInt}
+use lib.Ieee.{Float, binary64, eq, ofInt}
 use Rattle.lists.specs.Lists.{lastD, all, position}
 use Rattle.math.specs.declared.scalars.Scalar.{Scalar}
 use Rattle.math.specs.declared.scalars.Divided.{Divided}
 use Rattle.math.specs.declared.scalars.Divided.the-variants.{Value, Failed}
-use Rattle.math.specs.Scalars.{geop, absent, ZERO, ONE, TWO, ENTIRE, couldBeEqual, isSame, hasZero, valueOr, middle}
+use Rattle.math.specs.Scalars.{geop, sharp, absent, ZERO, ONE, TWO, ENTIRE, couldBeEqual, definitelyGreater, definitelyLess, isSame, hasZero, valueOr, middle}
 use Rattle.model.specs.Tested as tested
 use Rattle.model.specs.Tested.{Tested, fine, _>>=_}
 use Rattle.model.specs.Vector.{Vector, coordinate}
@@ -270,10 +270,10 @@ unfoldable pub restricts : Float → Float → Scalar → Float → Float → Te
 restricts a b hat size carried = do
   s ← tested.sharp size
   c ← tested.sharp carried
-  cond (lt (c .hi) (s .lo)) (do
+  cond (definitelyGreater s c) (do
     most ← tested.mul (← tested.width (← domain a b)) (← tested.fourFifths)
     w ← tested.width hat
-    cond (lt (w .hi) (most .lo)) (do
+    cond (definitelyLess w most) (do
       l ← tested.sharp (hat .lo)
       cond (inDomain a b (l .lo)) (fine true) (do
         h ← tested.sharp (hat .hi)
@@ -284,12 +284,12 @@ unfoldable pub halves : Float → Float → Float → Float → Float → Tested
 halves a b size carried resolution = do
   limit ← tested.sharp ((← tested.union (← tested.sharp carried) (← tested.sharp resolution)) .hi)
   s ← tested.sharp size
-  cond (lt (limit .hi) (s .lo)) (do
+  cond (definitelyGreater s limit) (do
     s ← tested.sharp size
     c ← tested.sharp carried
-    cond (lt (c .hi) (s .lo)) (do
+    cond (definitelyGreater s c) (do
       w ← tested.width (← domain a b)
-      fine (lt resolution (w .lo))) (fine false)) (fine false)
+      fine (definitelyGreater w (sharp resolution))) (fine false)) (fine false)
 
 -- ---- contains/curve.rs
 

@@ -5,14 +5,14 @@ use mathlib.Core.List.{List, [], _∷_, map, zipWith}
 use mathlib.Core.Option.{Option, none, some}
 use lib.ListN.{getD}
 use lib.IntN.{pos}
-use lib.Ieee.{Float, binary64, add, sub, mul, div, lt, ofInt}
+use lib.Ieee.{Float, binary64, add, sub, mul, div, ofInt}
 use Rattle.lists.specs.Lists.{part, tab, lastD, foldl}
 use Rattle.math.specs.declared.scalars.Scalar.{Scalar}
 use Rattle.math.specs.declared.scalars.Divided.{Divided}
 use Rattle.math.specs.declared.scalars.Divided.the-variants.{Value, Failed}
 use Rattle.math.specs.Picks.{maxF}
 use Rattle.math.specs.Root.{sqrtF}
-use Rattle.math.specs.Scalars.{Arithmetic, zeroF, sharp, absent, ZERO, ENTIRE, couldBeEqual, unionS, middle, widthS, valueOr}
+use Rattle.math.specs.Scalars.{Arithmetic, zeroF, sharp, absent, ZERO, ENTIRE, couldBeEqual, definitelyGreater, definitelyLess, unionS, middle, widthS, valueOr}
 use Rattle.model.specs.Vector.{Vector, coordinate}
 use Rattle.model.specs.NurbCurve.{domain, inDomain}
 use Rattle.model.specs.Aabb.{unions}
@@ -111,10 +111,13 @@ carriedWidth dim points = foldl (λ w q. carriedBy dim w q) zeroF points
 -- hat is held to the lower bound of the product.
 unfoldable pub restricts : Arithmetic → Float → Float → Scalar → Float → Float → Bool
 restricts ar a b hat size carried =
-    lt carried size
-    && lt (widthS hat) (ar .mul (sharp (widthS (domain a b))) (ar .fourFifths) .lo)
+    definitelyGreater (sharp size) (sharp carried)
+    && definitelyLess (sharp (widthS hat)) (ar .mul (sharp (widthS (domain a b))) (ar .fourFifths))
     && (inDomain a b (hat .lo) || inDomain a b (hat .hi))
 
 -- stalled: the piece is to be halved. The size definitely exceeds the resolution and the carried width, and the domain's width the resolution.
 unfoldable pub halves : Float → Float → Float → Float → Float → Bool
-halves a b size carried resolution = lt (maxF carried resolution) size && lt carried size && lt resolution (widthS (domain a b))
+halves a b size carried resolution =
+    definitelyGreater (sharp size) (sharp (maxF carried resolution))
+    && definitelyGreater (sharp size) (sharp carried)
+    && definitelyGreater (sharp (widthS (domain a b))) (sharp resolution)

@@ -3,10 +3,10 @@ use Prim.Native.Nat.{ℕ}
 use mathlib.Core.Bool.{Bool, _&&_}
 use mathlib.Core.List.{List, []}
 use lib.ListN.{length, getD}
-use lib.Ieee.{Float, nan, lt}
+use lib.Ieee.{Float, nan}
 use Rattle.lists.specs.Lists.{all}
 use Rattle.math.specs.declared.scalars.Scalar.{Scalar}
-use Rattle.math.specs.Scalars.{Arithmetic, zeroF, sharp, TWO, ENTIRE, unionS, middle, valueOr}
+use Rattle.math.specs.Scalars.{Arithmetic, sharp, ZERO, TWO, ENTIRE, definitelyGreater, definitelyLess, unionS, middle, valueOr}
 use Rattle.model.specs.Vector.{Vector, coordinate}
 
 -- A piece is its sharp knots and its control points: n points of degree p have n + p + 1 knots.
@@ -36,9 +36,9 @@ end c = knot (c .knots) (length (c .points))
 unfoldable pub domain : Float → Float → Scalar
 domain a b = unionS (sharp a) (sharp b)
 
--- The parameter t lies strictly inside the domain, which for sharp values is `definitely`.
+-- The parameter t lies strictly inside the domain.
 unfoldable pub inDomain : Float → Float → Float → Bool
-inDomain a b t = lt a t && lt t b
+inDomain a b t = definitelyGreater (sharp t) (sharp a) && definitelyLess (sharp t) (sharp b)
 
 -- mid_parameter: the middle of the interval (a + b) / 2. The division by two never fails.
 unfoldable pub midParameter : Arithmetic → Float → Float → Float
@@ -46,4 +46,4 @@ midParameter ar a b = middle (valueOr (ar .div (ar .add (sharp a) (sharp b)) TWO
 
 -- Every weight's lo is above 0. Where this fails for a piece that a cut hands on, the refusal is 11 (document 01).
 unfoldable pub weightsPositive : ℕ → List Vector → Bool
-weightsPositive dim points = all (λ q. lt zeroF (coordinate q dim .lo)) points
+weightsPositive dim points = all (λ q. definitelyGreater (coordinate q dim) ZERO) points

@@ -1,9 +1,7 @@
--- Document 01's word, number and values for each case of an answer that is an enum: of the search, of a clip, and of a division. Definitions only.
+-- Document 01's word, number and values for each case of an answer that is an enum: of the search, and of a clip. (Of a division: crates/math/specs/Paper.antt.) Definitions only.
 use Prim.Native.Nat.{ℕ}
 use mathlib.Core.Option.{Option, none, some}
 use Rattle.math.specs.declared.scalars.Scalar.{Scalar}
-use Rattle.math.specs.declared.scalars.Divided.{Divided}
-use Rattle.math.specs.declared.scalars.Divided.the-variants.{Value, Failed}
 use Rattle.model.specs.declared.contains.Found.{Found}
 use Rattle.model.specs.declared.contains.Found.the-variants.{Nothing, Enclosed, Spent, Refused}
 use Rattle.model.specs.declared.fat_line.Hat.{Hat}
@@ -34,8 +32,3 @@ paper (Refused n v) = record { result = refused n; visited = v; pending = 0; bou
 abbrev pub hatOf : Hat → Option Scalar
 hatOf (Over t) = some t
 hatOf Missing = none
-
--- The answer of a division: the quotient, or an error, where the divisor holds zero.
-abbrev pub quotientOf : Divided → Option Scalar
-quotientOf (Value x) = some x
-quotientOf Failed = none

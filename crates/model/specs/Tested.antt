@@ -10,7 +10,7 @@ use Rattle.math.specs.declared.scalars.Divided.{Divided}
 use Rattle.math.specs.declared.scalars.Divided.the-variants.{Value, Failed}
 use Rattle.math.specs.Neighbours.{nextUp, nextDown}
 use Rattle.math.specs.Picks.{minF, maxF}
-use Rattle.math.specs.Scalars.{oneF, ONE, hasZero, least4, most4, ratioOf, widthS, isSteady}
+use Rattle.math.specs.Scalars.{oneF, ONE, hasZero, corners, ratioOf, widthS, sameOperands}
 
 infixr 10 _>>=_
 -- ---- a value, or a test that has fired
@@ -81,12 +81,7 @@ unfoldable pub sub : Scalar → Scalar → Tested Scalar
 sub x y = widened (ieee.sub binary64 (x .lo) (y .hi)) (ieee.sub binary64 (x .hi) (y .lo))
 
 unfoldable pub mul : Scalar → Scalar → Tested Scalar
-mul x y =
-    let a = ieee.mul binary64 (x .lo) (y .lo) in
-    let b = ieee.mul binary64 (x .lo) (y .hi) in
-    let c = ieee.mul binary64 (x .hi) (y .lo) in
-    let d = ieee.mul binary64 (x .hi) (y .hi) in
-    widened (least4 a b c d) (most4 a b c d)
+mul x y = let c = corners x y in widened (c .lo) (c .hi)
 
 -- The reciprocal in `div`, which is an interval of its own.
 unfoldable pub inverse : Scalar → Tested Scalar
@@ -118,5 +113,5 @@ intersect x y =
 -- The first operand where both are the same; else the two forms, and what lies in both.
 unfoldable pub interpolate : Scalar → Scalar → Scalar → Tested Scalar
 interpolate a b t =
-    cond (isSteady a b t) (fine a)
+    cond (sameOperands a b t) (fine a)
     (do intersect (← add a (← mul t (← sub b a))) (← add (← mul (← sub ONE t) a) (← mul t b)))

@@ -1,5 +1,5 @@
 // Answers the questions in the files whose names are its arguments: texts one behind the other, a byte 0 behind each. It prints the answers in that order.
-use text::answer::respond;
+use text::respond::respond;
 ghost use Prim.Native.Nat.{_≤_};
 ghost use lib.ListN.{length};
 

@@ -1,6 +1,6 @@
 -- Texts as lists of bytes, and what is read from the front of one. Definitions only.
 use Prim.Native.Nat.{ℕ}
-use Prim.Native.Char.{Char, code}
+use Prim.Native.Char.{code}
 use Prim.Native.String as quoted
 use Prim.Native.String.{String}
 use mathlib.Core.List.{List, [], _∷_}

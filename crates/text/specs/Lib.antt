@@ -2,7 +2,7 @@
 pub mod Bytes
 pub mod Numerals
 pub mod Question
-pub mod Answer
-pub mod Places
+pub mod Respond
+pub mod Cursor
 pub mod Printable
 pub mod Counts

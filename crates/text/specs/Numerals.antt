@@ -1,4 +1,6 @@
--- Document 01: "Small numbers are decimal without leading zeros; doubles are the 16 hexadecimal digits of their bits, either case." How they are read, and how they are written. Definitions only.
+-- Document 01: "Small numbers are decimal without leading zeros;
+-- doubles are the 16 hexadecimal digits of their bits, either case."
+-- How they are read, and how they are written. Definitions only.
 use Prim.Native.Nat.{ℕ, zero, suc, _+_, _-_, _*_, _/_, _%_}
 use mathlib.Core.Bool.{Bool, cond, not, _&&_, _||_}
 use mathlib.Core.List.{List, [], _∷_, _++_}
@@ -7,6 +9,10 @@ use lib.Dec.{leb, eqb}
 use lib.Ieee.{Float, nan, binary64, nanBits, ofBits, toBits}
 use Rattle.lists.specs.Lists.{all, foldl}
 use Rattle.text.specs.Bytes.{Read, bad, got}
+
+-- The number that some digits are in a base, where `value` is what one digit counts.
+unfoldable pub inBase : ℕ → (ℕ → ℕ) → List ℕ → ℕ
+inBase base value ds = foldl (λ n b. base * n + value b) 0 ds
 
 -- ---- small numbers
 
@@ -20,8 +26,8 @@ digits [] = 0
 digits (b ∷ t) = let n = digits t in cond (isDigit b) (suc n) 0
 
 -- The number that some digits are.
-unfoldable pub decimalOf : List ℕ → ℕ
-decimalOf ds = foldl (λ n b. 10 * n + (b - 48)) 0 ds
+abbrev pub decimalOf : List ℕ → ℕ
+decimalOf ds = inBase 10 (λ b. b - 48) ds
 
 -- So many digits are a small number: one to nine, and no leading zero.
 abbrev pub isSmall : ℕ → List ℕ → Bool
@@ -35,23 +41,30 @@ small t = let n = digits t in cond (isSmall n t) (got (decimalOf (take n t)) (dr
 
 -- The value of a hexadecimal digit of either case, and 16 for any other byte.
 unfoldable pub nibble : ℕ → ℕ
-nibble b = cond (isDigit b) (b - 48) (cond (leb 97 b && leb b 102) (b - 87) (cond (leb 65 b && leb b 70) (b - 55) 16))
+nibble b =
+    cond (isDigit b) (b - 48)
+    (cond (leb 97 b && leb b 102) (b - 87)
+    (cond (leb 65 b && leb b 70) (b - 55) 16))
 
 -- The byte is a hexadecimal digit.
 abbrev pub isHex : ℕ → Bool
 isHex b = leb (nibble b) 15
 
 -- The number that some hexadecimal digits are.
-unfoldable pub hexOf : List ℕ → ℕ
-hexOf ds = foldl (λ n b. 16 * n + nibble b) 0 ds
+abbrev pub hexOf : List ℕ → ℕ
+hexOf ds = inBase 16 nibble ds
 
 -- The double of these bits. There is one NaN, whatever its bits are.
 unfoldable pub doubleOf : ℕ → Float
 doubleOf b = cond (nanBits binary64 b) nan (ofBits binary64 b)
 
+-- A text begins with sixteen hexadecimal digits.
+abbrev pub isDouble : List ℕ → Bool
+isDouble t = leb 16 (length t) && all isHex (take 16 t)
+
 -- A double: sixteen hexadecimal digits.
 unfoldable pub double : List ℕ → Read Float
-double t = cond (leb 16 (length t) && all isHex (take 16 t)) (got (doubleOf (hexOf (take 16 t))) (drop 16 t)) bad
+double t = cond (isDouble t) (got (doubleOf (hexOf (take 16 t))) (drop 16 t)) bad
 
 -- ---- how they are written
 

@@ -1,11 +1,12 @@
--- The text of a question (document 01, 'The program gripcheck'): its lines, and when it is refused by 1, 2, 3 or 12. Definitions only.
+-- The text of a question (document 01, 'The program gripcheck'): its lines, and when it is refused by 1, 2, 3 or 12.
+-- Definitions only.
 use Prim.Native.Nat.{ℕ, zero, suc, _+_, _*_}
 use mathlib.Core.Bool.{cond, _&&_}
 use mathlib.Core.List.{List, [], _∷_, _++_}
 use lib.ListN.{length, getD}
 use lib.Dec.{leb, eqb}
 use lib.Ieee.{Float, nan}
-use Rattle.model.specs.Call.{Call, dimFits, degreeFits, countFits}
+use Rattle.model.specs.Call.{Call, lent, sizesRefusal}
 use Rattle.text.specs.Bytes.{bytes, Read, bad, got, then, word}
 use Rattle.text.specs.Numerals.{small, double}
 
@@ -21,7 +22,11 @@ space = 32
 
 -- A line of a key and a small number.
 unfoldable pub smallLine : List ℕ → List ℕ → Read ℕ
-smallLine key t = then (word key t) (λ _ a. then (small a) (λ n b. then (word (newline ∷ []) b) (λ _ rest. got n rest)))
+smallLine key t =
+    then (word key t) (λ _ a.
+    then (small a) (λ n b.
+    then (word (newline ∷ []) b) (λ _ rest.
+    got n rest)))
 
 -- What stands behind a value, where so many follow it.
 abbrev pub behind : ℕ → ℕ
@@ -31,7 +36,11 @@ behind (suc n) = space
 -- n doubles, with a space between two of them and a newline behind the last.
 unfoldable pub values : ℕ → List ℕ → Read (List Float)
 values zero t = got [] t
-values (suc n) t = then (double t) (λ x a. then (word (behind n ∷ []) a) (λ _ b. then (values n b) (λ xs rest. got (x ∷ xs) rest)))
+values (suc n) t =
+    then (double t) (λ x a.
+    then (word (behind n ∷ []) a) (λ _ b.
+    then (values n b) (λ xs rest.
+    got (x ∷ xs) rest)))
 
 -- A line of a key and n doubles.
 unfoldable pub line : List ℕ → ℕ → List ℕ → Read (List Float)
@@ -50,14 +59,31 @@ pub record Sizes : Type 0 where
   pub degree : ℕ
   pub count : ℕ
 
+-- The sizes that are these numbers.
+abbrev pub sizesOf : ℕ → ℕ → ℕ → Sizes
+sizesOf dim degree count = record { dim = dim; degree = degree; count = count }
+
+-- The first three lines.
 unfoldable pub sizes : List ℕ → Read Sizes
 sizes t =
     then (smallLine (bytes "dim=") t) (λ dim a.
     then (smallLine (bytes "degree=") a) (λ degree b.
     then (smallLine (bytes "count=") b) (λ count rest.
-    got (record { dim = dim; degree = degree; count = count }) rest)))
+    got (sizesOf dim degree count) rest)))
 
 -- ---- the other lines
+
+-- How many doubles the line of the knots has.
+abbrev pub knotDoubles : Sizes → ℕ
+knotDoubles s = s .count + s .degree + 1
+
+-- How many the line of a point has.
+abbrev pub pointDoubles : Sizes → ℕ
+pointDoubles s = 2 * suc (s .dim)
+
+-- How many the line of the box has.
+abbrev pub boxDoubles : Sizes → ℕ
+boxDoubles s = 2 * s .dim
 
 -- What the other lines say.
 pub record Numbers : Type 0 where
@@ -67,14 +93,21 @@ pub record Numbers : Type 0 where
   pub points : List Float
   pub box : List Float
 
+-- The other lines, in their order.
 unfoldable pub numbers : Sizes → List ℕ → Read Numbers
 numbers s t =
     then (smallLine (bytes "nodes=") t) (λ nodes a.
     then (line (bytes "resolution=") 1 a) (λ resolution b.
-    then (line (bytes "knots=") (s .count + s .degree + 1) b) (λ knots c.
-    then (lines (bytes "point=") (2 * suc (s .dim)) (s .count) c) (λ points d.
-    then (line (bytes "box=") (2 * s .dim) d) (λ box rest.
-    got (record { nodes = nodes; resolution = getD resolution 0 nan; knots = knots; points = points; box = box }) rest)))))
+    then (line (bytes "knots=") (knotDoubles s) b) (λ knots c.
+    then (lines (bytes "point=") (pointDoubles s) (s .count) c) (λ points d.
+    then (line (bytes "box=") (boxDoubles s) d) (λ box rest.
+    got (record {
+      nodes = nodes;
+      resolution = getD resolution 0 nan;
+      knots = knots;
+      points = points;
+      box = box;
+    }) rest)))))
 
 -- ---- the whole text
 
@@ -85,30 +118,16 @@ pub data Reading : Type 0 where
 
 -- The call that is made of a question. The program "lends 8,192 numbers".
 abbrev pub callOf : Sizes → Numbers → Call
-callOf s q = record {
-  dim = s .dim;
-  degree = s .degree;
-  count = s .count;
-  knots = q .knots;
-  points = q .points;
-  box = q .box;
-  resolution = q .resolution;
-  nodes = q .nodes;
-  room = 8192;
-}
-
--- The refusal of sizes by 1, 2 or 3, or 0.
-unfoldable pub sizesRefused : Sizes → ℕ
-sizesRefused s =
-    let c = callOf s (record { nodes = 0; resolution = nan; knots = []; points = []; box = [] }) in
-    cond (dimFits c) (cond (degreeFits c) (cond (countFits c) 0 3) 2) 1
+callOf s q =
+    lent (s .dim) (s .degree) (s .count) (q .knots) (q .points) (q .box) (q .resolution) (q .nodes) 8192
 
 -- The other lines, of a text of n bytes: "12: the text is not of the form below, or is over 65,536 bytes."
 unfoldable pub completeBy : Sizes → ℕ → Read Numbers → Reading
 completeBy s n bad = refusedBy 12
 completeBy s n (got q rest) = cond (leb n 65536 && eqb (length rest) 0) (asks s q) (refusedBy 12)
 
--- The sizes are known, and the refusal that they bring: "It comes before 4 to 10; numbers 1 to 3 come as soon as the first three lines are read."
+-- The sizes are known, and the refusal that they bring:
+-- "It comes before 4 to 10; numbers 1 to 3 come as soon as the first three lines are read."
 unfoldable pub openedBy : Sizes → ℕ → List ℕ → ℕ → Reading
 openedBy s n rest zero = completeBy s n (numbers s rest)
 openedBy s n rest (suc r) = refusedBy (suc r)
@@ -116,7 +135,7 @@ openedBy s n rest (suc r) = refusedBy (suc r)
 -- After the first three lines.
 unfoldable pub readBy : ℕ → Read Sizes → Reading
 readBy n bad = refusedBy 12
-readBy n (got s rest) = openedBy s n rest (sizesRefused s)
+readBy n (got s rest) = openedBy s n rest (sizesRefusal (s .dim) (s .degree) (s .count))
 
 -- What a text comes to.
 unfoldable pub reading : List ℕ → Reading

@@ -1,7 +1,7 @@
 // The text of a question and of its answer.
 
-pub mod answer;
+pub mod cursor;
 mod numerals;
-pub mod places;
+mod print;
 mod question;
-mod written;
+pub mod respond;

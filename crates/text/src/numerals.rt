@@ -1,13 +1,14 @@
 // Numbers in a text: small ones in decimal, doubles as the hexadecimal digits of their bits.
-use crate::places::Small;
+use crate::cursor::Small;
 ghost use mathlib.Core.Path.{_≡_};
 ghost use mathlib.Core.Bool.{true, _&&_};
 ghost use Prim.Native.Nat.{_+_, _≤_};
 ghost use lib.ListN.{length, drop};
 ghost use lib.Dec.{leb};
 ghost use Rattle.lists.specs.Lists.{part, all};
-ghost use Rattle.text.specs.Numerals.{isDigit, isSmall, isHex, digits, decimalOf, small, nibble, hexOf, doubleOf};
-ghost use Rattle.text.specs.Places.{SmallRead};
+ghost use Rattle.text.specs.Numerals.{isDigit, digits, decimalOf, isSmall, small};
+ghost use Rattle.text.specs.Numerals.{nibble, isHex, hexOf, isDouble, doubleOf};
+ghost use Rattle.text.specs.Cursor.{SmallRead};
 
 // The byte is from low to high.
 fn between(b: u8, low: u8, high: u8) -> bool
@@ -26,7 +27,9 @@ fn is_digit(b: u8) -> bool
 // How many digits stand from `at` on.
 fn digits(text: &[u8], at: usize) -> usize
     requires { ⌜ at ≤ length (now text) ⌝ }
-    ensures { λ r. ⌜ (r ≡ digits (drop at (now (text .entry)))) × (at + r ≤ length (now (text .entry))) × (all isDigit (part (now (text .entry)) at r) ≡ true) ⌝ }
+    ensures { λ r.
+        let t = now (text .entry) in
+        ⌜ (r ≡ digits (drop at t)) × (at + r ≤ length t) × (all isDigit (part t at r) ≡ true) ⌝ }
 {
     let mut i = at;
     while i < text.len() {
@@ -100,7 +103,9 @@ fn nibble(b: u8) -> u8
 // Sixteen hexadecimal digits stand from `at` on.
 pub(crate) fn is_double(text: &[u8], at: usize) -> bool
     requires { ⌜ at ≤ length (now text) ⌝ }
-    ensures { λ r. ⌜ (r ≡ (leb 16 (length (drop at (now (text .entry)))) && all isHex (part (now (text .entry)) at 16))) × (r ≡ true → at + 16 ≤ length (now (text .entry))) ⌝ }
+    ensures { λ r.
+        let t = now (text .entry) in
+        ⌜ (r ≡ isDouble (drop at t)) × (r ≡ true → at + 16 ≤ length t) ⌝ }
 {
     if text.len() - at < 16 {
         return false;

@@ -1,24 +1,24 @@
 // The lines of a question.
+use crate::cursor::Head;
+use crate::cursor::Place;
+use crate::cursor::Small;
 use crate::numerals::double;
 use crate::numerals::is_double;
 use crate::numerals::small;
-use crate::places::Head;
-use crate::places::Place;
-use crate::places::Small;
 ghost use mathlib.Core.Path.{_≡_};
-ghost use mathlib.Core.Bool.{_&&_, _||_};
 ghost use mathlib.Core.List.{[], _∷_};
-ghost use Prim.Native.Nat.{suc, _+_, _*_, _≤_, _<_};
+ghost use Prim.Native.Nat.{_+_, _*_, _≤_};
 ghost use lib.ListN.{length, drop};
-ghost use lib.Dec.{leb, eqb};
 ghost use Rattle.text.specs.Bytes.{word};
-ghost use Rattle.text.specs.Question.{behind, smallLine, values, line, lines, sizes, sizesRefused, numbers};
-ghost use Rattle.text.specs.Places.{WordRead, SmallRead, HeadRead, ValueRead, ValuesRead, LimitsRead, ShapeRead, NumbersRead};
+ghost use Rattle.text.specs.Question.{behind, smallLine, values, line, lines};
+ghost use Rattle.text.specs.Question.{sizesOf, sizes, numbers};
+ghost use Rattle.text.specs.Cursor.{WordRead, SmallRead, HeadRead, ValueRead, ValuesRead};
+ghost use Rattle.text.specs.Cursor.{LimitsRead, ShapeRead, NumbersRead};
 
 // The word w from `at` on.
 fn word(text: &[u8], at: usize, w: &[u8]) -> Place
     requires { ⌜ at ≤ length (now text) ⌝ }
-    ensures { λ r. ⌜ WordRead (now (text .entry)) (word (now (w .entry)) (drop at (now (text .entry)))) r ⌝ }
+    ensures { λ r. let t = now (text .entry) in ⌜ WordRead t (word (now (w .entry)) (drop at t)) r ⌝ }
 {
     if text.len() - at < w.len() {
         return Place::Bad;
@@ -36,7 +36,7 @@ fn word(text: &[u8], at: usize, w: &[u8]) -> Place
 // The byte b from `at` on.
 fn byte(text: &[u8], at: usize, b: u8) -> Place
     requires { ⌜ at ≤ length (now text) ⌝ }
-    ensures { λ r. ⌜ WordRead (now (text .entry)) (word (b ∷ []) (drop at (now (text .entry)))) r ⌝ }
+    ensures { λ r. let t = now (text .entry) in ⌜ WordRead t (word (b ∷ []) (drop at t)) r ⌝ }
 {
     if text.len() <= at {
         return Place::Bad;
@@ -50,7 +50,7 @@ fn byte(text: &[u8], at: usize, b: u8) -> Place
 // A line of a key and a small number.
 fn small_line(text: &[u8], at: usize, key: &[u8]) -> Small
     requires { ⌜ at ≤ length (now text) ⌝ }
-    ensures { λ r. ⌜ SmallRead (now (text .entry)) (smallLine (now (key .entry)) (drop at (now (text .entry)))) r ⌝ }
+    ensures { λ r. let t = now (text .entry) in ⌜ SmallRead t (smallLine (now (key .entry)) (drop at t)) r ⌝ }
 {
     let Place::At(i) = word(text, at, key) else {
         return Small::NoNumber;
@@ -85,7 +85,9 @@ fn value(text: &[u8], at: usize, b: u8) -> Place
 // n doubles from `at` on, written to `out` from `to` on.
 fn values(text: &[u8], at: usize, n: usize, out: &mut [f64], to: usize) -> Place
     requires { ⌜ (at ≤ length (now text)) × (to + n ≤ length (now out)) ⌝ }
-    ensures { λ r. ⌜ ValuesRead (now (text .entry)) (values n (drop at (now (text .entry)))) n to (now (out .entry)) (now (out .exit)) r ⌝ }
+    ensures { λ r.
+        let t = now (text .entry) in
+        ⌜ ValuesRead t (values n (drop at t)) n to (now (out .entry)) (now (out .exit)) r ⌝ }
 {
     let mut i = 0;
     let mut k = at;
@@ -103,7 +105,9 @@ fn values(text: &[u8], at: usize, n: usize, out: &mut [f64], to: usize) -> Place
 // A line of a key and n doubles.
 fn line(text: &[u8], at: usize, key: &[u8], n: usize, out: &mut [f64], to: usize) -> Place
     requires { ⌜ (at ≤ length (now text)) × (to + n ≤ length (now out)) ⌝ }
-    ensures { λ r. ⌜ ValuesRead (now (text .entry)) (line (now (key .entry)) n (drop at (now (text .entry)))) n to (now (out .entry)) (now (out .exit)) r ⌝ }
+    ensures { λ r.
+        let t = now (text .entry) in let k = now (key .entry) in
+        ⌜ ValuesRead t (line k n (drop at t)) n to (now (out .entry)) (now (out .exit)) r ⌝ }
 {
     let Place::At(i) = word(text, at, key) else {
         return Place::Bad;
@@ -122,7 +126,9 @@ fn lines(
     to: usize,
 ) -> Place
     requires { ⌜ (at ≤ length (now text)) × (to + n * k ≤ length (now out)) ⌝ }
-    ensures { λ r. ⌜ ValuesRead (now (text .entry)) (lines (now (key .entry)) n k (drop at (now (text .entry)))) (n * k) to (now (out .entry)) (now (out .exit)) r ⌝ }
+    ensures { λ r.
+        let t = now (text .entry) in let w = now (key .entry) in
+        ⌜ ValuesRead t (lines w n k (drop at t)) (n * k) to (now (out .entry)) (now (out .exit)) r ⌝ }
 {
     let mut i = 0;
     let mut p = at;
@@ -155,41 +161,12 @@ pub(crate) fn sizes(text: &[u8]) -> Head
     Head::Heads(d, p, n, k)
 }
 
-// dim is 2 or 3.
-fn dim_fits(dim: usize) -> bool
-    ensures { λ r. ⌜ r ≡ (eqb dim 2 || eqb dim 3) ⌝ }
-{
-    dim == 2 || dim == 3
-}
-
-// count is from degree + 1 to 32.
-fn count_fits(degree: usize, count: usize) -> bool
-    requires { ⌜ degree ≤ 7 ⌝ }
-    ensures { λ r. ⌜ r ≡ (leb (degree + 1) count && leb count 32) ⌝ }
-{
-    degree + 1 <= count && count <= 32
-}
-
-// The refusal of sizes by 1, 2 or 3, or 0.
-pub(crate) fn sizes_refused(dim: usize, degree: usize, count: usize) -> usize
-    ensures { λ r. ⌜ r ≡ sizesRefused (record { dim = dim; degree = degree; count = count }) ⌝ }
-{
-    if !dim_fits(dim) {
-        return 1;
-    }
-    if 7 < degree {
-        return 2;
-    }
-    if !count_fits(degree, count) {
-        return 3;
-    }
-    0
-}
-
 // The line of the nodes and that of the resolution, which is written to the front of `out`.
 fn limits(text: &[u8], at: usize, out: &mut [f64]) -> Small
     requires { ⌜ (at ≤ length (now text)) × (1 ≤ length (now out)) ⌝ }
-    ensures { λ r. ⌜ LimitsRead (now (text .entry)) (drop at (now (text .entry))) (now (out .entry)) (now (out .exit)) r ⌝ }
+    ensures { λ r.
+        let t = now (text .entry) in
+        ⌜ LimitsRead t (drop at t) (now (out .entry)) (now (out .exit)) r ⌝ }
 {
     let nodes = [b'n', b'o', b'd', b'e', b's', b'='];
     let Small::Number(n, i) = small_line(text, at, &nodes) else {
@@ -217,7 +194,9 @@ fn limits(text: &[u8], at: usize, out: &mut [f64]) -> Small
 // The lines of the knots, the points and the box, written to `out` from its second place on.
 fn shape(text: &[u8], at: usize, dim: usize, degree: usize, count: usize, out: &mut [f64]) -> Place
     requires { ⌜ (at ≤ length (now text)) × (dim ≤ 3) × (degree ≤ 7) × (count ≤ 32) × (303 ≤ length (now out)) ⌝ }
-    ensures { λ r. ⌜ ShapeRead (now (text .entry)) (drop at (now (text .entry))) (record { dim = dim; degree = degree; count = count }) (now (out .entry)) (now (out .exit)) r ⌝ }
+    ensures { λ r.
+        let t = now (text .entry) in
+        ⌜ ShapeRead t (drop at t) (sizesOf dim degree count) (now (out .entry)) (now (out .exit)) r ⌝ }
 {
     let knots = [b'k', b'n', b'o', b't', b's', b'='];
     let k = count + degree + 1;
@@ -243,7 +222,9 @@ pub(crate) fn numbers(
     out: &mut [f64],
 ) -> Small
     requires { ⌜ (at ≤ length (now text)) × (dim ≤ 3) × (degree ≤ 7) × (count ≤ 32) × (303 ≤ length (now out)) ⌝ }
-    ensures { λ r. ⌜ NumbersRead (now (text .entry)) (numbers (record { dim = dim; degree = degree; count = count }) (drop at (now (text .entry)))) (record { dim = dim; degree = degree; count = count }) (now (out .entry)) (now (out .exit)) r ⌝ }
+    ensures { λ r.
+        let t = now (text .entry) in let s = sizesOf dim degree count in
+        ⌜ NumbersRead t (numbers s (drop at t)) s (now (out .entry)) (now (out .exit)) r ⌝ }
 {
     let Small::Number(n, i) = limits(text, at, out) else {
         return Small::NoNumber;

@@ -6,11 +6,11 @@ use native.Mathlib.Nat.{lt-of-not-le}
 use native.Mathlib.Decide.{decLe}
 use native.Mathlib.Omega.{arith}
 use Rattle.exact.specs.Rational.{ℚ, _≤ℚ_, _<ℚ_, lt→not-le}
-use Rattle.exact.specs.Spline.{round, boor, shut, left, right, Fit, Runs, On}
+use Rattle.exact.specs.Spline.{round, boor, shut, left, right, Fit, OnSide, On}
 use Rattle.exact.specs.Cut.{Good, Raised, shift}
 use Rattle.exact.proofs.Order.{lt→le, le-or-lt, lt-le-trans, le-lt-trans}
 use Rattle.exact.proofs.Splines.Boor.{lt-cast, lerp-cong}
-use Rattle.exact.proofs.Splines.On.{fit-cast, runs-on, sorted-less}
+use Rattle.exact.proofs.Splines.On.{fit-cast, side-on, sorted-less}
 use Rattle.exact.proofs.Splines.Smooth.{from-left, from-right}
 use Rattle.exact.proofs.Splines.Group.{group-p, group-n}
 
@@ -180,7 +180,7 @@ module _ (p n : ℕ) (u : ℕ → ℚ) (c : ℕ → ℕ → ℚ) (x : ℚ) (m s 
 
   -- ---- a point of the whole is a point of the part on whose side its parameter lies, of both at x
   pub cut-left : (t : ℚ) (y : ℕ → ℚ) → t ≤ℚ x → On p n u c t y → On p m u′ c′ t y
-  unfolding Fit runs-on
+  unfolding Fit side-on
   cut-left t y h w = ⊎-elim here before (le-or-lt x t)
     where
       take : (v : On p n′ u′ c′ t y) → u′ (v .place + p) <ℚ x → On p m u′ c′ t y
@@ -193,11 +193,11 @@ module _ (p n : ℕ) (u : ℕ → ℚ) (c : ℕ → ℕ → ℚ) (x : ℚ) (m s 
       before k = let v : On p n′ u′ c′ t y = r .kept .keeps shut t y w in take v (le-lt-trans (v .fits .from) k)
 
       here : x ≤ℚ t → On p m u′ c′ t y
-      here k = let v : Runs left p n′ u′ c′ t y = r .kept .keeps left t y (from-left p n u (good .sorted) (good .thin) t c y (lt-le-trans px k) (le-lt-trans h xn) w) in
-          take (runs-on left p n′ u′ c′ t y v) (lt-le-trans (v .fits .from) h)
+      here k = let v : OnSide left p n′ u′ c′ t y = r .kept .keeps left t y (from-left p n u (good .sorted) (good .thin) t c y (lt-le-trans px k) (le-lt-trans h xn) w) in
+          take (side-on left p n′ u′ c′ t y v) (lt-le-trans (v .fits .from) h)
 
   pub cut-right : (t : ℚ) (y : ℕ → ℚ) → x ≤ℚ t → On p n u c t y → On p (n′ - m) (shift m u′) (λ a. shift m (c′ a)) t y
-  unfolding Fit runs-on
+  unfolding Fit side-on
   cut-right t y h w = ⊎-elim here after (le-or-lt t x)
     where
       take : (v : On p n′ u′ c′ t y) → x <ℚ u′ (suc (v .place + p)) → On p (n′ - m) (shift m u′) (λ a. shift m (c′ a)) t y
@@ -210,5 +210,5 @@ module _ (p n : ℕ) (u : ℕ → ℚ) (c : ℕ → ℕ → ℚ) (x : ℚ) (m s 
       after k = let v : On p n′ u′ c′ t y = r .kept .keeps shut t y w in take v (lt-le-trans k (v .fits .upto))
 
       here : t ≤ℚ x → On p (n′ - m) (shift m u′) (λ a. shift m (c′ a)) t y
-      here k = let v : Runs right p n′ u′ c′ t y = r .kept .keeps right t y (from-right p n u (good .sorted) (good .thin) t c y (le-lt-trans k xn) w) in
-          take (runs-on right p n′ u′ c′ t y v) (le-lt-trans h (v .fits .upto))
+      here k = let v : OnSide right p n′ u′ c′ t y = r .kept .keeps right t y (from-right p n u (good .sorted) (good .thin) t c y (le-lt-trans k xn) w) in
+          take (side-on right p n′ u′ c′ t y v) (le-lt-trans h (v .fits .upto))

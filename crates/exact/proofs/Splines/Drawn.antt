@@ -7,7 +7,7 @@ use native.Mathlib.Nat.{lt-of-not-le, sub-add-cancel, le-antisymm}
 use native.Mathlib.Decide.{decLe}
 use native.Mathlib.Omega.{arith}
 use Rattle.exact.specs.Rational.{ℚ, _≤ℚ_, _<ℚ_, lt→not-le}
-use Rattle.exact.specs.Spline.{drawn, Domain, Span, before, closing, Traced, round, boor, curve, Sorted, right, Shut, Fit, Runs, On}
+use Rattle.exact.specs.Spline.{drawn, Domain, Span, before, closing, Traced, round, boor, curve, Sorted, right, Shut, Fit, OnSide, On}
 use Rattle.exact.proofs.Order.{le-refl, le-trans, le-antisym, lt→le, le-or-lt, lt-or-le, lt-le-trans, le-lt-trans}
 use Rattle.exact.proofs.Splines.Boor.{lerp-cong}
 use Rattle.exact.proofs.Splines.On.{Crossing, crossing}
@@ -121,9 +121,9 @@ traced-on p n u c t y w = record {
     ix = sub-add-cancel (span-first p n u t (w .k) (w .span))
 
 -- before the domain's end one whose spans exclude their end is the curve on paper
-pub runs-traced : (p n : ℕ) (u : ℕ → ℚ) (c : ℕ → ℕ → ℚ) (t : ℚ) (y : ℕ → ℚ) → Runs right p n u c t y → Traced p n u c t y
+pub side-traced : (p n : ℕ) (u : ℕ → ℚ) (c : ℕ → ℕ → ℚ) (t : ℚ) (y : ℕ → ℚ) → OnSide right p n u c t y → Traced p n u c t y
 unfolding Fit
-runs-traced p n u c t y w = record {
+side-traced p n u c t y w = record {
   k = w .place + p;
   span = before (record { first = omega arith; last = w .inside; from = w .fits .from; upto = w .fits .upto });
   there = λ a. drawn-curve u p t (c a) (w .place) (w .place + p) refl ∙ w .there a;

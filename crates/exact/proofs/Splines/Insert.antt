@@ -6,7 +6,7 @@ use native.Mathlib.Nat.{eq-or-lt-of-le, lt-of-not-le}
 use native.Mathlib.Decide.{decLe}
 use native.Mathlib.Omega.{arith}
 use Rattle.exact.specs.Rational.{ℚ, _≤ℚ_}
-use Rattle.exact.specs.Spline.{curve, Sorted, Side, Fit, Runs}
+use Rattle.exact.specs.Spline.{curve, Sorted, Side, Fit, OnSide}
 use Rattle.exact.specs.Insertion.{Inserted, pick, knots, ctrls, Kept}
 use Rattle.exact.proofs.Order.{le-trans}
 use Rattle.exact.proofs.Splines.Boor.{le-cast}
@@ -96,7 +96,7 @@ module _ (p n : ℕ) (u : ℕ → ℚ) (c : ℕ → ℕ → ℚ) (x : ℚ) (k : 
   pub sorted′ : Sorted (knots u x k) (suc n + p)
   sorted′ = sorted-steps u′ (suc n + p) step
 
-  low : (s : Side) (t : ℚ) (y : ℕ → ℚ) (m : ℕ) → m + p < n → m + p ≤ k → Fit s (u′ (m + p)) (u′ (suc (m + p))) t → ((a : ℕ) → curve p u (c a) m t ≡ y a) → Runs s p (suc n) u′ c′ t y
+  low : (s : Side) (t : ℚ) (y : ℕ → ℚ) (m : ℕ) → m + p < n → m + p ≤ k → Fit s (u′ (m + p)) (u′ (suc (m + p))) t → ((a : ℕ) → curve p u (c a) m t ≡ y a) → OnSide s p (suc n) u′ c′ t y
   low s t y m o h f e = record {
     place = m;
     inside = omega arith;
@@ -104,7 +104,7 @@ module _ (p n : ℕ) (u : ℕ → ℚ) (c : ℕ → ℕ → ℚ) (x : ℚ) (k : 
     there = λ a. boehm-low p u (c a) x k u′ (c′ a) (q a) (λ _. t) (m + p) (segment-of p u′ (suc n + p) (m + p) (omega arith) sorted′ (fit-shut s _ _ t f .wide)) m refl h ∙ e a;
   }
 
-  high : (s : Side) (t : ℚ) (y : ℕ → ℚ) (m : ℕ) → m + p < n → k ≤ m + p → Fit s (u′ (suc m + p)) (u′ (suc (suc m + p))) t → ((a : ℕ) → curve p u (c a) m t ≡ y a) → Runs s p (suc n) u′ c′ t y
+  high : (s : Side) (t : ℚ) (y : ℕ → ℚ) (m : ℕ) → m + p < n → k ≤ m + p → Fit s (u′ (suc m + p)) (u′ (suc (suc m + p))) t → ((a : ℕ) → curve p u (c a) m t ≡ y a) → OnSide s p (suc n) u′ c′ t y
   high s t y m o h f e = record {
     place = suc m;
     inside = omega arith;
@@ -113,7 +113,7 @@ module _ (p n : ℕ) (u : ℕ → ℚ) (c : ℕ → ℕ → ℚ) (x : ℚ) (k : 
   }
 
   -- a point of the curve is a point of the curve after the insertion, at the same parameter and from the same side
-  insertion : (s : Side) (t : ℚ) (y : ℕ → ℚ) → Runs s p n u c t y → Runs s p (suc n) u′ c′ t y
+  insertion : (s : Side) (t : ℚ) (y : ℕ → ℚ) → OnSide s p n u c t y → OnSide s p (suc n) u′ c′ t y
   insertion s t y w = elim (decLe (suc (w .place + p)) k) [
     | yes h ↦ low s t y (w .place) (w .inside) (omega arith) (fit-cast s t (sym (q zero .low-knot _ (omega arith))) (sym (q zero .low-knot _ h)) (w .fits)) (w .there)
     | no n ↦ ⊎-elim same-knot later (eq-or-lt-of-le (le-of (lt-of-not-le n)))
@@ -128,10 +128,10 @@ module _ (p n : ℕ) (u : ℕ → ℚ) (c : ℕ → ℕ → ℚ) (x : ℚ) (k : 
       top : k ≤ w .place + p → u′ (suc (suc (w .place) + p)) ≡ u (suc (w .place + p))
       top h = ap (λ (z : ℕ). u′ (suc z)) (sym ix) ∙ q zero .high-knot (suc (w .place + p)) (omega arith)
 
-      later : k < w .place + p → Runs s p (suc n) u′ c′ t y
+      later : k < w .place + p → OnSide s p (suc n) u′ c′ t y
       later h = high s t y (w .place) (w .inside) (omega arith) (fit-cast s t (sym (ap u′ (sym ix) ∙ q zero .high-knot (w .place + p) h)) (sym (top (omega arith))) (w .fits)) (w .there)
 
-      same-knot : k ≡ w .place + p → Runs s p (suc n) u′ c′ t y
+      same-knot : k ≡ w .place + p → OnSide s p (suc n) u′ c′ t y
       same-knot e = ⊎-elim
           (λ (f : Fit s (u (w .place + p)) x t). low s t y (w .place) (w .inside) (omega arith) (fit-cast s t (sym (q zero .low-knot _ (omega arith))) (sym (ap (λ (z : ℕ). u′ (suc z)) (sym e) ∙ q zero .new-knot)) f) (w .there))
           (λ (f : Fit s x (u (suc (w .place + p))) t). high s t y (w .place) (w .inside) (omega arith) (fit-cast s t (sym (ap u′ (sym ix ∙ ap suc (sym e)) ∙ q zero .new-knot)) (sym (top (omega arith))) f) (w .there))

@@ -5,7 +5,7 @@ use Prim.Native.Nat.{ℕ, zero, suc, _+_, _-_, _≤_, _<_}
 use native.Mathlib.Nat.{sub-add-cancel}
 use native.Mathlib.Omega.{arith}
 use Rattle.exact.specs.Rational.{ℚ, _≤ℚ_, _<ℚ_}
-use Rattle.exact.specs.Spline.{round, boor, Sorted, Segment, Side, shut, left, right, Shut, Fit, Runs, On}
+use Rattle.exact.specs.Spline.{round, boor, Sorted, Segment, Side, shut, left, right, Shut, Fit, OnSide, On}
 use Rattle.exact.proofs.Order.{le-refl, le-trans, lt→le, le-or-lt, lt-le-trans, le-lt-trans}
 use Rattle.exact.proofs.Splines.Boor.{lerp-cong}
 
@@ -65,9 +65,9 @@ fit-split right a b t x ax xb h = ⊎-elim
     (le-or-lt x t)
 
 -- ---- a point of the curve from one side is one with the spans closed
-unfoldable pub runs-on : (s : Side) (p n : ℕ) (u : ℕ → ℚ) (c : ℕ → ℕ → ℚ) (t : ℚ) (y : ℕ → ℚ) → Runs s p n u c t y → On p n u c t y
+unfoldable pub side-on : (s : Side) (p n : ℕ) (u : ℕ → ℚ) (c : ℕ → ℕ → ℚ) (t : ℚ) (y : ℕ → ℚ) → OnSide s p n u c t y → On p n u c t y
 unfolding Fit
-runs-on s p n u c t y w = record { place = w .place; inside = w .inside; fits = fit-shut s _ _ t (w .fits); there = w .there }
+side-on s p n u c t y w = record { place = w .place; inside = w .inside; fits = fit-shut s _ _ t (w .fits); there = w .there }
 
 -- ---- the order of the knots
 pub sorted-steps : (u : ℕ → ℚ) (N : ℕ) → ((i : ℕ) → i < N → u i ≤ℚ u (suc i)) → Sorted u N
@@ -97,9 +97,9 @@ boor-cong p n u v c d τ h k zero j m o = k j (omega arith)
 boor-cong p n u v c d τ h k (suc r) j m o = lerp-cong (τ (suc r)) (h _ (omega arith)) (h _ (omega arith))
     (boor-cong p n u v c d τ h k r j (omega arith) (omega arith)) (boor-cong p n u v c d τ h k r (suc j) (omega arith) (omega arith))
 
-pub runs-cong : (s : Side) (p n : ℕ) (u v : ℕ → ℚ) (c d : ℕ → ℕ → ℚ) (t : ℚ) (y : ℕ → ℚ) → ((i : ℕ) → i ≤ n + p → u i ≡ v i) → ((a i : ℕ) → i < n → c a i ≡ d a i)
-    → Runs s p n u c t y → Runs s p n v d t y
-runs-cong s p n u v c d t y h k w = record {
+pub side-cong : (s : Side) (p n : ℕ) (u v : ℕ → ℚ) (c d : ℕ → ℕ → ℚ) (t : ℚ) (y : ℕ → ℚ) → ((i : ℕ) → i ≤ n + p → u i ≡ v i) → ((a i : ℕ) → i < n → c a i ≡ d a i)
+    → OnSide s p n u c t y → OnSide s p n v d t y
+side-cong s p n u v c d t y h k w = record {
   place = w .place;
   inside = w .inside;
   fits = fit-cast s t (h _ (low (w .place) (w .inside))) (h _ (high (w .place) (w .inside))) (w .fits);

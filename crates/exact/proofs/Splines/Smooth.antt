@@ -9,13 +9,13 @@ use native.Mathlib.Decide.{decLe}
 use native.Mathlib.Omega.{arith}
 use Rattle.ring.proofs.Ring.{by-rep, by-eq, read}
 use Rattle.exact.specs.Rational.{ℚ, _*ℚ_, -ℚ_, _-ℚ_, 1ℚ, invℚ, lerp, ratio, _≤ℚ_, _<ℚ_, lt→not-le}
-use Rattle.exact.specs.Spline.{closing, Traced, round, boor, curve, Sorted, left, right, Fit, Runs, On}
+use Rattle.exact.specs.Spline.{closing, Traced, round, boor, curve, Sorted, left, right, Fit, OnSide, On}
 use Rattle.exact.specs.Cut.{Thin}
 use Rattle.exact.proofs.Field.{ℚring, *ℚ-comm}
 use Rattle.exact.proofs.Order.{le-refl, le-trans, le-antisym, le-or-lt, lt-or-le, lt-le-trans, le-lt-trans, sub-inv}
 use Rattle.exact.proofs.Splines.Boor.{lt-cast}
 use Rattle.exact.proofs.Splines.On.{Crossing, crossing}
-use Rattle.exact.proofs.Splines.Drawn.{drawn-curve, runs-traced, end-traced}
+use Rattle.exact.proofs.Splines.Drawn.{drawn-curve, side-traced, end-traced}
 
 -- ---- at a knot that is the parameter itself a round picks one of the two values
 lerp-at-0 : (t i x y : ℚ) → lerp ((t -ℚ t) *ℚ i) x y ≡ x
@@ -142,14 +142,14 @@ module _ (p n : ℕ) (u : ℕ → ℚ) (srt : Sorted u (n + p)) (thin : Thin p n
   next-knot j = omega arith
 
   -- inside the domain a point of the curve is one from the left: on the span that ends at t or has it inside
-  pub from-left : (c : ℕ → ℕ → ℚ) (y : ℕ → ℚ) → u p <ℚ t → t <ℚ u n → On p n u c t y → Runs left p n u c t y
+  pub from-left : (c : ℕ → ℕ → ℚ) (y : ℕ → ℚ) → u p <ℚ t → t <ℚ u n → On p n u c t y → OnSide left p n u c t y
   unfolding Fit
   from-left c y h k w = ⊎-elim at-knot (λ (m : u (w .place + p) <ℚ t). record { place = w .place; inside = w .inside; fits = record { from = m; upto = w .fits .upto }; there = w .there }) (le-or-lt t (u (w .place + p)))
     where
       Ends : Type 0
       Ends = Crossing (λ j. u (j + p) <ℚ t) (λ j. t ≤ℚ u (j + p)) 0 (w .place)
 
-      go : Ends → Runs left p n u c t y
+      go : Ends → OnSide left p n u c t y
       go e = record {
         place = e .at;
         inside = omega (arith, e .last, w .inside);
@@ -160,21 +160,21 @@ module _ (p n : ℕ) (u : ℕ → ℚ) (srt : Sorted u (n + p)) (thin : Thin p n
           reach : t ≤ℚ u (suc (e .at + p))
           reach = subst (λ (z : ℕ). t ≤ℚ u z) (next-knot (e .at)) (e .next)
 
-      at-knot : t ≤ℚ u (w .place + p) → Runs left p n u c t y
+      at-knot : t ≤ℚ u (w .place + p) → OnSide left p n u c t y
       at-knot m = go (crossing _ _ (λ j. lt-or-le (u (j + p)) t) 0 (w .place) (omega arith) (subst (λ (z : ℕ). u z <ℚ t) ix h) (λ o. lt→not-le o m))
         where
           ix : p ≡ 0 + p
           ix = omega arith
 
   -- and before the domain's end one from the right: on the span that begins at t or has it inside
-  pub from-right : (c : ℕ → ℕ → ℚ) (y : ℕ → ℚ) → t <ℚ u n → On p n u c t y → Runs right p n u c t y
+  pub from-right : (c : ℕ → ℕ → ℚ) (y : ℕ → ℚ) → t <ℚ u n → On p n u c t y → OnSide right p n u c t y
   unfolding Fit
   from-right c y k w = ⊎-elim at-knot (λ (m : t <ℚ u (suc (w .place + p))). record { place = w .place; inside = w .inside; fits = record { from = w .fits .from; upto = m }; there = w .there }) (le-or-lt (u (suc (w .place + p))) t)
     where
       Begins : Type 0
       Begins = Crossing (λ j. u (j + p) ≤ℚ t) (λ j. t <ℚ u (j + p)) (suc (w .place)) (n - p)
 
-      go : Begins → Runs right p n u c t y
+      go : Begins → OnSide right p n u c t y
       go e = record {
         place = e .at;
         inside = inside;
@@ -185,7 +185,7 @@ module _ (p n : ℕ) (u : ℕ → ℚ) (srt : Sorted u (n + p)) (thin : Thin p n
           inside : e .at + p < n
           inside = omega (arith, e .last)
 
-      at-knot : u (suc (w .place + p)) ≤ℚ t → Runs right p n u c t y
+      at-knot : u (suc (w .place + p)) ≤ℚ t → OnSide right p n u c t y
       at-knot m = go (crossing _ _ (λ j. le-or-lt (u (j + p)) t) (suc (w .place)) (n - p) (omega (arith, w .inside)) (subst (λ (z : ℕ). u z ≤ℚ t) (sym (next-knot (w .place))) m)
           (λ o. lt→not-le k (subst (λ (z : ℕ). u z ≤ℚ t) ix o)))
         where
@@ -194,4 +194,4 @@ module _ (p n : ℕ) (u : ℕ → ℚ) (srt : Sorted u (n + p)) (thin : Thin p n
 
   -- the curve with closed spans is the curve on paper
   pub on-traced : (c : ℕ → ℕ → ℚ) (y : ℕ → ℚ) → On p n u c t y → Traced p n u c t y
-  on-traced c y w = ⊎-elim (λ (m : t <ℚ u n). runs-traced p n u c t y (from-right c y m w)) (λ (m : u n ≤ℚ t). end-traced p n u c t y srt m w) (lt-or-le t (u n))
+  on-traced c y w = ⊎-elim (λ (m : t <ℚ u n). side-traced p n u c t y (from-right c y m w)) (λ (m : u n ≤ℚ t). end-traced p n u c t y srt m w) (lt-or-le t (u n))

@@ -8,27 +8,25 @@ use native.Mathlib.Omega.{arith}
 use lib.ListN.{length, drop, getD, drop-of-length-le}
 use lib.Seq.{drop-cons}
 use lib.Dec.{T, eqb}
-use lib.Ieee.{Float, inf, binary64, isNan, fits, mul, neg}
-use lib.Ieee.Fits.{inf-fits, mul-fits}
-use lib.Ieee.Bits.{is-false}
+use lib.Ieee.{Float, binary64, isNan, fits}
+use lib.Ieee.Fits.{inf-fits}
 use borrow.Author.Tests.{eq-eqb, ne-eqb}
 use Rattle.lists.specs.Lists.{tab, foldl, all}
 use Rattle.lists.proofs.Tab.{length-tab, tab-cons, getD-tab, map-tab}
 use Rattle.lists.proofs.Fold.{foldl-append}
-use Rattle.math.specs.Picks.{minF, maxF}
-use Rattle.math.specs.Scalars.{geop, absent, sharp, ZERO, ONE, ENTIRE, hasZero, couldBeEqual, unionS, intersectS, valueOr, widened, subS, mulS, divS, inverseS, least4, most4}
+use Rattle.math.specs.Picks.{lesserF, greaterF, minF, maxF}
+use Rattle.math.specs.Scalars.{geop, absent, sharp, ZERO, ONE, ENTIRE, hasZero, couldBeEqual, unionS, intersectS, valueOr, widened, subS, corners, mulS, divS, inverseS}
 use Rattle.math.specs.declared.scalars.Scalar.{Scalar}
 use Rattle.math.specs.declared.scalars.Divided.{Divided}
 use Rattle.math.specs.declared.scalars.Divided.the-variants.{Value, Failed}
 use Rattle.model.specs.declared.fat_line.Hat.{Hat}
 use Rattle.model.specs.declared.fat_line.Hat.the-variants.{Over, Missing}
 use Rattle.math.proofs.Bools.{pick}
-use Rattle.math.proofs.Doubles.Order.{number, number-neg}
-use Rattle.math.proofs.Doubles.Least.{min-either, max-either, max-is, min-number, least-fits}
+use Rattle.math.proofs.Laws.{lesser-number, greater-number, lesser-min, greater-max, min-either, max-either, corners-lower, corners-upper, corners-doubles}
 use Rattle.model.specs.Vector.{Vector, coordinate}
 use Rattle.model.specs.Layout.{scalarAt, scalarsOf, pointAt, pointsOf}
 use Rattle.model.specs.Aabb.{unions, place, aabb, couldOverlap, alongBy, along, meets, couldMeet}
-use Rattle.geometry.specs.Aabb.{corners, rawPlace}
+use Rattle.geometry.specs.Aabb.{rawPlace}
 use Rattle.geometry.proofs.aabb.Widening.{Bounds, bounds-union, ends}
 use Rattle.geometry.proofs.Lists.Walks.{all-keep, all-stop, all-end}
 use Rattle.geometry.proofs.nurb_curve.Points.{length-points, getD-points}
@@ -53,35 +51,8 @@ unions-turn f n acc p r h e g k =
 
 -- ---- a point's place before it is widened
 
--- the picks from a number on are numbers
-least-number : (a b c d : Float) → isNan (least4 a b c d) ≡ false
-least-number a b c d = is-false _ (min-number _ d (min-number _ c (min-number _ b (min-number (inf false) a (unfold isNan in tt)))))
-
-max-number : (a b : Float) → T (number a) → T (number (maxF a b))
-max-number a b n = subst (λ (x : Float). T (number x)) (sym (max-is a b)) (number-neg (minF (neg a) (neg b)) (min-number (neg a) (neg b) (number-neg a n)))
-
-most-number : (a b c d : Float) → isNan (most4 a b c d) ≡ false
-most-number a b c d = is-false _ (max-number _ d (max-number _ c (max-number _ b (max-number (inf true) a (unfold isNan in tt)))))
-
-most-fits : (a b c d : Float) → T (fits binary64 a) → T (fits binary64 b) → T (fits binary64 c) → T (fits binary64 d) → T (fits binary64 (most4 a b c d))
-most-fits a b c d A B C D = of _ d (of _ c (of _ b (of (inf true) a (inf-fits binary64 true) A) B) C) D
-  where
-    of : (x y : Float) → T (fits binary64 x) → T (fits binary64 y) → T (fits binary64 (maxF x y))
-    of x y h k = max-either (λ (z : Float). T (fits binary64 z)) x y h k
-
 corners-bounds : (x y : Scalar) → Bounds (corners x y)
-unfolding corners
-corners-bounds x y =
-    let a = mul binary64 (x .lo) (y .lo) in
-    let b = mul binary64 (x .lo) (y .hi) in
-    let c = mul binary64 (x .hi) (y .lo) in
-    let d = mul binary64 (x .hi) (y .hi) in
-    record {
-      lo-double = least-fits a b c d (mul-fits binary64 (x .lo) (y .lo)) (mul-fits binary64 (x .lo) (y .hi)) (mul-fits binary64 (x .hi) (y .lo)) (mul-fits binary64 (x .hi) (y .hi));
-      hi-double = most-fits a b c d (mul-fits binary64 (x .lo) (y .lo)) (mul-fits binary64 (x .lo) (y .hi)) (mul-fits binary64 (x .hi) (y .lo)) (mul-fits binary64 (x .hi) (y .hi));
-      lo-number = least-number a b c d;
-      hi-number = most-number a b c d;
-    }
+corners-bounds x y = record { lo-double = corners-doubles x y .0; hi-double = corners-doubles x y .1; lo-number = corners-lower x y; hi-number = corners-upper x y }
 
 pub raw-bounds : (dim k : ℕ) (q : Vector) → Bounds (rawPlace dim k q)
 unfolding rawPlace
@@ -92,7 +63,7 @@ raw-bounds dim k q =
 
 -- widened it is the place
 pub raw-widened : (dim k : ℕ) (q : Vector) → widened (rawPlace dim k q .lo) (rawPlace dim k q .hi) ≡ place geop dim k q
-unfolding rawPlace place corners divS mulS valueOr
+unfolding rawPlace place divS mulS valueOr
 raw-widened dim k q = by (hasZero (coordinate q dim))
   where
     by : (t : Bool)
@@ -116,19 +87,21 @@ module _ (dim k n : ℕ) (l : List Float) (x p : Scalar) (B : Bounds x) (e : wid
   raw : Bounds p
   raw = subst Bounds (sym h) (raw-bounds dim k (pointAt (suc dim) l n))
 
-  pub raw-turn : (lo hi : Float) → 1 ≤ n → (lo ≡ minF (x .lo) (p .lo)) × (isNan lo ≡ false) → (hi ≡ maxF (x .hi) (p .hi)) × (isNan hi ≡ false)
+  pub raw-turn : (lo hi : Float) → 1 ≤ n → lo ≡ lesserF (x .lo) (p .lo) → hi ≡ greaterF (x .hi) (p .hi)
       → Bounds (record { lo = lo; hi = hi }) × (widened lo hi ≡ unions (tab (n + 1) of))
-  raw-turn lo hi g u v = (
-    record {
-      lo-double = subst (λ (z : Float). T (fits binary64 z)) (sym (u .0)) (min-either (λ (z : Float). T (fits binary64 z)) (x .lo) (p .lo) (B .lo-double) (raw .lo-double));
-      hi-double = subst (λ (z : Float). T (fits binary64 z)) (sym (v .0)) (max-either (λ (z : Float). T (fits binary64 z)) (x .hi) (p .hi) (B .hi-double) (raw .hi-double));
-      lo-number = u .1;
-      hi-number = v .1;
-    },
-    (λ i. widened (u .0 i) (v .0 i))
-        ∙ bounds-union x p B raw
-        ∙ unions-turn of n _ _ _ g e (ap (λ (z : Scalar). widened (z .lo) (z .hi)) h ∙ raw-widened dim k (pointAt (suc dim) l n)) refl,
-  )
+  raw-turn lo hi g el eh =
+      let u : lo ≡ minF (x .lo) (p .lo) = el ∙ lesser-min (x .lo) (p .lo) (B .lo-number) in
+      let v : hi ≡ maxF (x .hi) (p .hi) = eh ∙ greater-max (x .hi) (p .hi) (B .hi-number) in (
+        record {
+          lo-double = subst (λ (z : Float). T (fits binary64 z)) (sym u) (min-either (λ (z : Float). T (fits binary64 z)) (x .lo) (p .lo) (B .lo-double) (raw .lo-double));
+          hi-double = subst (λ (z : Float). T (fits binary64 z)) (sym v) (max-either (λ (z : Float). T (fits binary64 z)) (x .hi) (p .hi) (B .hi-double) (raw .hi-double));
+          lo-number = ap isNan el ∙ lesser-number (x .lo) (p .lo) (B .lo-number);
+          hi-number = ap isNan eh ∙ greater-number (x .hi) (p .hi) (B .hi-number);
+        },
+        (λ i. widened (u i) (v i))
+            ∙ bounds-union x p B raw
+            ∙ unions-turn of n _ _ _ g e (ap (λ (z : Scalar). widened (z .lo) (z .hi)) h ∙ raw-widened dim k (pointAt (suc dim) l n)) refl,
+      )
 
 -- ---- two boxes
 

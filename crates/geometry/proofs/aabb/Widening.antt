@@ -7,7 +7,7 @@ use Rattle.math.specs.declared.scalars.Scalar.{Scalar}
 use Rattle.math.specs.Neighbours.{nextUp, nextDown}
 use Rattle.math.specs.Picks.{minF, maxF}
 use Rattle.math.specs.Scalars.{ENTIRE, widened, unionS}
-use Rattle.math.proofs.Intervals.Widen.{widened-union}
+use Rattle.math.proofs.Laws.{widened-union}
 
 -- ---- intervals whose bounds are doubles and no NaN
 pub record Bounds (x : Scalar) : Type 0 where

@@ -14,8 +14,7 @@ use lib.Ieee.{Float, nan, inf, fin, lt, le, eq}
 use Rattle.lists.specs.Lists.{all, count}
 use Rattle.lists.proofs.Fold.{all-getD}
 use Rattle.math.proofs.Bools.{yes as holds, no as fails, decide, never, and-i, and-l, and-r, and-yes, and-no, or-r, or-split, pick-yes, pick-no}
-use Rattle.math.proofs.Doubles.Order.{number, le-number-r, le-trans, le-self, lt-not-le, lt-le, le-lt}
-use Rattle.math.proofs.Doubles.Values.{eq→value, value→eq}
+use Rattle.math.proofs.Laws.{number, le-number-r, le-trans, le-self, lt-not-le, lt-le, le-lt, eq→value, value→eq}
 use Rattle.model.specs.Call.{rising, multiplicityOk}
 use Rattle.geometry.specs.Multiplicity.{repeatsAt, multiplicityOkAt}
 

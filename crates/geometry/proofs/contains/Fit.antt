@@ -11,7 +11,7 @@ use Rattle.math.specs.declared.scalars.Scalar.{Scalar}
 use Rattle.math.specs.Scalars.{Arithmetic, geop, unionS}
 use Rattle.math.specs.Values.{value}
 use Rattle.math.proofs.Bools.{pick}
-use Rattle.math.proofs.Intervals.Instance.{geop-encloses}
+use Rattle.math.proofs.Laws.{geop-encloses}
 use Rattle.model.specs.NurbCurve.{Piece, start, end}
 use Rattle.model.specs.Aabb.{aabb, couldOverlap}
 use Rattle.model.specs.FatLine.{greville}

@@ -1,228 +1,28 @@
 -- That a path is longer than some limit shows in the squares of its steps, with no root taken: where no square is a NaN and one of them exceeds the square of the double above
 -- the limit, the sum of the roots exceeds the limit. Sums and roots of doubles that are not negative are not negative, and a sum is at least each of its parts.
 use mathlib.Core.Path.{_≡_, refl, sym, ap, _∙_, subst}
-use mathlib.Core.Logic.{inl, inr}
-use mathlib.Core.Bool.{Bool, true, false, false≢true}
+use mathlib.Core.Bool.{true, false≢true}
 use mathlib.Core.List.{List, [], _∷_, map, zipWith}
-use Prim.Native.Nat.{ℕ, zero, suc, _+_, _*_, _^_, _≤_, _<_, zero-le}
-use native.Mathlib.Nat.{le-trans as ≤-trans, le-of-eq, lt-of-lt-of-le, lt-of-le-of-lt, one-mul, mul-assoc, mul-le-mul-right, mul-lt-mul-of-pos-right, eq-of-mul-eq-mul-right}
+use Prim.Native.Nat.{ℕ, zero, suc, _≤_}
 use native.Mathlib.Omega.{arith}
-use lib.IntN.{ℤ, pos}
-use lib.Dec.{T, lit≤}
-use lib.Pow.{pow-add, pow-pos}
-use lib.Ieee.{Float, nan, inf, fin, binary64, up, down, fits, isNan, add, sub, mul, lt, le, eq, neg}
-use lib.Ieee.Fits.{add-fits, mul-fits, nan-fits, down-pos}
-use lib.Ieee.Bits.{ofBits-fits, is-true}
-use Rattle.ring.proofs.Ring.{by-rep, read}
-use Rattle.exact.specs.Rational.{ℚ, _+ℚ_, _*ℚ_, 0ℚ, _≤ℚ_, nn-of, lt→not-le}
-use Rattle.exact.proofs.Field.{ℚring}
-use Rattle.exact.proofs.Order.{le-by, le-trans as ≤ℚ-trans, mul-mono}
+use lib.Dec.{T}
+use lib.Ieee.{Float, nan, inf, fin, binary64, fits, isNan, add, sub, mul, lt, le, eq}
+use lib.Ieee.Fits.{add-fits, mul-fits}
+use lib.Ieee.Bits.{is-true}
 use Rattle.lists.specs.Lists.{tab, foldl}
 use Rattle.lists.proofs.Tab.{tab-cons}
 use Rattle.lists.proofs.Fold.{foldl-append}
-use Rattle.math.specs.Neighbours.{nextUp, nextDown}
+use Rattle.math.specs.Neighbours.{nextUp}
 use Rattle.math.specs.Picks.{maxF}
-use Rattle.math.specs.Root.{rootOf, sqrtF}
-use Rattle.math.specs.RootLaws.{isFinite, SqrtEncloses}
+use Rattle.math.specs.Root.{sqrtF}
 use Rattle.math.specs.Scalars.{zeroF}
-use Rattle.math.specs.Values.{value}
 use Rattle.model.specs.Vector.{Vector}
 use Rattle.model.specs.FatLine.{cartesian, square, pathLength, extent}
 use Rattle.geometry.specs.Sizes.{squared, squaresFrom, squares, steps}
 use Rattle.geometry.specs.declared.fat_line.Squares.{Squares}
 use Rattle.geometry.proofs.fat_line.Sizes.{withRoot, path-roots}
-use Rattle.math.proofs.Bools.{decide, yes}
-use Rattle.math.proofs.Doubles.Values.{value-zero, value-nonneg, value-under, le→value, value→le}
-use Rattle.math.proofs.Doubles.Order.{number, le-number-l, le-number-r, le-trans, lt→le-f, lt-not-le, total-order, lt-le, le-lt}
-use Rattle.math.proofs.Doubles.Held.{held}
-use Rattle.math.proofs.Doubles.Patterns.{top-bits, sizeOf, rises, written}
-use Rattle.math.proofs.Doubles.Next.{bits-pos, value as written-value, upward, nextUp-fits, nextUp-above, nextDown-below}
-use Rattle.math.proofs.Doubles.NextLeast.{nextUp-least}
-use Rattle.math.proofs.Doubles.Least.{max-either, max-second}
-use Rattle.math.proofs.Doubles.Rounding.{rounds-ge, round-nonneg, nonneg}
-use Rattle.math.proofs.Doubles.Operations.{add-rounds, mul-rounds}
-use Rattle.math.proofs.Roots.Ends.{read-fin}
-use Rattle.math.proofs.Roots.Near.{near}
-use Rattle.math.proofs.Roots.Law.{sqrt-encloses}
-
--- ---- what is not below zero
-at-least-zero : (x : Float) → T (nonneg x) → T (le zeroF x)
-unfolding le
-at-least-zero nan h = absurd h
-at-least-zero (inf true) h = absurd h
-at-least-zero (inf false) h = tt
-at-least-zero (fin true m e) h = absurd h
-at-least-zero (fin false m e) h = unfold le in value→le false 0 (pos 0) false m e (subst (λ (z : ℚ). z ≤ℚ value (fin false m e)) (sym (value-zero false (pos 0))) (value-nonneg m e))
-
--- its number is not below zero
-worth : (s : Bool) (m : ℕ) (e : ℤ) → T (le zeroF (fin s m e)) → 0ℚ ≤ℚ value (fin s m e)
-worth s m e h = subst (λ (z : ℚ). z ≤ℚ value (fin s m e)) (value-zero false (pos 0)) (le→value false 0 (pos 0) s m e h)
-
--- a square that is a number is not
-square-nonneg : (x : Float) → T (number (mul binary64 x x)) → T (le zeroF (mul binary64 x x))
-unfolding mul isNan
-square-nonneg nan h = absurd h
-square-nonneg (inf true) h = unfold le in tt
-square-nonneg (inf false) h = unfold le in tt
-square-nonneg (fin true m e) h = at-least-zero _ (round-nonneg binary64 (m * up e * (m * up e)) (down e * down e))
-square-nonneg (fin false m e) h = at-least-zero _ (round-nonneg binary64 (m * up e * (m * up e)) (down e * down e))
-
--- ---- sums
--- a sum that is a number is one of numbers
-add-number : (a b : Float) → T (number (add binary64 a b)) → T (number a) × T (number b)
-unfolding add isNan
-add-number nan b h = absurd h
-add-number (inf s) nan h = absurd h
-add-number (inf s) (inf t) h = (tt, tt)
-add-number (inf s) (fin t n d) h = (tt, tt)
-add-number (fin s m e) nan h = absurd h
-add-number (fin s m e) (inf t) h = (tt, tt)
-add-number (fin s m e) (fin t n d) h = (tt, tt)
-
-more : (x y : ℚ) → 0ℚ ≤ℚ y → x ≤ℚ x +ℚ y
-more x y h = le-by (nn-of h) (by-rep ℚring (x ∷ y ∷ []) (search read depth 9) (search read depth 9) tt)
-
-more′ : (x y : ℚ) → 0ℚ ≤ℚ x → y ≤ℚ x +ℚ y
-more′ x y h = le-by (nn-of h) (by-rep ℚring (x ∷ y ∷ []) (search read depth 9) (search read depth 9) tt)
-
--- a sum of two that are not below zero is at least each of them
-add-grows : (a b : Float) → T (fits binary64 a) → T (fits binary64 b) → T (le zeroF a) → T (le zeroF b) → T (le a (add binary64 a b)) × T (le b (add binary64 a b))
-add-grows nan b A B h k = absurd (unfold le in h)
-add-grows (inf true) b A B h k = absurd (unfold le in h)
-add-grows (inf false) nan A B h k = absurd (unfold le in k)
-add-grows (inf false) (inf true) A B h k = absurd (unfold le in k)
-add-grows (inf false) (inf false) A B h k = unfold le add in (tt, tt)
-add-grows (inf false) (fin t n d) A B h k = unfold le add in (tt, tt)
-add-grows (fin s m e) nan A B h k = absurd (unfold le in k)
-add-grows (fin s m e) (inf true) A B h k = absurd (unfold le in k)
-add-grows (fin s m e) (inf false) A B h k = unfold le add in (tt, tt)
-add-grows (fin s m e) (fin t n d) A B h k =
-    let r = add-rounds s m e t n d in
-    (rounds-ge _ _ r s m e A (more (value (fin s m e)) (value (fin t n d)) (worth t n d k)), rounds-ge _ _ r t n d B (more′ (value (fin s m e)) (value (fin t n d)) (worth s m e h)))
-
--- ---- finite doubles
-finite-number : (x : Float) → T (isFinite x) → T (number x)
-unfolding isNan
-finite-number nan h = h
-finite-number (inf s) h = absurd h
-finite-number (fin s m e) h = tt
-
-finite-upward : (x : Float) → T (isFinite x) → T (upward x)
-finite-upward nan h = h
-finite-upward (inf s) h = absurd h
-finite-upward (fin s m e) h = tt
-
-finite-downward : (x : Float) → T (isFinite x) → T (upward (neg x))
-unfolding neg
-finite-downward nan h = h
-finite-downward (inf s) h = absurd h
-finite-downward (fin s m e) h = tt
-
-finite-worth : (x : Float) → T (isFinite x) → T (le zeroF x) → 0ℚ ≤ℚ value x
-finite-worth nan h k = absurd h
-finite-worth (inf s) h k = absurd h
-finite-worth (fin s m e) h k = worth s m e k
-
-worth-finite : (x : Float) → T (isFinite x) → 0ℚ ≤ℚ value x → T (le zeroF x)
-worth-finite nan h k = absurd h
-worth-finite (inf s) h k = absurd h
-worth-finite (fin s m e) h k = value→le false 0 (pos 0) s m e (subst (λ (z : ℚ). z ≤ℚ value (fin s m e)) (sym (value-zero false (pos 0))) k)
-
--- ---- roots
-root-fits : (m : ℕ) (e : ℤ) → T (fits binary64 (fin false (suc m) e)) → T (fits binary64 (sqrtF (fin false (suc m) e)))
-root-fits m e F =
-    let w = written binary64 false m e F in
-    let n = sizeOf binary64 (w .bits) in
-    let v = written-value m e F w in
-    let h = held binary64 false m e F in
-    let N : n ≡ suc m * 2 ^ h .j = eq-of-mul-eq-mul-right (down e) (down-pos e) n (suc m * 2 ^ h .j) (sym (v .1) ∙ h .is) in
-    let Y : n * 2 ^ 1074 ≡ suc m * 2 ^ (h .j + 1074) = ap (λ (z : ℕ). z * 2 ^ 1074) N ∙ mul-assoc (suc m) (2 ^ h .j) (2 ^ 1074) ∙ ap (λ (z : ℕ). suc m * z) (sym (pow-add 2 (h .j) 1074)) in
-    let k = near (n * 2 ^ 1074) (suc m) (h .j + 1074) (big n (lt-of-le-of-lt zero-le (rises binary64 0 (w .bits) (bits-pos m e F w)))) (small n (rises binary64 (w .bits) (top-bits binary64) (w .below))) Y (h .digits) in
-    subst (λ (x : Float). T (fits binary64 x)) (sym (read-fin m e F .root ∙ ap (λ (b : ℕ). rootOf (sizeOf binary64 b * 2 ^ 1074)) (w .plus) ∙ k .is)) (ofBits-fits binary64 (k .bits))
-  where
-    big : (n : ℕ) → 1 ≤ n → 2 ^ 1074 ≤ n * 2 ^ 1074
-    big n h = ≤-trans (le-of-eq (sym (one-mul (2 ^ 1074)))) (mul-le-mul-right (2 ^ 1074) h)
-
-    small : (n : ℕ) → n < 2 ^ 2098 → n * 2 ^ 1074 < 2 ^ 3172
-    small n h = lt-of-lt-of-le (mul-lt-mul-of-pos-right h (pow-pos 1074)) (lit≤ tt)
-
-sqrt-fits : (x : Float) → T (fits binary64 x) → T (fits binary64 (sqrtF x))
-sqrt-fits nan F = unfold sqrtF in F
-sqrt-fits (inf true) F = unfold sqrtF in nan-fits binary64
-sqrt-fits (inf false) F = unfold sqrtF in F
-sqrt-fits (fin s zero e) F = unfold sqrtF in F
-sqrt-fits (fin true (suc m) e) F = unfold sqrtF in nan-fits binary64
-sqrt-fits (fin false (suc m) e) F = root-fits m e F
-
--- the root of a double above zero is not below zero
-root-nonneg : (m : ℕ) (e : ℤ) → T (fits binary64 (fin false (suc m) e)) → T (le zeroF (sqrtF (fin false (suc m) e)))
-root-nonneg m e F =
-    let E = sqrt-encloses m e F in
-    let r = sqrtF (fin false (suc m) e) in
-    le-trans zeroF (nextDown r) r (worth-finite (nextDown r) (E .finite-down) (E .nonneg)) (lt→le-f (nextDown r) r (nextDown-below r (root-fits m e F) (finite-downward r (E .finite))))
-
-sqrt-nonneg : (x : Float) → T (fits binary64 x) → T (le zeroF x) → T (le zeroF (sqrtF x))
-sqrt-nonneg nan F h = absurd (unfold le in h)
-sqrt-nonneg (inf true) F h = absurd (unfold le in h)
-sqrt-nonneg (inf false) F h = unfold sqrtF in h
-sqrt-nonneg (fin s zero e) F h = unfold sqrtF in h
-sqrt-nonneg (fin true (suc m) e) F h = absurd (lt→not-le (value-under m e) (worth true (suc m) e h))
-sqrt-nonneg (fin false (suc m) e) F h = root-nonneg m e F
-
--- ---- a limit and the root of a square above the next double's
-squares-mono : (x y : ℚ) → 0ℚ ≤ℚ x → x ≤ℚ y → x *ℚ x ≤ℚ y *ℚ y
-squares-mono x y h k =
-    ≤ℚ-trans (mul-mono h k) (subst (λ (z : ℚ). z ≤ℚ y *ℚ y) (by-rep ℚring (x ∷ y ∷ []) (search read depth 9) (search read depth 9) tt) (mul-mono (≤ℚ-trans h k) k))
-
-module _ (l : Float) (m : ℕ) (e : ℤ) (F : T (fits binary64 (fin false (suc m) e))) where
-  abbrev q : Float
-  q = fin false (suc m) e
-
-  abbrev r : Float
-  r = sqrtF (fin false (suc m) e)
-
-  E : SqrtEncloses q r
-  E = sqrt-encloses m e F
-
-  -- no double t with r below t has a square below q
-  not-under : (u : Float) → T (isFinite u) → 0ℚ ≤ℚ value u → value q ≤ℚ value u *ℚ value u → (t : Float) → T (le u t) → T (lt (mul binary64 t t) q) → ⊥
-  not-under nan f w a t h k = f
-  not-under (inf s) f w a t h k = f
-  not-under (fin s n d) f w a nan h k = unfold le in h
-  not-under (fin s n d) f w a (inf true) h k = unfold le in h
-  not-under (fin s n d) f w a (inf false) h k = unfold lt mul in k
-  not-under (fin s n d) f w a (fin t j c) h k =
-      lt→not-le (mul-rounds t j c t j c .highs .over (fin false (suc m) e) F k) (≤ℚ-trans a (squares-mono (value (fin s n d)) (value (fin t j c)) w (le→value s n d t j c h)))
-
-  root-over : (t : Float) → T (fits binary64 t) → T (lt l t) → T (lt (mul binary64 t t) q) → T (lt l r)
-  root-over t G h k = elim (decide (lt l r)) [
-    | inl y ↦ y
-    | inr n ↦
-        let a : T (le r l) = total-order r l (finite-number r (E .finite)) (le-number-l l t (lt→le-f l t h)) n in
-        let b : T (le (nextUp r) t) = nextUp-least r (root-fits m e F) t G (le-lt r l t a h) in
-        let c : T (le zeroF (nextUp r)) = le-trans zeroF r (nextUp r) (root-nonneg m e F) (lt→le-f r (nextUp r) (nextUp-above r (root-fits m e F) (finite-upward r (E .finite)))) in
-        absurd (not-under (nextUp r) (E .finite-up) (finite-worth (nextUp r) (E .finite-up) c) (E .above) t b k)
-  ]
-
--- the same for every square, with the double above the limit
-pub over-next : (l q : Float) → T (fits binary64 l) → T (fits binary64 q) → T (lt (mul binary64 (nextUp l) (nextUp l)) q) → T (lt l (sqrtF q))
-over-next l q L F h =
-    let s = mul binary64 (nextUp l) (nextUp l) in
-    by l q L F (le-lt zeroF s q (square-nonneg (nextUp l) (le-number-l s q (lt→le-f s q h))) h) h
-  where
-    by : (l q : Float) → T (fits binary64 l) → T (fits binary64 q) → T (lt zeroF q) → T (lt (mul binary64 (nextUp l) (nextUp l)) q) → T (lt l (sqrtF q))
-    by l nan L F p h = absurd (unfold lt in p)
-    by l (inf true) L F p h = absurd (unfold lt in p)
-    by nan (inf false) L F p h = absurd (unfold nextUp mul lt in h)
-    by (inf false) (inf false) L F p h = absurd (unfold nextUp mul lt in h)
-    by (inf true) (inf false) L F p h = unfold sqrtF lt in tt
-    by (fin t n d) (inf false) L F p h = unfold sqrtF lt in tt
-    by l (fin t zero e) L F p h = absurd (lt-not-le zeroF (fin t zero e) p (value→le t zero e false 0 (pos 0) (subst (λ (z : ℚ). z ≤ℚ value zeroF) (sym (value-zero t e)) (worth false 0 (pos 0) (at-least-zero zeroF tt)))))
-    by l (fin true (suc m) e) L F p h = absurd (lt→not-le (value-under m e) (worth true (suc m) e (lt→le-f zeroF (fin true (suc m) e) p)))
-    by nan (fin false (suc m) e) L F p h = absurd (unfold nextUp mul lt in h)
-    by (inf false) (fin false (suc m) e) L F p h = absurd (unfold nextUp mul lt in h)
-    by (inf true) (fin false (suc m) e) L F p h = root-over (inf true) m e F (nextUp (inf true)) (nextUp-fits (inf true)) (nextUp-above (inf true) L tt) h
-    by (fin t n d) (fin false (suc m) e) L F p h = root-over (fin t n d) m e F (nextUp (fin t n d)) (nextUp-fits (fin t n d)) (nextUp-above (fin t n d) L tt) h
+use Rattle.math.proofs.Bools.{yes}
+use Rattle.math.proofs.Laws.{number, le-number-l, le-number-r, le-trans, lt→le-f, lt-not-le, lt-le, max-either, max-second, square-nonneg, add-number, add-grows, sqrt-fits, sqrt-nonneg, square-decides}
 
 -- ---- the steps of a path
 
@@ -306,7 +106,7 @@ module _ (q : ℕ → Float) (good : (j : ℕ) → Step (q j)) where
       let g = grows n h in
       max-either (λ (x : Float). T (lt s x) → T (lt l (pathOf (suc n)))) (topOf n) (q n)
       (λ t. lt-le l (pathOf n) (pathOf (suc n)) (path-over l L n (parts n h .0) t) (g .0))
-      (λ t. lt-le l (sqrtF (q n)) (pathOf (suc n)) (over-next l (q n) L (good n .double) t) (g .1))
+      (λ t. lt-le l (sqrtF (q n)) (pathOf (suc n)) (square-decides l (q n) L (good n .double) t) (g .1))
       (subst (λ (x : Float). T (lt s x)) (top-snoc n) k)
 
 -- ---- the control polygon, by the squares of its steps

@@ -18,9 +18,7 @@ use Rattle.math.specs.Root.{sqrtF}
 use Rattle.math.specs.Scalars.{zeroF, sharp, middle, widthS}
 use Rattle.math.specs.declared.scalars.Scalar.{Scalar}
 use Rattle.math.proofs.Bools.{yes, no}
-use Rattle.math.proofs.Doubles.Order.{le-lt}
-use Rattle.math.proofs.Doubles.Least.{max-left}
-use Rattle.math.proofs.Doubles.Tests.{ne-nan, no-nan}
+use Rattle.math.proofs.Laws.{le-lt, max-left, ne-nan, no-nan}
 use Rattle.geometry.specs.declared.fat_line.Position.{Position}
 use Rattle.model.specs.Layout.{scalarAt, scalarsOf, pointAt, pointsOf}
 use Rattle.geometry.specs.Sizes.{positionOf, squared, squaresFrom, squares, steps}

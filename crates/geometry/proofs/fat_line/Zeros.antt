@@ -21,7 +21,7 @@ use Rattle.math.specs.Scalars.{Arithmetic, geop, sharp, absent, zeroF, ZERO, EN
 use Rattle.math.specs.Neighbours.{nextUp, nextDown}
 use Rattle.math.specs.Picks.{minF, maxF}
 use Rattle.math.proofs.Bools.{pick-yes, pick-no}
-use Rattle.math.proofs.Doubles.Least.{min-either, max-either}
+use Rattle.math.proofs.Laws.{min-either, max-either, widened-union}
 use Rattle.model.specs.Layout.{scalarAt, scalarsOf, flat}
 use Rattle.model.specs.Aabb.{unions}
 use Rattle.model.specs.FatLine.{window, abscissa, greville, offset, crossing, zerosBy, fatLineZeros}
@@ -31,7 +31,6 @@ use Rattle.model.specs.declared.fat_line.Hat.{Hat}
 use Rattle.model.specs.declared.fat_line.Hat.the-variants.{Over, Missing}
 use Rattle.geometry.specs.declared.fat_line.Abscissae.{Abscissae}
 use Rattle.geometry.specs.declared.fat_line.Greville.the-variants.{Some, None}
-use Rattle.math.proofs.Intervals.Widen.{widened-union}
 use Rattle.geometry.proofs.Lists.Flat.{length-put-flat, scalars-put}
 
 -- ---- the mean of a window

@@ -10,7 +10,7 @@ use lib.Ieee.Fits.{down-pos}
 use Rattle.math.specs.declared.scalars.Scalar.{Scalar}
 use Rattle.math.specs.Scalars.{zeroF, isSame}
 use Rattle.math.proofs.Bools.{yes, and-l, and-r}
-use Rattle.math.proofs.Doubles.Held.{unique}
+use Rattle.math.proofs.Laws.{unique}
 
 -- two doubles that are equal and above zero are one
 same-above : (x y : Float) → T (fits binary64 x) → T (fits binary64 y) → T (eq x y) → T (lt zeroF x) → x ≡ y

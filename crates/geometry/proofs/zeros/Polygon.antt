@@ -1,6 +1,7 @@
 -- Laws of the zeros over two lists of intervals: what the loop keeps point by point, and what that gives at the end. Assumes nothing.
 use mathlib.Core.Path.{_≡_, refl, sym, ap, _∙_, subst}
 use mathlib.Core.Bool.{Bool, true, false, not, cond}
+use mathlib.Core.Option.{some}
 use mathlib.Core.List.{List, zipWith}
 use Prim.Native.Nat.{ℕ, _+_, _-_, _<_}
 use lib.Dec.{T, eqb, ltb, eqb→eq, ltb→lt}
@@ -14,9 +15,10 @@ use Rattle.math.specs.Scalars.{geop, absent, ZERO, ENTIRE, couldBeEqual, unionS
 use Rattle.math.proofs.Bools.{and-l, and-r}
 use Rattle.model.specs.Aabb.{unions}
 use Rattle.model.specs.FatLine.{offset, crossing, zerosBy, fatLineZeros}
+use Rattle.model.specs.Paper.{hatOf}
 use Rattle.model.specs.declared.fat_line.Hat.{Hat}
 use Rattle.model.specs.declared.fat_line.Hat.the-variants.{Over, Missing}
-use Rattle.geometry.specs.Zeros.{paired, polygonZeros, offBy, begun, taken, zerosOf}
+use Rattle.geometry.specs.Zeros.{paired, polygonZeros, ZerosFound, offBy, begun, taken, zerosOf}
 use Rattle.geometry.specs.declared.zeros.Line.{Line}
 use Rattle.geometry.proofs.fat_line.Zeros.{unions-first, unions-turn}
 
@@ -31,6 +33,15 @@ pub a-polygon : (ξ d : List Scalar) (t : Bool) → t ≡ paired (length ξ) (le
 unfolding polygonZeros
 a-polygon ξ d true e h = ap (λ (b : Bool). cond b (fatLineZeros geop ξ d) (Over ENTIRE)) e
 a-polygon ξ d false e h = absurd h
+
+-- the definition's answer, on paper
+pub zeros-found : (ξ d : List Scalar) (r : Hat) → r ≡ polygonZeros ξ d → ZerosFound ξ d r
+unfolding polygonZeros
+zeros-found ξ d r e = record { result = e; paper = ap hatOf e ∙ on-paper (paired (length ξ) (length d)) (fatLineZeros geop ξ d) }
+  where
+    on-paper : (t : Bool) (h : Hat) → hatOf (cond t h (Over ENTIRE)) ≡ cond t (hatOf h) (some ENTIRE)
+    on-paper true h = refl
+    on-paper false h = refl
 
 pub not-not : (t : Bool) → T (not (not t)) → T t
 not-not true h = tt

@@ -1,17 +1,17 @@
 -- Every double is a whole number of the least positive one, 2^-1074. So two that differ are at least that far apart, and two with another between them twice as far. Assumes nothing.
-use mathlib.Core.Path.{_≡_, refl, sym, ap, ap₂, _∙_, subst}
-use mathlib.Core.List.{List, [], _∷_}
+use mathlib.Core.Path.{_≡_, sym, ap, ap₂, _∙_, subst}
+use mathlib.Core.List.{[], _∷_}
 use mathlib.Core.Bool.{Bool, true, false}
 use Prim.Native.Nat.{ℕ, zero, suc, _+_, _-_, _*_, _^_, _≤_, _<_}
-use native.Mathlib.Nat.{mul-le-mul-right, lt-of-mul-lt-mul-right, zero-lt-suc}
+use native.Mathlib.Nat.{mul-le-mul-right, lt-of-mul-lt-mul-right}
 use native.Mathlib.Omega.{arith}
 use lib.IntN.{ℤ}
 use lib.Dec.{T}
 use lib.Pow.{pow-pos}
-use lib.Ieee.{Float, fin, binary64, low, up, down, fits}
+use lib.Ieee.{fin, binary64, low, up, down, fits}
 use lib.Ieee.Fits.{down-pos}
-use Rattle.ring.proofs.Ring.{by-rep, by-eq, read}
-use Rattle.exact.specs.Rational.{ℚ, _+ℚ_, -ℚ_, _-ℚ_, 0ℚ, 1ℚ, _÷_, signed, _≤ℚ_, _<ℚ_, nn-of, not-le→lt, lt→not-le}
+use Rattle.ring.proofs.Ring.{by-rep, read}
+use Rattle.exact.specs.Rational.{ℚ, _+ℚ_, -ℚ_, _-ℚ_, 0ℚ, _÷_, signed, _≤ℚ_, _<ℚ_, nn-of, not-le→lt, lt→not-le}
 use Rattle.exact.proofs.Field.{ℚring}
 use Rattle.exact.proofs.Order.{le-by}
 use Rattle.exact.proofs.Embed.{÷-eq, ÷-le, ÷-lt⁻¹, ÷-add, ÷-sub, ÷-zero}

@@ -5,7 +5,7 @@ use mathlib.Core.Logic.{inl, inr}
 use mathlib.Core.Bool.{Bool, true, false, not, cond}
 use lib.Dec.{T}
 use lib.Ieee.{Float, nan, inf, fin, binary64, isNan, lt, le, fits, neg}
-use lib.Ieee.Fits.{inf-fits}
+use lib.Ieee.Fits.{inf-fits, neg-fits}
 use lib.Ieee.Bits.{is-true}
 use Rattle.math.specs.Picks.{minF, maxF}
 use Rattle.math.specs.Scalars.{least4, most4}
@@ -49,7 +49,7 @@ min-is a b n = pick (λ (x : Float). x ≡ cond (lt b a) b a) (isNan a) b (cond 
     clash true h k = h
     clash false h k = k
 
-pub min-number : (a b : Float) → T (number a) → T (number (minF a b))
+min-number : (a b : Float) → T (number a) → T (number (minF a b))
 min-number a b n = subst (λ (x : Float). T (number x)) (sym (min-is a b n)) (pick (λ (x : Float). T (number x)) (lt b a) b a (λ t. le-number-l b a (lt→le-f b a t)) (λ t. n))
 
 pub min-left : (a b : Float) → T (number a) → T (le (minF a b) a)
@@ -136,3 +136,15 @@ low-end = refl
 
 pub most-is : (a b c d : Float) → most4 a b c d ≡ neg (least4 (neg a) (neg b) (neg c) (neg d))
 most-is a b c d = mirrored _ d _ (mirrored _ c _ (mirrored _ b _ (mirrored (inf true) a (inf false) low-end)))
+
+pub most-number : (a b c d : Float) → T (number (most4 a b c d))
+most-number a b c d =
+    subst (λ (x : Float). T (number x)) (sym (most-is a b c d))
+    (number-neg (least4 (neg a) (neg b) (neg c) (neg d)) (least-number (neg a) (neg b) (neg c) (neg d)))
+
+pub most-fits : (a b c d : Float) → T (fits binary64 a) → T (fits binary64 b) → T (fits binary64 c) → T (fits binary64 d)
+    → T (fits binary64 (most4 a b c d))
+most-fits a b c d A B C D =
+    subst (λ (x : Float). T (fits binary64 x)) (sym (most-is a b c d))
+    (neg-fits binary64 (least4 (neg a) (neg b) (neg c) (neg d))
+    (least-fits (neg a) (neg b) (neg c) (neg d) (neg-fits binary64 a A) (neg-fits binary64 b B) (neg-fits binary64 c C) (neg-fits binary64 d D)))

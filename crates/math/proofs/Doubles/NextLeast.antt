@@ -1,7 +1,7 @@
 -- `nextUp` is the least double above, and `nextDown` the greatest below: no double lies between. Through the bit patterns, which are in the order of what they stand for. Assumes nothing.
 use mathlib.Core.Path.{_≡_, refl, sym, ap, _∙_, subst}
 use mathlib.Core.Logic.{_⊎_, inl, inr}
-use Prim.Native.Nat.{ℕ, zero, suc, _+_, _-_, _*_, _^_, _≤_, _<_}
+use Prim.Native.Nat.{ℕ, zero, suc, _+_, _-_, _^_, _≤_, _<_}
 use native.Mathlib.Nat.{le-of-lt, lt-trans, lt-of-lt-of-le, eq-or-lt-of-le, mul-le-mul-right}
 use native.Mathlib.Numerals.{add-one}
 use native.Mathlib.Omega.{arith}
@@ -60,13 +60,13 @@ finite-number nan s a d v = absurd v
 finite-number (inf t) s a d v = tt
 finite-number (fin t m e) s a d v = tt
 
-pub number-bits : (b : ℕ) → b ≤ top-bits binary64 → T (number (ofBits binary64 b))
+number-bits : (b : ℕ) → b ≤ top-bits binary64 → T (number (ofBits binary64 b))
 number-bits b h = elim (eq-or-lt-of-le h) [
   | inl e ↦ subst (λ (x : Float). T (number x)) (sym (bits-inf b e)) (unfold isNan in tt)
   | inr l ↦ finite-number (ofBits binary64 b) false (sizeOf binary64 b) (2 ^ low binary64) (bits-val binary64 b l)
 ]
 
-pub bits-le : (b c : ℕ) → b ≤ c → c ≤ top-bits binary64 → T (le (ofBits binary64 b) (ofBits binary64 c))
+bits-le : (b c : ℕ) → b ≤ c → c ≤ top-bits binary64 → T (le (ofBits binary64 b) (ofBits binary64 c))
 bits-le b c h k = go (eq-or-lt-of-le h) (eq-or-lt-of-le k)
   where
     go : (b ≡ c) ⊎ (b < c) → (c ≡ top-bits binary64) ⊎ (c < top-bits binary64) → T (le (ofBits binary64 b) (ofBits binary64 c))

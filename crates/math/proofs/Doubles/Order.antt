@@ -1,17 +1,15 @@
 -- The order of doubles, infinities included, and the numbers that they bound: le is a total order on all but NaN, and x ≤ y exactly where every number that y bounds from
 -- below x bounds too. Assumes nothing.
-use mathlib.Core.Path.{_≡_, refl, sym, ap, _∙_, subst}
-use mathlib.Core.List.{List, [], _∷_}
-use mathlib.Core.Logic.{_⊎_, inl, inr}
-use mathlib.Core.Bool.{Bool, true, false, not, _||_}
-use Prim.Native.Nat.{ℕ}
-use lib.IntN.{ℤ}
-use lib.Dec.{T, not-T}
+use mathlib.Core.Path.{sym, subst}
+use mathlib.Core.List.{[], _∷_}
+use mathlib.Core.Logic.{inl, inr}
+use mathlib.Core.Bool.{Bool, true, false, not}
+use lib.Dec.{T}
 use lib.Ieee.{Float, nan, inf, fin, neg, lt, le, eq, isNan}
 use Rattle.ring.proofs.Ring.{by-rep, read}
-use Rattle.exact.specs.Rational.{ℚ, -ℚ_, _-ℚ_, 0ℚ, 1ℚ, _≤ℚ_, _<ℚ_, nn-of, lt→not-le}
+use Rattle.exact.specs.Rational.{ℚ, -ℚ_, _-ℚ_, 0ℚ, 1ℚ, _≤ℚ_, nn-of, lt→not-le}
 use Rattle.exact.proofs.Field.{ℚring}
-use Rattle.exact.proofs.Order.{le-by, le-refl, le-trans as ≤-trans, le-or-lt, lt→le, 0<1, neg-mono}
+use Rattle.exact.proofs.Order.{le-by, le-refl, le-trans as ≤-trans, le-or-lt, 0<1, neg-mono}
 use Rattle.math.specs.Values.{value, Below, Above}
 use Rattle.math.proofs.Bools.{decide, or-l}
 use Rattle.math.proofs.Doubles.Values.{value-neg, lt→value, value→lt, le→value, value→le}
@@ -125,7 +123,7 @@ no-less : (x : ℚ) → x ≤ℚ x -ℚ 1ℚ → ⊥
 no-less x h = lt→not-le 0<1 (le-by (nn-of h) (by-rep ℚring (x ∷ []) (search read) (search read) tt))
 
 -- and that is all that ≤ says
-pub bounds-le : (x y : Float) → T (number x) → T (number y) → ((q : ℚ) → Below y q → Below x q) → T (le x y)
+bounds-le : (x y : Float) → T (number x) → T (number y) → ((q : ℚ) → Below y q → Below x q) → T (le x y)
 unfolding le isNan
 bounds-le nan y n k f = absurd n
 bounds-le (inf s) nan n k f = absurd k

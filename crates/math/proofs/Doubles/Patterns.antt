@@ -1,20 +1,20 @@
 -- The bit patterns of the values that are not negative: what size each stands for, and that a larger pattern stands for a larger size. Assumes nothing.
 use mathlib.Core.Path.{_≡_, refl, sym, ap, _∙_, subst}
 use mathlib.Core.Logic.{_⊎_, inl, inr}
-use Prim.Native.Nat.{ℕ, zero, suc, _+_, _-_, _*_, _/_, _%_, _^_, _≤_, _<_, zero-le}
-use native.Mathlib.Nat.{le-trans, le-of-eq, le-of-lt, lt-of-lt-of-le, lt-of-le-of-lt, lt-trans, lt-irrefl, le-of-suc-le-suc, eq-or-lt-of-le, zero-lt-suc, mod-lt, mod-eq-of-lt, div-add-mod', div-lt-iff-lt-mul, add-zero, zero-add, add-assoc, mul-one, one-mul, mul-comm, mul-assoc, suc-mul, mul-lt-mul-of-pos-right, mul-le-mul-right, mul-pos, mul-div-cancel, pow-succ', add-mod-left, mul-add-mod-self-left, le-add-right}
+use Prim.Native.Nat.{ℕ, zero, suc, _+_, _-_, _*_, _/_, _%_, _^_, _≤_, _<_}
+use native.Mathlib.Nat.{le-of-lt, lt-of-le-of-lt, lt-trans, le-of-suc-le-suc, eq-or-lt-of-le, mod-lt, mod-eq-of-lt, div-add-mod', div-lt-iff-lt-mul, add-zero, zero-add, add-assoc, mul-one, mul-comm, mul-assoc, suc-mul, mul-lt-mul-of-pos-right, mul-le-mul-right, mul-div-cancel, pow-succ', add-mod-left, mul-add-mod-self-left, le-add-right}
 use native.Mathlib.Omega.{arith}
-use mathlib.Core.Bool.{Bool, true, false, not, _&&_, cond}
-use lib.IntN.{ℤ, pos, negsuc}
-use lib.Dec.{T, leb, ltb, eqb, leb→le, ltb→lt, eqb→eq, le→leb, not-T}
+use mathlib.Core.Bool.{Bool, true, false, cond}
+use lib.IntN.{ℤ}
+use lib.Dec.{T, leb, eqb, eqb→eq, le→leb, not-T}
 use lib.Arith.{digits-div, digits-mod, lt→nleb}
-use lib.Pow.{pow-add, pow-pos, pow-mono}
+use lib.Pow.{pow-pos}
 use lib.Ieee.{Float, nan, inf, fin, Format, binary64, prec, emax, low, up, down, size, odd, neg, fits, hid, ones, top, ofFields, toBits, ofBits}
 use lib.Ieee.Digits.{size-le}
-use lib.Ieee.Fits.{two, two-le-pos, kept-lt, down-pos, eq→eqb}
-use lib.Ieee.Bits.{is-true, is-false, cond-no, ofBits-toBits}
+use lib.Ieee.Fits.{two, two-le-pos, kept-lt, down-pos}
+use lib.Ieee.Bits.{is-true, is-false, cond-no}
 use lib.Ieee.Exact.{HasValue, odd-sign}
-use Rattle.math.proofs.Doubles.Held.{Held, held}
+use Rattle.math.proofs.Doubles.Held.{held}
 use Rattle.math.proofs.Doubles.Rounded.{neg-odd}
 
 -- the pattern of the positive infinity

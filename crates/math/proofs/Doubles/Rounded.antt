@@ -1,15 +1,14 @@
 -- A value of the format that lies strictly below a fraction's rounded value is smaller than the fraction, and one strictly above it is larger.
 -- By `round`'s order and its fixed points alone: no unit in the last place is measured. Assumes nothing.
 use mathlib.Core.Path.{_≡_, refl, sym, ap, _∙_, subst}
-use mathlib.Core.Logic.{_⊎_, inl, inr}
-use Prim.Native.Nat.{ℕ, zero, suc, _+_, _-_, _*_, _/_, _%_, _^_, _≤_, _<_, zero-le, compare}
-use native.Mathlib.Nat.{le-of-lt, lt-irrefl, lt-of-lt-of-le, not-le-of-lt, le-of-eq}
+use mathlib.Core.Logic.{inl, inr}
+use Prim.Native.Nat.{ℕ, zero, suc, _+_, _-_, _*_, _/_, _%_, _^_, _<_, compare}
 use native.Mathlib.Omega.{arith}
-use mathlib.Core.Bool.{Bool, true, false, not, _&&_, _||_, cond}
-use lib.IntN.{ℤ, pos, negsuc}
-use lib.Dec.{T, leb, ltb, eqb, leb→le, ltb→lt, nltb→le, nleb→lt, eqb→eq}
+use mathlib.Core.Bool.{Bool, true, false, _&&_, _||_, cond}
+use lib.IntN.{ℤ}
+use lib.Dec.{T, ltb, eqb, ltb→lt, eqb→eq}
 use lib.Ieee.{Float, nan, inf, fin, Format, low, prec, emax, up, down, nearest, size, odd, units, round, neg, fits, lt, le}
-use lib.Ieee.Fits.{up-pos, down-pos, and-l, and-r, round-is}
+use lib.Ieee.Fits.{down-pos, and-l, and-r, round-is}
 use lib.Ieee.Order.{round-mono}
 use Rattle.math.proofs.Bools.{or-split, compare-le}
 use Rattle.math.proofs.Doubles.Held.{round-own}

@@ -1,15 +1,15 @@
 -- The doubles next to a rounded number enclose the number, strictly: what is below `round v` is below v, and what is above it above v, overflow and underflow included.
 -- By `round`'s order and its fixed points alone: no unit in the last place is measured. Assumes nothing.
-use mathlib.Core.Path.{_≡_, refl, sym, ap, _∙_, subst}
+use mathlib.Core.Path.{_≡_, sym, ap, _∙_, subst}
 use mathlib.Core.Logic.{inl, inr}
 use mathlib.Core.Bool.{Bool, true, false, not, cond}
-use Prim.Native.Nat.{ℕ, zero, suc, _+_, _-_, _*_, _/_, _%_, _^_, _≤_, _<_, compare}
+use Prim.Native.Nat.{ℕ, zero, suc, _+_, _-_, _*_, _/_, _%_, _^_, _<_, compare}
 use native.Mathlib.Omega.{arith}
 use lib.IntN.{ℤ, pos}
 use lib.Dec.{T, ltb}
 use lib.Ieee.{Float, nan, inf, fin, Format, binary64, prec, emax, low, up, down, size, nearest, odd, units, round, neg, lt, le, fits, isNan}
 use lib.Ieee.Fits.{round-fits, neg-fits, down-pos}
-use Rattle.exact.specs.Rational.{ℚ, -ℚ_, 0ℚ, _÷_, signed, _≤ℚ_, _<ℚ_, lt→not-le}
+use Rattle.exact.specs.Rational.{ℚ, -ℚ_, _÷_, signed, _≤ℚ_, _<ℚ_, lt→not-le}
 use Rattle.exact.proofs.Order.{le-refl as ≤-refl, lt→le, lt-le-trans, le-lt-trans, neg-neg, neg-lt as neg-lt-q}
 use Rattle.exact.proofs.Embed.{÷-lt, ÷-nn, ÷-pos}
 use Rattle.math.proofs.Bools.{decide}
@@ -159,7 +159,7 @@ unfolding nextDown
 down-neg m = neg-neg-f (nextUp (neg (neg m))) ∙ ap nextUp (neg-neg-f m)
 
 -- one above what is no smaller than r
-pub up-above : (m r : Float) (v : ℚ) → T (fits binary64 m) → T (le r m) → Highs r v → Over (nextUp m) v
+up-above : (m r : Float) (v : ℚ) → T (fits binary64 m) → T (le r m) → Highs r v → Over (nextUp m) v
 up-above m r v F h l =
     subst (λ (x : Float). Over x v) (down-neg m)
     (subst (λ (z : ℚ). Over (neg (nextDown (neg m))) z) (neg-neg v)
@@ -180,7 +180,7 @@ pub record Rounds (r : Float) (v : ℚ) : Type 0 where
 pub rounds-at : (r : Float) (v w : ℚ) → v ≡ w → Rounds r v → Rounds r w
 rounds-at r v w e h = subst (λ (z : ℚ). Rounds r z) e h
 
-pub rounds-neg : (r : Float) (v : ℚ) → Rounds r v → Rounds (neg r) (-ℚ v)
+rounds-neg : (r : Float) (v : ℚ) → Rounds r v → Rounds (neg r) (-ℚ v)
 rounds-neg r v h = record { held = neg-fits binary64 r (h .held); lows = highs-neg r v (h .highs); highs = lows-neg r v (h .lows) }
 
 -- it is at least every double that its number is at least, and at most every one that its number is at most

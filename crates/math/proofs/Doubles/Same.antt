@@ -37,7 +37,7 @@ by-signs false m e true n d F G v = two-signs m e n d v
 by-signs true m e false n d F G v = sym (two-signs n d m e (sym v))
 
 -- THE LAWS
-pub up-same : (x y : Float) → T (fits binary64 x) → T (fits binary64 y) → T (le x y) → T (le y x) → nextUp x ≡ nextUp y
+up-same : (x y : Float) → T (fits binary64 x) → T (fits binary64 y) → T (le x y) → T (le y x) → nextUp x ≡ nextUp y
 up-same nan y F G h k = unfold le in absurd h
 up-same (inf s) nan F G h k = unfold le in absurd h
 up-same (inf true) (inf true) F G h k = refl

@@ -1,33 +1,25 @@
 -- The comparisons of finite doubles are those of the numbers that they are. Assumes nothing.
 use mathlib.Core.Path.{_≡_, refl, sym, ap, ap₂, _∙_, subst}
-use mathlib.Core.List.{List, [], _∷_}
-use mathlib.Core.Logic.{_⊎_, inl, inr}
-use mathlib.Core.Bool.{Bool, true, false, not, _&&_, _||_, Bool·beq}
+use mathlib.Core.List.{[], _∷_}
+use mathlib.Core.Logic.{inl, inr}
+use mathlib.Core.Bool.{Bool, true, false, _&&_, _||_, Bool·beq}
 use Prim.Native.Nat.{ℕ, zero, suc, _+_, _*_, _≤_, _<_}
 use native.Mathlib.Nat.{mul-pos, zero-mul, zero-lt-suc}
 use native.Mathlib.Omega.{arith}
-use lib.IntN.{ℤ, pos}
-use lib.Dec.{T, ltb, eqb, ltb→lt, lt→ltb, eqb→eq}
+use lib.IntN.{ℤ}
+use lib.Dec.{T, eqb, ltb→lt, lt→ltb, eqb→eq}
 use lib.Ieee.{Float, nan, inf, fin, up, down, neg, lt, le, eq, below, level}
 use lib.Ieee.Fits.{up-pos, down-pos}
 use lib.Ieee.Exact.{HasValue}
 use Rattle.ring.proofs.Ring.{by-rep, by-eq, read}
-use Rattle.exact.specs.Rational.{ℚ, _+ℚ_, _*ℚ_, -ℚ_, _-ℚ_, 0ℚ, 1ℚ, _÷_, signed, pow2, whole, _≤ℚ_, _<ℚ_, nn-of, not-le→lt, lt→not-le}
-use Rattle.exact.proofs.Field.{ℚring, nn-add, nn-0}
-use Rattle.exact.proofs.Order.{le-by, le-nn, nn-le, le-refl, le-trans, le-antisym, lt→le, le-or-lt, lt-le-trans, neg-mono, neg-lt, neg-0}
-use Rattle.exact.proofs.Embed.{÷-eq, ÷-le, ÷-le⁻¹, ÷-lt, ÷-lt⁻¹, ÷-sum, ÷-mul, ÷-nn, ÷-pos, ÷-none, ÷-zero, signed-neg}
+use Rattle.exact.specs.Rational.{ℚ, _+ℚ_, -ℚ_, _-ℚ_, 0ℚ, 1ℚ, _÷_, signed, _≤ℚ_, _<ℚ_, nn-of, not-le→lt, lt→not-le}
+use Rattle.exact.proofs.Field.{ℚring, nn-0}
+use Rattle.exact.proofs.Order.{le-by, nn-le, le-refl, le-trans, le-antisym, lt→le, le-or-lt, neg-mono, neg-lt, neg-0}
+use Rattle.exact.proofs.Embed.{÷-eq, ÷-le⁻¹, ÷-lt, ÷-lt⁻¹, ÷-sum, ÷-nn, ÷-pos, ÷-none, ÷-zero, signed-neg}
 use Rattle.math.specs.Values.{value}
 use Rattle.math.proofs.Bools.{and-i, and-l, and-r, or-l, or-r, or-split, same-eqb}
 
 -- ---- what a finite double's number is
-
--- ±m 2^e
-pub value-fin : (s : Bool) (m : ℕ) (e : ℤ) → value (fin s m e) ≡ signed s (whole m *ℚ pow2 e)
-unfolding value
-value-fin s m e = ap (signed s) (sym (÷-mul m (up e) 1 (down e) (omega arith) (down-pos e) ∙ ap (λ (z : ℕ). (m * up e) ÷ z) (one-l (down e))))
-  where
-    one-l : (z : ℕ) → 1 * z ≡ z
-    one-l z = omega arith
 
 pub value-is : (x : Float) (s : Bool) (a c : ℕ) → 0 < c → HasValue x s a c → value x ≡ signed s (a ÷ c)
 unfolding value
@@ -79,7 +71,7 @@ module _ (x c y d : ℕ) (C : 0 < c) (D : 0 < d) where
   opposite : y ÷ d ≤ℚ -ℚ (x ÷ c) → x ÷ c +ℚ y ÷ d ≤ℚ 0ℚ
   opposite h = le-by (nn-of h) (by-rep ℚring ((x ÷ c) ∷ (y ÷ d) ∷ []) (search read depth 9) (search read depth 9) tt)
 
-  pub lt→below : (s t : Bool) → T (below s (x * d) t (y * c)) → signed s (x ÷ c) <ℚ signed t (y ÷ d)
+  lt→below : (s t : Bool) → T (below s (x * d) t (y * c)) → signed s (x ÷ c) <ℚ signed t (y ÷ d)
   lt→below false false h = ÷-lt x y c d C D (ltb→lt (x * d) (y * c) h)
   lt→below false true h = absurd h
   lt→below true false h = not-le→lt (λ k. some (zeros (opposite k)) (ltb→lt 0 (x * d + y * c) h))
@@ -88,7 +80,7 @@ module _ (x c y d : ℕ) (C : 0 < c) (D : 0 < d) where
       some e p = omega arith
   lt→below true true h = neg-lt (÷-lt y x d c D C (ltb→lt (y * c) (x * d) h))
 
-  pub below→lt : (s t : Bool) → signed s (x ÷ c) <ℚ signed t (y ÷ d) → T (below s (x * d) t (y * c))
+  below→lt : (s t : Bool) → signed s (x ÷ c) <ℚ signed t (y ÷ d) → T (below s (x * d) t (y * c))
   below→lt false false h = lt→ltb (x * d) (y * c) (÷-lt⁻¹ x y c d C D h)
   below→lt false true h = absurd (lt→not-le h (le-trans (le-by (nn-le (÷-nn y d)) (by-rep ℚring ((y ÷ d) ∷ []) (search read) (search read) tt)) (÷-nn x c)))
   below→lt true false h = lt→ltb 0 (x * d + y * c) (some (x * d + y * c) (λ e. lt→not-le h (le-by nn-0 (by-eq ℚring (-ℚ 1ℚ) (nil-sum e) (by-rep ℚring ((x ÷ c) ∷ (y ÷ d) ∷ []) (search read depth 9) (search read depth 9) tt)))))
@@ -101,7 +93,7 @@ module _ (x c y d : ℕ) (C : 0 < c) (D : 0 < d) where
       back : -ℚ (x ÷ c) <ℚ -ℚ (y ÷ d) → y ÷ d <ℚ x ÷ c
       back k = not-le→lt (λ l. lt→not-le k (neg-mono l))
 
-  pub level→same : (s t : Bool) → T (level s (x * d) t (y * c)) → signed s (x ÷ c) ≡ signed t (y ÷ d)
+  level→same : (s t : Bool) → T (level s (x * d) t (y * c)) → signed s (x ÷ c) ≡ signed t (y ÷ d)
   level→same s t h = go s t (eqb→eq (x * d) (y * c) (and-l (eqb (x * d) (y * c)) (Bool·beq s t || eqb (x * d) 0) h)) (and-r (eqb (x * d) (y * c)) (Bool·beq s t || eqb (x * d) 0) h)
     where
       apart : x * d ≡ y * c → T (eqb (x * d) 0) → x ÷ c +ℚ y ÷ d ≡ 0ℚ
@@ -116,7 +108,7 @@ module _ (x c y d : ℕ) (C : 0 < c) (D : 0 < d) where
       go false true e u = by-eq ℚring 1ℚ (apart e u) (by-rep ℚring ((x ÷ c) ∷ (y ÷ d) ∷ []) (search read depth 9) (search read depth 9) tt)
       go true false e u = by-eq ℚring (-ℚ 1ℚ) (apart e u) (by-rep ℚring ((x ÷ c) ∷ (y ÷ d) ∷ []) (search read depth 9) (search read depth 9) tt)
 
-  pub same→level : (s t : Bool) → signed s (x ÷ c) ≡ signed t (y ÷ d) → T (level s (x * d) t (y * c))
+  same→level : (s t : Bool) → signed s (x ÷ c) ≡ signed t (y ÷ d) → T (level s (x * d) t (y * c))
   same→level s t h = go s t h
     where
       alike : (b : Bool) → T b → x ÷ c ≡ y ÷ d → T (eqb (x * d) (y * c) && (b || eqb (x * d) 0))

@@ -1,9 +1,9 @@
 -- How far t lies along the way from a to b: for three doubles a < t < b of moderate size the divisor b - a does not hold zero, and neither the quotient (t - a) / (b - a) nor one
 -- less it is the whole line. The numerator's lower bound is not negative, and the reciprocal's at least -1, so no product of their bounds is very low. Assumes nothing.
 use mathlib.Core.Path.{_≡_, refl, sym, ap, ap₂, _∙_, subst}
-use mathlib.Core.List.{List, [], _∷_}
-use mathlib.Core.Bool.{Bool, true, false, not, cond}
-use Prim.Native.Nat.{zero, _^_}
+use mathlib.Core.List.{[], _∷_}
+use mathlib.Core.Bool.{Bool, true, false, cond}
+use Prim.Native.Nat.{_^_}
 use native.Mathlib.Omega.{arith}
 use lib.IntN.{pos}
 use lib.Dec.{T}
@@ -22,7 +22,7 @@ use Rattle.math.specs.Scalars.{sharp, zeroF, oneF, ONE, subS, mulS, divS
 use Rattle.math.specs.Values.{value, Below, Holds}
 use Rattle.math.specs.Encloses.{Between}
 use Rattle.math.proofs.Doubles.Values.{lt→value, le→value}
-use Rattle.math.proofs.Doubles.Order.{number, le-below, meet-le, le-lt, le-trans}
+use Rattle.math.proofs.Doubles.Order.{le-below, meet-le, le-lt, le-trans}
 use Rattle.math.proofs.Doubles.Rounding.{Under, rounds-le}
 use Rattle.math.proofs.Doubles.NextLeast.{nextUp-least}
 use Rattle.math.proofs.Doubles.Grid.{grid, two-steps}

@@ -1,7 +1,7 @@
 -- Of the four products of two intervals' bounds some one bounds x y from below, for every x in the one and y in the other, unless one interval is the whole line and the
 -- other is zero. Which one goes by the signs, and where a bound is infinite by IEEE's products. The case y < 0 is the mirror image of 0 ≤ y. Assumes nothing.
 use mathlib.Core.Path.{_≡_, refl, sym, ap, _∙_, subst}
-use mathlib.Core.List.{List, [], _∷_}
+use mathlib.Core.List.{[], _∷_}
 use mathlib.Core.Logic.{_⊎_, inl, inr}
 use mathlib.Core.Bool.{Bool, true, false, not, cond}
 use Prim.Native.Nat.{ℕ, zero, suc, _*_}

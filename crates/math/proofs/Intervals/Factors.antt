@@ -1,6 +1,6 @@
 -- The short way of `times` and `between`: a product by a factor has each bound picked from two products, whichever operand comes first, and what two sums have in common is widened once, where they meet.
 -- Assumes nothing.
-use mathlib.Core.Path.{_≡_, refl, sym, ap, _∙_, subst}
+use mathlib.Core.Path.{_≡_, refl, sym, ap, _∙_}
 use mathlib.Core.Bool.{Bool, true, false, _&&_, cond}
 use Prim.Native.Nat.{_*_}
 use native.Mathlib.Nat.{mul-comm}
@@ -10,13 +10,14 @@ use lib.Ieee.Fits.{add-fits, sub-fits, mul-fits, neg-fits}
 use lib.Ieee.Bits.{is-true, is-false}
 use lib.Ieee.Positive.{positive}
 use Rattle.math.specs.Neighbours.{nextUp, nextDown}
-use Rattle.math.specs.Picks.{minF, maxF}
-use Rattle.math.specs.Scalars.{zeroF, ONE, least4, most4, addS, subS, mulS, intersectS, widened}
-use Rattle.math.specs.Factors.{isFactor, inOrder, fractionOf, isTame}
+use Rattle.math.specs.Picks.{lesserF, greaterF, minF, maxF}
+use Rattle.math.specs.Scalars.{zeroF, geop, least4, most4, addS, subS, corners, mulS, intersectS, interpolateS, widened}
+use Rattle.math.specs.Factors.{isFactor, inOrder, allInOrder, fractionOf, betweenS}
 use Rattle.math.specs.declared.scalars.Scalar.{Scalar}
 use Rattle.math.specs.declared.scalars.Fraction.{Fraction}
 use Rattle.math.proofs.Bools.{yes, and-l, and-r}
-use Rattle.math.proofs.Doubles.Order.{le-number-l, le-number-r, le-trans, lt-le, le-lt, neg-le}
+use Rattle.math.proofs.Picks.{lesser-is, greater-is}
+use Rattle.math.proofs.Doubles.Order.{number, le-number-l, le-number-r, le-trans, lt-le, le-lt, neg-le}
 use Rattle.math.proofs.Doubles.Mirror.{neg-neg}
 use Rattle.math.proofs.Doubles.Same.{down-same}
 use Rattle.math.proofs.Doubles.Least.{min-either, max-is, min-left, min-right, least-number, least-fits, least-a, least-b, least-c, least-d, least-above, most-is}
@@ -25,32 +26,32 @@ use Rattle.math.proofs.Intervals.Positive.{above-zero, greatest, scale-
 
 -- ---- the least of four, two of which are known to be no more than the others
 
--- w is one of the four, and no more than any
-down-least : (w a b c d : Float) → T (fits binary64 w) → T (fits binary64 a) → T (fits binary64 b) → T (fits binary64 c) → T (fits binary64 d) → T (le (least4 a b c d) w) → T (le w a) → T (le w b) → T (le w c) → T (le w d)
-    → nextDown w ≡ nextDown (least4 a b c d)
-down-least w a b c d W A B C D h p q r s =
-    down-same w (least4 a b c d) W (least-fits a b c d A B C D) (least-above w a b c d (greatest w (le-number-l w a p)) (λ _. p) (λ _. q) (λ _. r) (λ _. s)) h
-
 module _ (a b c d : Float) (A : T (fits binary64 a)) (B : T (fits binary64 b)) (C : T (fits binary64 c)) (D : T (fits binary64 d)) where
+  -- the lesser of two of them, where what is no more than these is no more than any
+  down-pair : (x y : Float) → T (fits binary64 x) → T (fits binary64 y) → T (number x) → T (number y)
+      → T (le (least4 a b c d) x) → T (le (least4 a b c d) y)
+      → ((w : Float) → T (le w x) → T (le w y) → T (le w a) × T (le w b) × T (le w c) × T (le w d))
+      → nextDown (minF x y) ≡ nextDown (least4 a b c d)
+  down-pair x y X Y n m lx ly any =
+      let w = minF x y in
+      let r = any w (min-left x y n) (min-right x y n m) in
+      let g = least-above w a b c d (greatest w (le-number-l w a (r .0))) (λ _. r .0) (λ _. r .1) (λ _. r .2) (λ _. r .3) in
+      down-same w (least4 a b c d) (min-either (λ z. T (fits binary64 z)) x y X Y) (least-fits a b c d A B C D) g
+      (min-either (λ z. T (le (least4 a b c d) z)) x y lx ly)
+
   -- the first and the third are the lesser ones
   down-two : T (le a b) → T (le c d) → nextDown (minF a c) ≡ nextDown (least4 a b c d)
   down-two h k =
       let n = le-number-l a b h in
       let m = le-number-l c d k in
-      let p = min-left a c n in
-      let q = min-right a c n m in
-      down-least (minF a c) a b c d (min-either (λ z. T (fits binary64 z)) a c A C) A B C D (min-either (λ z. T (le (least4 a b c d) z)) a c (least-a a b c d n) (least-c a b c d m))
-      p (le-trans (minF a c) a b p h) q (le-trans (minF a c) c d q k)
+      down-pair a c A C n m (least-a a b c d n) (least-c a b c d m) (λ w p q. (p, le-trans w a b p h, q, le-trans w c d q k))
 
   -- the second and the fourth are
   down-others : T (le b a) → T (le d c) → nextDown (minF b d) ≡ nextDown (least4 a b c d)
   down-others h k =
       let n = le-number-l b a h in
       let m = le-number-l d c k in
-      let p = min-left b d n in
-      let q = min-right b d n m in
-      down-least (minF b d) a b c d (min-either (λ z. T (fits binary64 z)) b d B D) A B C D (min-either (λ z. T (le (least4 a b c d) z)) b d (least-b a b c d n) (least-d a b c d m))
-      (le-trans (minF b d) b a p h) p (le-trans (minF b d) d c q k) q
+      down-pair b d B D n m (least-b a b c d n) (least-d a b c d m) (λ w p q. (le-trans w b a p h, p, le-trans w d c q k, q))
 
 -- the neighbour above is the mirror image of the one below
 turned : (x : Float) → nextUp (neg x) ≡ neg (nextDown x)
@@ -100,7 +101,7 @@ module _ (t x : Scalar) (P : isFactor t ≡ true) (O : inOrder x ≡ true) where
 
   pub scale-is : (l h lo hi : Float) → l ≡ minF (mul binary64 (t .lo) (x .lo)) (mul binary64 (t .hi) (x .lo)) → h ≡ maxF (mul binary64 (t .lo) (x .hi)) (mul binary64 (t .hi) (x .hi)) → lo ≡ nextDown l → hi ≡ nextUp h
       → record { lo = lo; hi = hi } ≡ mulS t x
-  unfolding mulS
+  unfolding mulS corners
   scale-is l h lo hi L H LO HI =
       let a = mul binary64 (t .lo) (x .lo) in
       let b = mul binary64 (t .lo) (x .hi) in
@@ -149,7 +150,7 @@ mul-swap (fin s m e) (inf t) = ap (λ (b : Bool). cond (eqb m 0) nan (inf b)) (u
 mul-swap (fin s m e) (fin t n d) = λ i. round binary64 (unlike-swap s t i) (mul-comm (m * up e) (n * up d) i) (mul-comm (down e) (down d) i)
 
 pub swapped : (x y : Scalar) → mulS x y ≡ mulS y x
-unfolding mulS
+unfolding mulS corners
 swapped x y =
     let a = mul binary64 (x .lo) (y .lo) in
     let b = mul binary64 (x .lo) (y .hi) in
@@ -176,16 +177,18 @@ upper-number a b e = is-false (isNan b) (le-number-r a b (yes (le a b) e))
 
 -- what two sums have in common, where the sums meet before they are widened
 module _ (a m p q : Scalar) where
-  pub common-is : (u w lo hi : Float) → (isNan u ≡ false → u ≡ maxF (add binary64 (a .lo) (m .lo)) (add binary64 (p .lo) (q .lo))) → (isNan w ≡ false → w ≡ minF (add binary64 (a .hi) (m .hi)) (add binary64 (p .hi) (q .hi)))
+  pub meet-of-sums-is : (u w lo hi : Float)
+      → u ≡ greaterF (add binary64 (a .lo) (m .lo)) (add binary64 (p .lo) (q .lo))
+      → w ≡ lesserF (add binary64 (a .hi) (m .hi)) (add binary64 (p .hi) (q .hi))
       → le u w ≡ true → lo ≡ nextDown u → hi ≡ nextUp w → record { lo = lo; hi = hi } ≡ intersectS (addS a m) (addS p q)
   unfolding addS
-  common-is u w lo hi L0 H0 e LO HI =
+  meet-of-sums-is u w lo hi L0 H0 e LO HI =
       let x = add binary64 (a .lo) (m .lo) in
       let y = add binary64 (a .hi) (m .hi) in
       let z = add binary64 (p .lo) (q .lo) in
       let k = add binary64 (p .hi) (q .hi) in
-      let L : u ≡ maxF x z = L0 (lower-number u w e) in
-      let H : w ≡ minF y k = H0 (upper-number u w e) in
+      let L : u ≡ maxF x z = L0 ∙ greater-is x z (ap isNan (sym L0) ∙ lower-number u w e) in
+      let H : w ≡ minF y k = H0 ∙ lesser-is y k (ap isNan (sym H0) ∙ upper-number u w e) in
       (λ i. record { lo = (LO ∙ ap nextDown L) i; hi = (HI ∙ ap nextUp H) i })
       ∙ widened-meet x y z k (add-fits binary64 (a .lo) (m .lo)) (add-fits binary64 (a .hi) (m .hi)) (add-fits binary64 (p .lo) (q .lo)) (add-fits binary64 (p .hi) (q .hi)) (sym (λ i. le (L i) (H i)) ∙ e)
 
@@ -200,45 +203,39 @@ module _ (a b : Scalar) (lo hi : Float) (LO : lo ≡ nextDown (sub binary64 (b .
 
 -- ---- the fraction of alpha
 
--- what makes one
-pub fraction-is : (alpha beta : Scalar) (gentle : Bool) → beta ≡ subS ONE alpha → gentle ≡ (isFactor alpha && isFactor beta) → record { alpha = alpha; beta = beta; gentle = gentle } ≡ fractionOf alpha
+-- it has its alpha, and to go it is to interpolate
+pub fraction-own : (f : Fraction) (alpha : Scalar) → f ≡ fractionOf alpha → f .alpha ≡ alpha
 unfolding fractionOf
-fraction-is alpha beta gentle B G = λ i. record { alpha = alpha; beta = B i; gentle = (G ∙ ap (λ (s : Scalar). isFactor alpha && isFactor s) B) i }
+fraction-own f alpha e = ap (λ (g : Fraction). g .alpha) e
 
--- it has its alpha, and is the fraction of that
-pub fraction-own : (f : Fraction) (alpha : Scalar) → f ≡ fractionOf alpha → (f .alpha ≡ alpha) × (f ≡ fractionOf (f .alpha))
-unfolding fractionOf
-fraction-own f alpha e = let a = ap (λ (g : Fraction). g .alpha) e in (a, e ∙ ap fractionOf (sym a))
+pub between-is : (a b alpha : Scalar) → betweenS a b (fractionOf alpha) ≡ interpolateS geop a b alpha
+unfolding betweenS fractionOf interpolateS
+between-is a b alpha = refl
 
-module _ (f : Fraction) (F : f ≡ fractionOf (f .alpha)) where
-  pub fraction-beta : f .beta ≡ subS ONE (f .alpha)
-  unfolding fractionOf
-  fraction-beta = ap (λ (g : Fraction). g .beta) F
+pub between-own : (a b : Scalar) (f : Fraction) (alpha : Scalar) → f ≡ fractionOf alpha → betweenS a b f ≡ interpolateS geop a b (f .alpha)
+between-own a b f alpha e = ap (betweenS a b) e ∙ between-is a b alpha ∙ ap (interpolateS geop a b) (sym (fraction-own f alpha e))
 
-  both-factors : f .gentle ≡ (isFactor (f .alpha) && isFactor (f .beta))
-  unfolding fractionOf
-  both-factors = ap (λ (g : Fraction). g .gentle) F ∙ ap (λ (s : Scalar). isFactor (f .alpha) && isFactor s) (sym fraction-beta)
-
--- ---- what `tame` says, test by test
-pub record Tame (f : Fraction) (a b d : Scalar) : Type 0 where
-  pub alpha : isFactor (f .alpha) ≡ true
-  pub beta : isFactor (f .beta) ≡ true
+-- ---- what `all_in_order` says, test by test
+pub record AllInOrder (t u a b d : Scalar) : Type 0 where
+  pub alpha : isFactor t ≡ true
+  pub beta : isFactor u ≡ true
   pub first : inOrder a ≡ true
   pub second : inOrder b ≡ true
   pub diff : inOrder d ≡ true
 
-pub tame-is : (f : Fraction) (a b d : Scalar) → f ≡ fractionOf (f .alpha) → isTame (f .gentle) a b d ≡ true → Tame f a b d
-tame-is f a b d F e =
-    let t2 = f .gentle && inOrder a in
-    let t3 = t2 && inOrder b in
-    let h3 : T (t3 && inOrder d) = yes (t3 && inOrder d) e in
-    let h2 : T t3 = and-l t3 (inOrder d) h3 in
-    let h1 : T t2 = and-l t2 (inOrder b) h2 in
-    let g : T (isFactor (f .alpha) && isFactor (f .beta)) = subst T (both-factors f F) (and-l (f .gentle) (inOrder a) h1) in
+pub all-in-order : (t u a b d : Scalar) → allInOrder t u a b d ≡ true → AllInOrder t u a b d
+all-in-order t u a b d e =
+    let f2 = isFactor t && isFactor u in
+    let f3 = f2 && inOrder a in
+    let f4 = f3 && inOrder b in
+    let h5 : T (f4 && inOrder d) = yes (f4 && inOrder d) e in
+    let h4 : T f4 = and-l f4 (inOrder d) h5 in
+    let h3 : T f3 = and-l f3 (inOrder b) h4 in
+    let h2 : T f2 = and-l f2 (inOrder a) h3 in
     record {
-      alpha = is-true (isFactor (f .alpha)) (and-l (isFactor (f .alpha)) (isFactor (f .beta)) g);
-      beta = is-true (isFactor (f .beta)) (and-r (isFactor (f .alpha)) (isFactor (f .beta)) g);
-      first = is-true (inOrder a) (and-r (f .gentle) (inOrder a) h1);
-      second = is-true (inOrder b) (and-r t2 (inOrder b) h2);
-      diff = is-true (inOrder d) (and-r t3 (inOrder d) h3);
+      alpha = is-true (isFactor t) (and-l (isFactor t) (isFactor u) h2);
+      beta = is-true (isFactor u) (and-r (isFactor t) (isFactor u) h2);
+      first = is-true (inOrder a) (and-r f2 (inOrder a) h3);
+      second = is-true (inOrder b) (and-r f3 (inOrder b) h4);
+      diff = is-true (inOrder d) (and-r f4 (inOrder d) h5);
     }

@@ -1,24 +1,22 @@
 -- The Rust's sum, difference, product and quotient hold the exact results, strictly inside. Assumes nothing.
 use mathlib.Core.Path.{_≡_, refl, sym, ap, _∙_, subst}
 use mathlib.Core.Logic.{_↔_}
-use mathlib.Core.Bool.{Bool, true, false, not, _&&_, _||_, cond}
+use mathlib.Core.Bool.{Bool, true, false, not, _&&_, cond}
 use Prim.Native.Nat.{ℕ}
 use native.Mathlib.Omega.{arith}
-use lib.IntN.{ℤ, pos}
+use lib.IntN.{pos}
 use lib.Dec.{T}
-use lib.Ieee.{Float, nan, inf, fin, binary64, round, add, sub, mul, div, neg, le, eq, fits, ofInt}
+use lib.Ieee.{Float, nan, inf, fin, binary64, sub, div, neg, le, eq, ofInt}
 use lib.Ieee.Bits.{is-true}
 use Rattle.ring.proofs.Ring.{by-rep, by-eq, read}
 use Rattle.exact.specs.Rational.{ℚ, _+ℚ_, _*ℚ_, -ℚ_, _-ℚ_, 0ℚ, 1ℚ, invℚ, _÷_, _≤ℚ_, lt→not-le}
 use Rattle.exact.proofs.Order.{0<1, le-refl, le-antisym}
 use Rattle.exact.proofs.Field.{ℚring}
 use Rattle.exact.proofs.Embed.{÷-inv, ÷-mul}
-use mathlib.Core.List.{List, [], _∷_}
-use Rattle.math.specs.Neighbours.{nextUp, nextDown}
+use mathlib.Core.List.{[], _∷_}
 use Rattle.math.specs.declared.scalars.Scalar.{Scalar}
-use Rattle.math.specs.declared.scalars.Divided.{Divided}
 use Rattle.math.specs.declared.scalars.Divided.the-variants.{Value, Failed}
-use Rattle.math.specs.Scalars.{addS, subS, mulS, divS, inverseS, fourFifthsS, ratioOf, zeroF, hasZero, isSame, ZERO, ENTIRE}
+use Rattle.math.specs.Scalars.{addS, subS, corners, mulS, divS, inverseS, fourFifthsS, ratioOf, zeroF, hasZero, isSame, ZERO, ENTIRE}
 use Rattle.math.specs.Values.{value, Below, Above, Holds}
 use Rattle.math.specs.Encloses.{isClash}
 use Rattle.math.proofs.Bools.{and-i, and-l, and-r, or-l, or-r}
@@ -51,7 +49,7 @@ sub-holds a b x y h k = strict-holds (subS a b) (x -ℚ y) (sub-strict a b x y h
 
 -- ---- the product
 product-strict : (a b : Scalar) (x y : ℚ) → Clear (a .lo) (a .hi) (b .lo) (b .hi) → Holds a x → Holds b y → Strict (mulS a b) (x *ℚ y)
-unfolding mulS
+unfolding mulS corners
 product-strict a b x y u h k = record {
   low = mul-below x y (a .lo) (a .hi) (b .lo) (b .hi) (h .low) (h .high) (k .low) (k .high) u;
   high = mul-above x y (a .lo) (a .hi) (b .lo) (b .hi) (h .low) (h .high) (k .low) (k .high) u;

@@ -1,11 +1,10 @@
 -- The Rust's arithmetic meets the record of laws: `geop-encloses`. Assumes nothing.
-use mathlib.Core.Path.{_≡_, refl, sym, subst}
-use mathlib.Core.Logic.{_⊎_, inl, inr}
-use mathlib.Core.Bool.{Bool, true, false, not, _&&_, _||_}
+use mathlib.Core.Path.{_≡_}
+use mathlib.Core.Logic.{inl, inr}
+use mathlib.Core.Bool.{true, false, not, _&&_}
 use lib.IntN.{pos}
 use lib.Dec.{T, not-T}
 use lib.Ieee.{Float, nan, inf, fin, binary64, eq, le, fits, sub}
-use lib.Ieee.Fits.{sub-fits}
 use Rattle.exact.specs.Rational.{ℚ}
 use Rattle.math.specs.declared.scalars.Scalar.{Scalar}
 use Rattle.math.specs.declared.scalars.Divided.the-variants.{Value}
@@ -14,7 +13,7 @@ use Rattle.math.specs.Values.{Holds}
 use Rattle.math.specs.Encloses.{Encloses, isClash, Between}
 use Rattle.math.proofs.Bools.{and-l, and-r, or-split}
 use Rattle.math.proofs.Doubles.Next.{nextUp-fits, nextDown-fits}
-use Rattle.math.proofs.Intervals.Strict.{Strict, strict-thick}
+use Rattle.math.proofs.Intervals.Strict.{strict-thick}
 use Rattle.math.proofs.Intervals.Geop.{add-holds, sub-holds, mul-holds, div-holds, div-fails, ratio-holds, sub-strict, div-strict}
 use Rattle.math.proofs.Intervals.Alpha.{gap-geop, alpha-low, alpha-strict, rest-high, rest-strict}
 

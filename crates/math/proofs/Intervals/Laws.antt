@@ -11,7 +11,7 @@ use Rattle.exact.proofs.Field.{ℚring}
 use Rattle.exact.proofs.Order.{lerp-ge, lerp-le}
 use Rattle.exact.proofs.Embed.{÷-one}
 use Rattle.math.specs.declared.scalars.Scalar.{Scalar}
-use Rattle.math.specs.Scalars.{Arithmetic, ONE, zeroF, oneF, isExactly, inUnit, isSteady, viaDelta, viaWeights, interpolateS, intersectS}
+use Rattle.math.specs.Scalars.{Arithmetic, ONE, zeroF, oneF, isExactly, inUnit, sameOperands, viaDelta, viaWeights, interpolateS, intersectS}
 use Rattle.math.specs.Values.{value, Below, Above, Holds}
 use Rattle.math.specs.Encloses.{Encloses, Tame}
 use Rattle.math.proofs.Bools.{and-l, and-r, pick}
@@ -32,7 +32,7 @@ above-lerp (inf true) a x y h k p q = p
 above-lerp (inf false) a x y h k p q = tt
 above-lerp (fin s m e) a x y h k p q = lerp-le h k p q
 
-pub lerp-holds : (s : Scalar) (a x y : ℚ) → 0ℚ ≤ℚ a → a ≤ℚ 1ℚ → Holds s x → Holds s y → Holds s (lerp a x y)
+lerp-holds : (s : Scalar) (a x y : ℚ) → 0ℚ ≤ℚ a → a ≤ℚ 1ℚ → Holds s x → Holds s y → Holds s (lerp a x y)
 lerp-holds s a x y h k p q = record { low = below-lerp (s .lo) a x y h k (p .low) (q .low); high = above-lerp (s .hi) a x y h k (p .high) (q .high) }
 
 -- a number in an interval that lies in 0 to 1
@@ -54,7 +54,7 @@ module _ (ar : Arithmetic) (E : Encloses ar) where
   pub interpolate-holds : (a b t : Scalar) (α x y : ℚ) → Tame ar E a b t → Holds t α → Holds a x → Holds b y → Holds (interpolateS ar a b t) (lerp α x y)
   unfolding interpolateS
   interpolate-holds a b t α x y w T′ A B =
-      pick (λ (s : Scalar). Holds s (lerp α x y)) (isSteady a b t) a (intersectS (viaDelta ar a b t) (viaWeights ar a b t))
+      pick (λ (s : Scalar). Holds s (lerp α x y)) (sameOperands a b t) a (intersectS (viaDelta ar a b t) (viaWeights ar a b t))
       (λ u. lerp-holds a α x y (unit-low t α (and-r (isExactly a b) (inUnit t) u) T′) (unit-high t α (and-r (isExactly a b) (inUnit t) u) T′) A (exactly-holds a b y (and-l (isExactly a b) (inUnit t) u) B))
       (λ _. intersect-holds (viaDelta ar a b t) (viaWeights ar a b t) (lerp α x y) delta weights)
     where

@@ -1,8 +1,8 @@
 -- The widened least of the four products of two intervals' bounds lies below x y, for x in the one and y in the other, and the widened greatest above, unless
 -- one interval is the whole line and the other is zero. The upper bound is the mirror image of the lower one. Assumes nothing.
 use mathlib.Core.Path.{_≡_, sym, ap, _∙_, subst}
-use mathlib.Core.List.{List, [], _∷_}
-use mathlib.Core.Logic.{_⊎_, inl, inr}
+use mathlib.Core.List.{[], _∷_}
+use mathlib.Core.Logic.{inl, inr}
 use lib.Dec.{T}
 use lib.Ieee.{Float, binary64, mul, neg, le, fits}
 use lib.Ieee.Fits.{mul-fits, neg-fits}

@@ -8,7 +8,7 @@ use Rattle.math.specs.Picks.{minF, maxF}
 use Rattle.math.specs.declared.scalars.Scalar.{Scalar}
 use Rattle.math.specs.declared.scalars.Divided.{Divided}
 use Rattle.math.specs.declared.scalars.Divided.the-variants.{Value, Failed}
-use Rattle.math.specs.Scalars.{Arithmetic, geop, ZERO, ONE, ENTIRE, unionS, intersectS, valueOr, isSteady, viaDelta, viaWeights, interpolateS}
+use Rattle.math.specs.Scalars.{Arithmetic, geop, ZERO, ONE, ENTIRE, unionS, intersectS, valueOr, sameOperands, viaDelta, viaWeights, interpolateS}
 use Rattle.math.specs.Values.{Proper}
 use Rattle.math.specs.Encloses.{Encloses, InOrder, Tame, isModerate}
 use Rattle.math.proofs.Bools.{pick}
@@ -88,5 +88,5 @@ module _ (ar : Arithmetic) (E : Encloses ar) where
     pub interpolate-proper : Proper (interpolateS ar a b t)
     unfolding interpolateS
     interpolate-proper =
-        pick Proper (isSteady a b t) a (intersectS (viaDelta ar a b t) (viaWeights ar a b t)) (λ _. A)
+        pick Proper (sameOperands a b t) a (intersectS (viaDelta ar a b t) (viaWeights ar a b t)) (λ _. A)
         (λ _. intersect-proper (viaDelta ar a b t) (viaWeights ar a b t) delta-proper weights-proper)

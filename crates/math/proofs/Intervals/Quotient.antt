@@ -1,16 +1,16 @@
 -- The widened reciprocal of an interval that does not reach zero holds the reciprocal of every number in it. Above zero by the order of reciprocals; below zero by the mirror image.
 -- Assumes nothing.
 use mathlib.Core.Path.{_≡_, refl, sym, ap, _∙_, subst}
-use mathlib.Core.List.{List, [], _∷_}
+use mathlib.Core.List.{[], _∷_}
 use mathlib.Core.Logic.{_⊎_, inl, inr}
 use mathlib.Core.Bool.{Bool, true, false, not, _&&_, cond}
 use Prim.Native.Nat.{ℕ, zero, suc, _*_}
 use lib.IntN.{ℤ, pos}
 use lib.Dec.{T, eqb}
-use lib.Ieee.{Float, nan, inf, fin, binary64, up, down, round, unlike, div, neg, lt, le, fits}
+use lib.Ieee.{Float, nan, inf, fin, binary64, up, down, round, div, neg, lt, le, fits}
 use lib.Ieee.Fits.{div-fits}
 use Rattle.ring.proofs.Ring.{by-rep, by-eq, read}
-use Rattle.exact.specs.Rational.{ℚ, _*ℚ_, -ℚ_, 0ℚ, 1ℚ, invℚ, _÷_, _≤ℚ_, _<ℚ_, lt→not-le}
+use Rattle.exact.specs.Rational.{ℚ, _*ℚ_, -ℚ_, 0ℚ, 1ℚ, invℚ, _≤ℚ_, _<ℚ_, lt→not-le}
 use Rattle.exact.proofs.Field.{ℚring, nn-inv, *ℚ-comm, *ℚ-1}
 use Rattle.exact.proofs.Order.{le-nn, nn-le, le-refl, le-trans as ≤-trans, lt→le, le-or-lt, lt-le-trans, neg-neg, neg-0, neg-lt, 0<1, pos-inv, inv-anti}
 use Rattle.exact.proofs.Embed.{÷-one, signed-inv}
@@ -101,7 +101,7 @@ below-zero : (hi : Float) (q : ℚ) → Above hi q → (T (le zeroF hi) → ⊥)
 below-zero hi q h n = above-zero (neg hi) (-ℚ q) (above-neg hi q h) (λ t. n (le-trans zeroF (neg zeroF) hi (unfold le neg in tt) (subst (λ (z : Float). T (le (neg zeroF) z)) (neg-neg-f hi) (neg-le (neg hi) zeroF t))))
 
 -- ---- both
-pub split-zero : (x : Scalar) → hasZero x ≡ false → (T (le (x .lo) zeroF) → ⊥) ⊎ (T (le zeroF (x .hi)) → ⊥)
+split-zero : (x : Scalar) → hasZero x ≡ false → (T (le (x .lo) zeroF) → ⊥) ⊎ (T (le zeroF (x .hi)) → ⊥)
 split-zero x e = go (le (x .lo) zeroF) (le zeroF (x .hi)) e
   where
     go : (a b : Bool) → (a && b) ≡ false → (T a → ⊥) ⊎ (T b → ⊥)

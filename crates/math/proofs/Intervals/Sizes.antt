@@ -1,7 +1,7 @@
 -- Sizes: differences of two doubles x < y of moderate size, widened, lie in 0 to 2^102, and above zero where another double lies between; a product of such an interval and one that
 -- is at least -1 has no very low bound. Assumes nothing.
 use mathlib.Core.Path.{_≡_, refl, sym, ap, ap₂, _∙_, subst}
-use mathlib.Core.List.{List, [], _∷_}
+use mathlib.Core.List.{[], _∷_}
 use mathlib.Core.Bool.{Bool, true, false, not, cond}
 use Prim.Native.Nat.{ℕ, zero, suc, _+_, _*_, _^_}
 use native.Mathlib.Nat.{pow-succ'}
@@ -12,13 +12,13 @@ use lib.Pow.{pow-pos}
 use lib.Ieee.{Float, nan, inf, fin, binary64, low, fits, neg, lt, le, eq, sub, mul, isNan}
 use lib.Ieee.Fits.{sub-fits, mul-fits}
 use Rattle.ring.proofs.Ring.{by-rep, by-eq, read}
-use Rattle.exact.specs.Rational.{ℚ, _+ℚ_, _*ℚ_, -ℚ_, _-ℚ_, 0ℚ, 1ℚ, _÷_, signed, whole, _≤ℚ_, _<ℚ_, nn-of, lt→not-le}
+use Rattle.exact.specs.Rational.{ℚ, _+ℚ_, _*ℚ_, -ℚ_, _-ℚ_, 0ℚ, 1ℚ, _÷_, signed, _≤ℚ_, _<ℚ_, nn-of, lt→not-le}
 use Rattle.exact.proofs.Field.{ℚring, nn-add}
 use Rattle.exact.proofs.Order.{le-by, cone}
 use Rattle.exact.proofs.Embed.{÷-eq, ÷-add, ÷-one}
 use Rattle.math.specs.Neighbours.{nextUp, nextDown}
 use Rattle.math.specs.declared.scalars.Scalar.{Scalar}
-use Rattle.math.specs.Scalars.{zeroF, mulS, least4}
+use Rattle.math.specs.Scalars.{zeroF, corners, mulS, least4}
 use Rattle.math.specs.Values.{value}
 use Rattle.math.specs.Encloses.{isModerate, Between}
 use Rattle.math.proofs.Bools.{and-i, and-l, and-r}
@@ -57,10 +57,6 @@ tiny-is = refl
 pub tiny2-is : value tiny2 ≡ 2 ÷ 2 ^ low binary64
 unfolding value
 tiny2-is = ÷-eq 1 2 (2 ^ 1073) (2 ^ 1074) (pow-pos 1073) (pow-pos 1074) refl
-
-big-is : (k : ℕ) → value (big k) ≡ whole (1 * 2 ^ k)
-unfolding value
-big-is k = refl
 
 pub small-is : (k : ℕ) → value (small k) ≡ -ℚ value (big k)
 small-is k = unfold neg in value-neg (big k)
@@ -163,7 +159,7 @@ product-low (fin s m e) (fin t n d) h k l _ = rounds-ge (mul binary64 (fin s m e
 
 -- so the lower bound of such a product of intervals is at least -2^103
 pub mul-bounded : (p q : Scalar) → T (le zeroF (p .lo)) → T (le (p .lo) (big 102)) → T (le zeroF (p .hi)) → T (le (p .hi) (big 102)) → T (le minusOne (q .lo)) → T (le minusOne (q .hi)) → T (le (small 103) (mulS p q .lo))
-unfolding mulS
+unfolding mulS corners
 mul-bounded p q a b c d e f =
     let w = mul binary64 (p .lo) (q .lo) in
     let x = mul binary64 (p .lo) (q .hi) in

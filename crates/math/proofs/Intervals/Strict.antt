@@ -1,14 +1,14 @@
 -- A number that lies strictly inside an interval: what a widened result holds. Such an interval is not [0, 0]. Assumes nothing.
-use mathlib.Core.Path.{_≡_, subst, _∙_}
-use mathlib.Core.Bool.{Bool, true, false, not, _&&_}
+use mathlib.Core.Path.{subst, _∙_}
+use mathlib.Core.Bool.{false}
 use lib.IntN.{pos}
-use lib.Dec.{T, not-T}
+use lib.Dec.{T}
 use lib.Ieee.{Float, nan, inf, fin, eq}
 use Rattle.exact.specs.Rational.{ℚ, 0ℚ, _<ℚ_, lt→not-le}
 use Rattle.exact.proofs.Order.{lt→le}
 use Rattle.math.specs.declared.scalars.Scalar.{Scalar}
 use Rattle.math.specs.Scalars.{ZERO, zeroF, isSame}
-use Rattle.math.specs.Values.{value, Holds}
+use Rattle.math.specs.Values.{Holds}
 use Rattle.math.proofs.Bools.{and-l, and-r}
 use Rattle.math.proofs.Doubles.Values.{value-zero, eq→value}
 use Rattle.math.proofs.Doubles.Rounding.{Under, Over, under-below, over-above}

@@ -1,5 +1,5 @@
 -- The widened sum of two lower bounds lies below the sum of what they bound, and so above. Assumes nothing.
-use mathlib.Core.Path.{_≡_, refl}
+use mathlib.Core.Path.{refl}
 use mathlib.Core.Bool.{true, false}
 use lib.Ieee.{Float, nan, inf, fin, binary64, add}
 use lib.Ieee.Fits.{add-fits}
@@ -11,34 +11,28 @@ use Rattle.math.proofs.Doubles.Rounding.{Under, Over, Lows, Highs, lows
 use Rattle.math.proofs.Doubles.Operations.{add-rounds}
 
 module _ (p q : ℚ) where
-  add-lows : (x y : Float) → Below x p → Below y q → Lows (add binary64 x y) (p +ℚ q)
+  -- before it is widened: the two sides of each pair of doubles
+  sums : (x y : Float)
+      → (Below x p → Below y q → Lows (add binary64 x y) (p +ℚ q)) × (Above x p → Above y q → Highs (add binary64 x y) (p +ℚ q))
   unfolding add
-  add-lows nan y h k = absurd h
-  add-lows (inf false) y h k = absurd h
-  add-lows (inf true) nan h k = absurd k
-  add-lows (inf true) (inf true) h k = lows-inf (inf true) (p +ℚ q) refl
-  add-lows (inf true) (inf false) h k = absurd k
-  add-lows (inf true) (fin t n d) h k = lows-inf (inf true) (p +ℚ q) refl
-  add-lows (fin s m e) nan h k = absurd k
-  add-lows (fin s m e) (inf true) h k = lows-inf (inf true) (p +ℚ q) refl
-  add-lows (fin s m e) (inf false) h k = absurd k
-  add-lows (fin s m e) (fin t n d) h k = lows-mono (add binary64 (fin s m e) (fin t n d)) (value (fin s m e) +ℚ value (fin t n d)) (p +ℚ q) (add-mono h k) (add-rounds s m e t n d .lows)
-
-  add-highs : (x y : Float) → Above x p → Above y q → Highs (add binary64 x y) (p +ℚ q)
-  unfolding add
-  add-highs nan y h k = absurd h
-  add-highs (inf true) y h k = absurd h
-  add-highs (inf false) nan h k = absurd k
-  add-highs (inf false) (inf false) h k = highs-inf (inf false) (p +ℚ q) refl
-  add-highs (inf false) (inf true) h k = absurd k
-  add-highs (inf false) (fin t n d) h k = highs-inf (inf false) (p +ℚ q) refl
-  add-highs (fin s m e) nan h k = absurd k
-  add-highs (fin s m e) (inf false) h k = highs-inf (inf false) (p +ℚ q) refl
-  add-highs (fin s m e) (inf true) h k = absurd k
-  add-highs (fin s m e) (fin t n d) h k = highs-mono (add binary64 (fin s m e) (fin t n d)) (value (fin s m e) +ℚ value (fin t n d)) (p +ℚ q) (add-mono h k) (add-rounds s m e t n d .highs)
+  sums nan y = (λ h _. absurd h, λ h _. absurd h)
+  sums (inf s) nan = (λ _ k. absurd k, λ _ k. absurd k)
+  sums (fin s m e) nan = (λ _ k. absurd k, λ _ k. absurd k)
+  sums (inf true) (inf true) = (λ _ _. lows-inf (inf true) (p +ℚ q) refl, λ h _. absurd h)
+  sums (inf true) (inf false) = (λ _ k. absurd k, λ h _. absurd h)
+  sums (inf true) (fin t n d) = (λ _ _. lows-inf (inf true) (p +ℚ q) refl, λ h _. absurd h)
+  sums (inf false) (inf true) = (λ h _. absurd h, λ _ k. absurd k)
+  sums (inf false) (inf false) = (λ h _. absurd h, λ _ _. highs-inf (inf false) (p +ℚ q) refl)
+  sums (inf false) (fin t n d) = (λ h _. absurd h, λ _ _. highs-inf (inf false) (p +ℚ q) refl)
+  sums (fin s m e) (inf true) = (λ _ _. lows-inf (inf true) (p +ℚ q) refl, λ _ k. absurd k)
+  sums (fin s m e) (inf false) = (λ _ k. absurd k, λ _ _. highs-inf (inf false) (p +ℚ q) refl)
+  sums (fin s m e) (fin t n d) = (
+    λ h k. lows-mono (add binary64 (fin s m e) (fin t n d)) _ (p +ℚ q) (add-mono h k) (add-rounds s m e t n d .lows),
+    λ h k. highs-mono (add binary64 (fin s m e) (fin t n d)) _ (p +ℚ q) (add-mono h k) (add-rounds s m e t n d .highs),
+  )
 
   pub add-below : (x y : Float) → Below x p → Below y q → Under (nextDown (add binary64 x y)) (p +ℚ q)
-  add-below x y h k = lows-down (add binary64 x y) (p +ℚ q) (add-fits binary64 x y) (add-lows x y h k)
+  add-below x y h k = lows-down (add binary64 x y) (p +ℚ q) (add-fits binary64 x y) (sums x y .0 h k)
 
   pub add-above : (x y : Float) → Above x p → Above y q → Over (nextUp (add binary64 x y)) (p +ℚ q)
-  add-above x y h k = highs-up (add binary64 x y) (p +ℚ q) (add-fits binary64 x y) (add-highs x y h k)
+  add-above x y h k = highs-up (add binary64 x y) (p +ℚ q) (add-fits binary64 x y) (sums x y .1 h k)

@@ -1,20 +1,20 @@
 -- What the comparisons of two intervals say of the numbers in them, and what `union`, `intersect` and a sharp interval hold. The same for every arithmetic. Assumes nothing.
-use mathlib.Core.Path.{_≡_, sym, subst}
-use mathlib.Core.Bool.{Bool, true, false, not, cond}
+use mathlib.Core.Path.{_≡_, subst}
+use mathlib.Core.Bool.{Bool, true, false, cond}
 use Prim.Native.Nat.{ℕ}
 use lib.IntN.{ℤ, pos}
 use lib.Dec.{T}
 use lib.Ieee.{Float, nan, inf, fin, binary64, lt, le, eq, sub}
-use Rattle.exact.specs.Rational.{ℚ, 0ℚ, 1ℚ, _≤ℚ_, _<ℚ_}
-use Rattle.exact.proofs.Order.{le-refl, le-antisym, le-trans as ≤-trans, lt-le-trans, le-lt-trans}
+use Rattle.exact.specs.Rational.{ℚ, 0ℚ, 1ℚ, _≤ℚ_}
+use Rattle.exact.proofs.Order.{le-refl, le-antisym}
 use Rattle.exact.proofs.Embed.{÷-one}
 use Rattle.math.specs.Picks.{minF, maxF}
 use Rattle.math.specs.declared.scalars.Scalar.{Scalar}
-use Rattle.math.specs.Scalars.{sharp, ZERO, ONE, ENTIRE, oneF, couldBeEqual, couldBeGreater, couldBeLess, definitelyGreater, definitelyLess, isSame, isSubsetOf, isExactly, unionS, intersectS}
+use Rattle.math.specs.Scalars.{sharp, ZERO, ONE, ENTIRE, oneF, isSame, isSubsetOf, isExactly, unionS, intersectS}
 use Rattle.math.specs.Values.{value, Below, Above, Holds, Proper}
-use Rattle.math.proofs.Bools.{and-i, and-l, and-r, pick}
-use Rattle.math.proofs.Doubles.Values.{value-zero, lt→value, eq→value}
-use Rattle.math.proofs.Doubles.Order.{below-number, above-number, le-below, le-above, meet-le, total-order}
+use Rattle.math.proofs.Bools.{and-l, and-r, pick}
+use Rattle.math.proofs.Doubles.Values.{value-zero, eq→value}
+use Rattle.math.proofs.Doubles.Order.{below-number, above-number, le-below, le-above, meet-le}
 use Rattle.math.proofs.Doubles.Least.{min-either, max-either, min-left, min-second, max-left, max-second}
 
 -- ---- intervals that no operation made
@@ -33,45 +33,6 @@ one-holds = subst (λ (q : ℚ). Holds ONE q) one-is (sharp-holds false 1 (pos 0
 pub entire-holds : (q : ℚ) → Holds ENTIRE q
 entire-holds q = record { low = tt; high = tt }
 
--- ---- between an upper bound of x and a lower bound of y
-lt-between : (h l : Float) (x y : ℚ) → T (lt h l) → Above h x → Below l y → x <ℚ y
-unfolding lt
-lt-between nan l x y t a b = absurd a
-lt-between (inf true) l x y t a b = absurd a
-lt-between (inf false) nan x y t a b = absurd t
-lt-between (inf false) (inf s) x y t a b = absurd t
-lt-between (inf false) (fin s m e) x y t a b = absurd t
-lt-between (fin s m e) nan x y t a b = absurd t
-lt-between (fin s m e) (inf true) x y t a b = absurd t
-lt-between (fin s m e) (inf false) x y t a b = absurd b
-lt-between (fin s m e) (fin u n d) x y t a b = lt-le-trans (le-lt-trans a (lt→value s m e u n d t)) b
-
-le-between : (h l : Float) (x y : ℚ) → T (le h l) → Above h x → Below l y → x ≤ℚ y
-le-between nan l x y t a b = absurd a
-le-between (inf true) l x y t a b = absurd a
-le-between (inf false) l x y t a b = absurd (le-below (inf false) l y t b)
-le-between (fin s m e) l x y t a b = ≤-trans a (le-below (fin s m e) l y t b)
-
-not-lt-between : (h l : Float) (x y : ℚ) → lt l h ≡ false → Above h x → Below l y → x ≤ℚ y
-not-lt-between h l x y e a b = le-between h l x y (total-order h l (above-number h x a) (below-number l y b) (subst (λ (t : Bool). T (not t)) (sym e) tt)) a b
-
-module _ (a b : Scalar) (x y : ℚ) (h : Holds a x) (k : Holds b y) where
-  pub definitely-less : definitelyLess a b ≡ true → x <ℚ y
-  definitely-less e = lt-between (a .hi) (b .lo) x y (subst T (sym e) tt) (h .high) (k .low)
-
-  pub definitely-greater : definitelyGreater a b ≡ true → y <ℚ x
-  definitely-greater e = lt-between (b .hi) (a .lo) y x (subst T (sym e) tt) (k .high) (h .low)
-
-  pub could-not-less : couldBeLess a b ≡ false → y ≤ℚ x
-  could-not-less e = not-lt-between (b .hi) (a .lo) y x e (k .high) (h .low)
-
-  pub could-not-greater : couldBeGreater a b ≡ false → x ≤ℚ y
-  could-not-greater e = not-lt-between (a .hi) (b .lo) x y e (h .high) (k .low)
-
--- two that could not be equal have no number in common
-pub could-not-equal : (a b : Scalar) (x : ℚ) → couldBeEqual a b ≡ false → Holds a x → Holds b x → ⊥
-could-not-equal a b x e h k = subst T e (and-i (le (a .lo) (b .hi)) (le (b .lo) (a .hi)) (meet-le (a .lo) (b .hi) x (h .low) (k .high)) (meet-le (b .lo) (a .hi) x (k .low) (h .high)))
-
 -- an interval with the bounds of a sharp one holds its number alone
 pub same-sharp : (a : Scalar) (s : Bool) (m : ℕ) (e : ℤ) (x : ℚ) → T (isSame a (sharp (fin s m e))) → Holds a x → x ≡ value (fin s m e)
 same-sharp a s m e x t h = le-antisym (high (a .hi) (and-r (eq (a .lo) (fin s m e)) (eq (a .hi) (fin s m e)) t) (h .high)) (low (a .lo) (and-l (eq (a .lo) (fin s m e)) (eq (a .hi) (fin s m e)) t) (h .low))
@@ -86,7 +47,7 @@ same-sharp a s m e x t h = le-antisym (high (a .hi) (and-r (eq (a .lo) (fin s m 
     high (inf u) t b = unfold eq in absurd t
     high (fin u n d) t b = subst (λ (z : ℚ). x ≤ℚ z) (eq→value u n d s m e t) b
 
-pub subset-holds : (a b : Scalar) (x : ℚ) → T (isSubsetOf a b) → Holds a x → Holds b x
+subset-holds : (a b : Scalar) (x : ℚ) → T (isSubsetOf a b) → Holds a x → Holds b x
 subset-holds a b x t h = record {
   low = le-below (b .lo) (a .lo) x (and-l (le (b .lo) (a .lo)) (le (a .hi) (b .hi)) t) (h .low);
   high = le-above (a .hi) (b .hi) x (and-r (le (b .lo) (a .lo)) (le (a .hi) (b .hi)) t) (h .high);

@@ -2,16 +2,16 @@
 -- Assumes nothing.
 use mathlib.Core.Path.{_≡_, refl, sym, ap, _∙_, subst}
 use mathlib.Core.Logic.{inl, inr}
-use mathlib.Core.Bool.{Bool, true, false, not}
+use mathlib.Core.Bool.{Bool, true, false, not, cond}
 use lib.Dec.{T}
 use lib.Ieee.{Float, nan, inf, fin, binary64, isNan, lt, le, fits, neg}
 use lib.Ieee.Fits.{neg-fits}
-use lib.Ieee.Bits.{is-true}
+use lib.Ieee.Bits.{is-true, is-false}
 use Rattle.math.specs.Neighbours.{nextUp, nextDown}
-use Rattle.math.specs.Picks.{minF, maxF}
+use Rattle.math.specs.Picks.{lesserF, greaterF, minF, maxF}
 use Rattle.math.specs.Scalars.{unionS, intersectS, widened}
 use Rattle.math.proofs.Bools.{yes, no, decide}
-use Rattle.math.proofs.Picks.{lesser-yes, lesser-no, greater-yes, greater-no, meets}
+use Rattle.math.proofs.Picks.{lesser-min, greater-max, meets}
 use Rattle.math.proofs.Doubles.Order.{number, number-neg, le-number-l, le-number-r, lt→le-f, le-self, le-trans, lt-le, lt-not-le, total-order, neg-le}
 use Rattle.math.proofs.Doubles.Mirror.{neg-neg}
 use Rattle.math.proofs.Doubles.Least.{min-either, max-either, max-is}
@@ -54,12 +54,6 @@ not-below (fin s m e) h = h
 not-true : (t : Bool) → t ≡ false → T (not t)
 not-true t e = subst (λ (b : Bool). T (not b)) (sym e) tt
 
-real : (a : Float) → T (number a) → isNan a ≡ false
-unfolding isNan
-real nan n = absurd n
-real (inf s) n = refl
-real (fin s m e) n = refl
-
 -- ---- of two doubles
 
 -- where the second is less, so is its neighbour, unless both neighbours are the least
@@ -89,35 +83,39 @@ down-no a b F G n m e h = elim (decide (lt (nextDown a) b)) [
   | inr t ↦ down-stuck a (nextDown b) F n (le-trans a b (nextDown a) (total-order a b n m (not-true (lt b a) e)) (total-order b (nextDown a) m (down-number a F n) t)) h
 ]
 
-down-min-numbers : (a b : Float) → T (fits binary64 a) → T (fits binary64 b) → T (number a) → T (number b) → minF (nextDown a) (nextDown b) ≡ nextDown (minF a b)
-down-min-numbers a b F G n m = by (lt b a) refl (lt (nextDown b) (nextDown a)) refl
+-- so a pick f by the neighbours' comparison has the neighbour of the pick by their own: they compare alike, unless their neighbours are the same
+agree : (a b : Float) → T (fits binary64 a) → T (fits binary64 b) → T (number a) → T (number b)
+    → (f : Bool → Float) → (nextDown a ≡ nextDown b → nextDown (f false) ≡ nextDown (f true))
+    → nextDown (f (lt (nextDown b) (nextDown a))) ≡ nextDown (f (lt b a))
+agree a b F G n m f h = by (lt b a) refl (lt (nextDown b) (nextDown a)) refl
   where
-    p : isNan a ≡ false
-    p = real a n
+    by : (t : Bool) → lt b a ≡ t → (u : Bool) → lt (nextDown b) (nextDown a) ≡ u → nextDown (f u) ≡ nextDown (f t)
+    by true e true g = refl
+    by true e false g = h (down-yes a F n b G m (yes (lt b a) e) g)
+    by false e true g = absurd (down-no a b F G n m e (yes (lt (nextDown b) (nextDown a)) g))
+    by false e false g = refl
 
-    q : isNan (nextDown a) ≡ false
-    q = real (nextDown a) (down-number a F n)
+-- the neighbour of a pick
+through : (t : Bool) (a b : Float) → cond t (nextDown b) (nextDown a) ≡ nextDown (cond t b a)
+through true a b = refl
+through false a b = refl
 
-    by : (t : Bool) → lt b a ≡ t → (u : Bool) → lt (nextDown b) (nextDown a) ≡ u → minF (nextDown a) (nextDown b) ≡ nextDown (minF a b)
-    by true e true f = sym (lesser-yes (nextDown a) (nextDown b) q f .0) ∙ ap nextDown (lesser-yes a b p e .0)
-    by true e false f = sym (lesser-no (nextDown a) (nextDown b) q f .0) ∙ down-yes a F n b G m (yes (lt b a) e) f ∙ ap nextDown (lesser-yes a b p e .0)
-    by false e true f = absurd (down-no a b F G n m e (yes (lt (nextDown b) (nextDown a)) f))
-    by false e false f = sym (lesser-no (nextDown a) (nextDown b) q f .0) ∙ ap nextDown (lesser-no a b p e .0)
+module _ (a b : Float) (F : T (fits binary64 a)) (G : T (fits binary64 b)) (n : T (number a)) (m : T (number b)) where
+  p : isNan a ≡ false
+  p = is-false (isNan a) n
 
-down-max-numbers : (a b : Float) → T (fits binary64 a) → T (fits binary64 b) → T (number a) → T (number b) → maxF (nextDown a) (nextDown b) ≡ nextDown (maxF a b)
-down-max-numbers a b F G n m = by (lt a b) refl (lt (nextDown a) (nextDown b)) refl
-  where
-    p : isNan a ≡ false
-    p = real a n
+  q : isNan (nextDown a) ≡ false
+  q = is-false (isNan (nextDown a)) (down-number a F n)
 
-    q : isNan (nextDown a) ≡ false
-    q = real (nextDown a) (down-number a F n)
+  down-min-numbers : minF (nextDown a) (nextDown b) ≡ nextDown (minF a b)
+  down-min-numbers =
+      sym (lesser-min _ _ q) ∙ through (lt (nextDown b) (nextDown a)) a b
+      ∙ agree a b F G n m (λ z. cond z b a) (λ e. e) ∙ ap nextDown (lesser-min a b p)
 
-    by : (t : Bool) → lt a b ≡ t → (u : Bool) → lt (nextDown a) (nextDown b) ≡ u → maxF (nextDown a) (nextDown b) ≡ nextDown (maxF a b)
-    by true e true f = sym (greater-yes (nextDown a) (nextDown b) q f .0) ∙ ap nextDown (greater-yes a b p e .0)
-    by true e false f = sym (greater-no (nextDown a) (nextDown b) q f .0) ∙ sym (down-yes b G m a F n (yes (lt a b) e) f) ∙ ap nextDown (greater-yes a b p e .0)
-    by false e true f = absurd (down-no b a G F m n e (yes (lt (nextDown a) (nextDown b)) f))
-    by false e false f = sym (greater-no (nextDown a) (nextDown b) q f .0) ∙ ap nextDown (greater-no a b p e .0)
+  down-max-numbers : maxF (nextDown a) (nextDown b) ≡ nextDown (maxF a b)
+  down-max-numbers =
+      sym (greater-max _ _ q) ∙ through (lt (nextDown a) (nextDown b)) a b
+      ∙ agree b a G F m n (λ z. cond z b a) (λ e. sym e) ∙ ap nextDown (greater-max a b p)
 
 -- a pick that passes a NaN over on both sides
 module _ (P : Float → Float → Float) (after-nan : (x : Float) → P nan x ≡ x) (before-nan : (x : Float) → T (number x) → P x nan ≡ x)
@@ -139,25 +137,25 @@ module _ (P : Float → Float → Float) (after-nan : (x : Float) → P nan x �
   down-pick (fin s m e) (fin t n d) F G = numbers (fin s m e) (fin t n d) F G (unfold isNan in tt) (unfold isNan in tt)
 
 -- the neighbour below the lesser, and below the greater
-pub down-min : (a b : Float) → T (fits binary64 a) → T (fits binary64 b) → minF (nextDown a) (nextDown b) ≡ nextDown (minF a b)
-down-min = down-pick minF (λ x. after x) (λ x n. sym (lesser-no x nan (real x n) (less x) .0)) down-min-numbers
+down-min : (a b : Float) → T (fits binary64 a) → T (fits binary64 b) → minF (nextDown a) (nextDown b) ≡ nextDown (minF a b)
+down-min = down-pick minF (λ x. after x) (λ x n. sym (lesser-min x nan (is-false (isNan x) n)) ∙ before x) down-min-numbers
   where
     after : (x : Float) → minF nan x ≡ x
     after x = unfold minF isNan in refl
 
-    less : (x : Float) → lt nan x ≡ false
-    less x = unfold lt in refl
+    before : (x : Float) → lesserF x nan ≡ x
+    before x = unfold lt in refl
 
-pub down-max : (a b : Float) → T (fits binary64 a) → T (fits binary64 b) → maxF (nextDown a) (nextDown b) ≡ nextDown (maxF a b)
-down-max = down-pick maxF (λ x. after x) (λ x n. sym (greater-no x nan (real x n) (less x) .0)) down-max-numbers
+down-max : (a b : Float) → T (fits binary64 a) → T (fits binary64 b) → maxF (nextDown a) (nextDown b) ≡ nextDown (maxF a b)
+down-max = down-pick maxF (λ x. after x) (λ x n. sym (greater-max x nan (is-false (isNan x) n)) ∙ before x) down-max-numbers
   where
     after : (x : Float) → maxF nan x ≡ x
     after x = unfold maxF isNan in refl
 
-    less : (x : Float) → lt x nan ≡ false
-    less nan = unfold lt in refl
-    less (inf s) = unfold lt in refl
-    less (fin s m e) = unfold lt in refl
+    before : (x : Float) → greaterF x nan ≡ x
+    before nan = unfold lt in refl
+    before (inf s) = unfold lt in refl
+    before (fin s m e) = unfold lt in refl
 
 -- ---- the mirror image
 
@@ -179,10 +177,10 @@ module _ (P Q : Float → Float → Float) (is : (a b : Float) → Q a b ≡ neg
       ∙ ap (λ (x : Float). neg (nextDown x)) (sym (neg-neg (P (neg a) (neg b))) ∙ ap neg (sym (is a b)))
       ∙ up-neg (Q a b)
 
-pub up-max : (a b : Float) → T (fits binary64 a) → T (fits binary64 b) → maxF (nextUp a) (nextUp b) ≡ nextUp (maxF a b)
+up-max : (a b : Float) → T (fits binary64 a) → T (fits binary64 b) → maxF (nextUp a) (nextUp b) ≡ nextUp (maxF a b)
 up-max = up-pick minF maxF max-is down-min
 
-pub up-min : (a b : Float) → T (fits binary64 a) → T (fits binary64 b) → minF (nextUp a) (nextUp b) ≡ nextUp (minF a b)
+up-min : (a b : Float) → T (fits binary64 a) → T (fits binary64 b) → minF (nextUp a) (nextUp b) ≡ nextUp (minF a b)
 up-min = up-pick maxF minF min-turned down-max
   where
     min-turned : (a b : Float) → minF a b ≡ neg (maxF (neg a) (neg b))

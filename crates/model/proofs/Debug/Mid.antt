@@ -15,7 +15,7 @@ use Rattle.math.specs.Neighbours.{nextUp, nextDown}
 use Rattle.math.specs.declared.scalars.Scalar.{Scalar}
 use Rattle.math.specs.declared.scalars.Divided.{Divided}
 use Rattle.math.specs.declared.scalars.Divided.the-variants.{Value}
-use Rattle.math.specs.Scalars.{geop, zeroF, oneF, twoF, sharp, TWO, ENTIRE, middle, valueOr, addS, mulS, inverseS, divS, least4}
+use Rattle.math.specs.Scalars.{geop, zeroF, oneF, twoF, sharp, TWO, ENTIRE, middle, valueOr, addS, corners, mulS, inverseS, divS, least4}
 use Rattle.math.specs.Values.{value, Below, Above, Holds, Proper}
 use Rattle.math.proofs.Doubles.Values.{value-zero, le→value}
 use Rattle.math.proofs.Doubles.Order.{number, le-trans, lt-le, le-lt}
@@ -114,7 +114,7 @@ module _ (a b : Float) (ka : Known a) (kb : Known b) where
   i-hi = (tt, tt)
 
   low : T (le (small 103) (mulS (addS (sharp a) (sharp b)) (inverseS TWO) .lo))
-  unfolding mulS
+  unfolding mulS corners
   low =
       let w = mul binary64 (s .lo) (i .lo) in
       let x = mul binary64 (s .lo) (i .hi) in

@@ -8,7 +8,7 @@ use Rattle.math.specs.declared.scalars.Scalar.{Scalar}
 use Rattle.math.specs.declared.scalars.Divided.the-variants.{Value, Failed}
 use Rattle.math.specs.Neighbours.{nextUp, nextDown}
 use Rattle.math.specs.Picks.{minF, maxF}
-use Rattle.math.specs.Scalars.{geop, zeroF, oneF, sharp, ZERO, ONE, ENTIRE, hasZero, widthS, unionS, intersectS, interpolateS, isSteady, viaDelta, viaWeights, addS, subS, mulS, inverseS, divS, fourFifthsS}
+use Rattle.math.specs.Scalars.{geop, zeroF, oneF, sharp, ZERO, ONE, ENTIRE, hasZero, widthS, unionS, intersectS, interpolateS, sameOperands, viaDelta, viaWeights, addS, subS, corners, mulS, inverseS, divS, fourFifthsS}
 use Rattle.math.specs.Values.{Proper}
 use Rattle.math.specs.Encloses.{InOrder, Tame}
 use Rattle.math.proofs.Bools.{pick}
@@ -108,7 +108,7 @@ ratio-fine = proper-fine fourFifthsS (o .ratio-proper)
 -- ---- interpolate
 pub interpolate-fine : (a b t : Scalar) → Proper a → Proper b → Proper t → Tame geop geop-encloses a b t → tested.interpolate a b t ≡ fine (interpolateS geop a b t)
 unfolding tested.interpolate interpolateS
-interpolate-fine a b t A B P w = go (isSteady a b t)
+interpolate-fine a b t A B P w = go (sameOperands a b t)
   where
     diff : Proper (subS b a)
     diff = o .sub-proper b a B A
@@ -140,5 +140,5 @@ unfolding tested.formed le
 turned-fires = refl
 
 pub clash-fires : tested.mul ENTIRE ZERO ≡ fired
-unfolding tested.mul tested.formed le nextDown lib.Ieee.neg nextUp minF isNan lib.Ieee.mul lib.Ieee.ofBits lib.Ieee.toBits maxF
+unfolding tested.mul tested.formed le corners nextDown lib.Ieee.neg nextUp minF isNan lib.Ieee.mul lib.Ieee.ofBits lib.Ieee.toBits maxF
 clash-fires = refl

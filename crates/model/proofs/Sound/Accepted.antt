@@ -131,7 +131,7 @@ pub record Sizes (c : Call) : Type 0 where
   pub area : stated c ≤ c .workLen
 
 pub sizes : (c : Call) → refusal c ≡ 0 → Sizes c
-unfolding lengthsFit nodesFit areaFits
+unfolding lengthsFit areaFits
 sizes c e = record {
   dim = k .dim;
   degree = k .degree;

@@ -10,7 +10,7 @@ use Rattle.exact.specs.Rational.{ℚ, _≤ℚ_, _<ℚ_}
 use Rattle.exact.specs.Spline.{shut, On}
 use Rattle.exact.specs.Cut.{Good, shift}
 use Rattle.exact.proofs.Splines.Boor.{lt-cast, le-cast}
-use Rattle.exact.proofs.Splines.On.{runs-cong}
+use Rattle.exact.proofs.Splines.On.{side-cong}
 use Rattle.exact.proofs.Splines.Cut.{good-left, good-right, cut-left, cut-right, count-left, count-right, ends-left, ends-right}
 use Rattle.math.specs.Values.{value, Holds}
 use Rattle.model.specs.Vector.{Vector, coordinate}
@@ -120,11 +120,11 @@ module _ (D p n : ℕ) (u : ℕ → ℚ) (C : ℕ → ℕ → ℚ) (x : Float) (
     left = λ tx. record {
       exact = r .exact;
       inside = record { at = λ a i aD h. subst (λ (q : Vector). Holds (coordinate q a) (r .exact a i)) (sym (getD-take m ps i [] (omega (arith, lenL)))) (r .inside .at a i aD (omega (arith, lenL, m<n′))) };
-      on = subst (λ (k : ℕ). On p k (values (take (m + suc p) ks)) (r .exact) t v) (sym lenL) (runs-cong shut p m (values ks) (values (take (m + suc p) ks)) (r .exact) (r .exact) t v left-values (λ _ _ _. refl) (cut-left p n u C (value x) m s e (length ps) (values ks) (r .exact) good (r .raised) se px xn t v tx o));
+      on = subst (λ (k : ℕ). On p k (values (take (m + suc p) ks)) (r .exact) t v) (sym lenL) (side-cong shut p m (values ks) (values (take (m + suc p) ks)) (r .exact) (r .exact) t v left-values (λ _ _ _. refl) (cut-left p n u C (value x) m s e (length ps) (values ks) (r .exact) good (r .raised) se px xn t v tx o));
     };
     right = λ xt. record {
       exact = λ a. shift m (r .exact a);
       inside = record { at = λ a i aD h. unfold shift in subst (λ (q : Vector). Holds (coordinate q a) (r .exact a (m + i))) (sym (getD-drop m ps i [])) (r .inside .at a (m + i) aD (omega (arith, lenR))) };
-      on = subst (λ (k : ℕ). On p k (values (drop m ks)) (λ a. shift m (r .exact a)) t v) (sym lenR) (runs-cong shut p (length ps - m) (shift m (values ks)) (values (drop m ks)) (λ a. shift m (r .exact a)) (λ a. shift m (r .exact a)) t v (λ i _. right-values i) (λ _ _ _. refl) (cut-right p n u C (value x) m s e (length ps) (values ks) (r .exact) good (r .raised) se px xn t v xt o));
+      on = subst (λ (k : ℕ). On p k (values (drop m ks)) (λ a. shift m (r .exact a)) t v) (sym lenR) (side-cong shut p (length ps - m) (shift m (values ks)) (values (drop m ks)) (λ a. shift m (r .exact a)) (λ a. shift m (r .exact a)) t v (λ i _. right-values i) (λ _ _ _. refl) (cut-right p n u C (value x) m s e (length ps) (values ks) (r .exact) good (r .raised) se px xn t v xt o));
     };
   }

@@ -62,10 +62,10 @@ raw-place-requires-2 c κs =
     (omega (arith, point-in (a .dim) (at-loop .loop .i) (a .count) (length (a .points .now)) (omega arith) (omega arith)), (w .0 ∙ at-coordinate2 .coordinate2 .ensures, w .1 ∙ ap inverseS (sym (w .0))))
 
 lesser-requires : tie.Need-lesser-requires Inv-loop μ-loop
-lesser-requires c κs = let at-loop = c .before .before .before .before in at-loop .loop .inv .2 .lo-number
+lesser-requires c κs = tt
 
 greater-requires : tie.Need-greater-requires Inv-loop μ-loop
-greater-requires c κs = let at-loop = c .before .before .before .before .before in at-loop .loop .inv .2 .hi-number
+greater-requires c κs = tt
 
 add-i : tie.Need-add-i Inv-loop μ-loop
 add-i c = let in-loop = c .before .before .before .before .before in let k = from-loop (in-loop .before) in omega (arith, in-loop .loop-test .taken)

@@ -24,7 +24,7 @@ unfolding place
 returns c =
     let q = c .before in
     let w = q .before in
-    c .value-or-entire .ensures ∙ ap (λ (d : Divided). valueOr d ENTIRE) (q .div .ensures ∙ (λ i. divS (w .before .coordinate .ensures i) (w .coordinate2 .ensures i)))
+    c .value-or-entire .ensures ∙ ap (λ (d : Divided). valueOr d ENTIRE) (q .div .ensures .result ∙ (λ i. divS (w .before .coordinate .ensures i) (w .coordinate2 .ensures i)))
 
 pub place-spec : {M : Type 1} → statement M
 place-spec = tie.close (tie.spec coordinate-requires coordinate-requires-2 div-requires value-or-entire-requires returns)

@@ -1,9 +1,9 @@
 -- `raw_place` equals its definition, arm by arm.
 use mathlib.Core.Path.{sym, ap, _∙_}
-use Rattle.math.specs.Scalars.{hasZero, inverseS}
+use Rattle.math.specs.Scalars.{hasZero, corners, inverseS}
 use Rattle.math.specs.declared.scalars.Scalar.{Scalar}
 use Rattle.math.proofs.Bools.{pick-yes, pick-no}
-use Rattle.geometry.specs.Aabb.{corners, rawPlace}
+use Rattle.geometry.specs.Aabb.{rawPlace}
 use borrow.Author.Needs.{needs}
 use Rattle.geometry.proofs.aabb.raw_place.Statement.{statement}
 use Rattle.geometry.proofs.aabb.raw_place.Tie as tie

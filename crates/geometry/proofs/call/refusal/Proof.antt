@@ -1,11 +1,11 @@
 -- `refusal` equals its definition: the number of the curve, then 9, then 10.
 use borrow.Author.Needs.{needs}
 use mathlib.Core.Path.{_≡_, sym, subst, _∙_}
-use mathlib.Core.Bool.{Bool}
+use mathlib.Core.Bool.{Bool, true}
 use mathlib.Core.List.{List, [], _∷_}
 use Prim.Native.Nat.{ℕ, _≤_, _<_}
 use native.Mathlib.Omega.{arith}
-use borrow.Author.Tests.{le-leb, lt-leb}
+use borrow.Author.Tests.{not-true, not-false, le-leb, lt-leb}
 use Rattle.model.specs.Call.{Call, lent, nodesFit, areaFits, stated, firstFailed, refusal}
 use Rattle.model.proofs.Checks.{none-left, pass, fail, else-left, else-taken, sizes-accepted, stated-words}
 use Rattle.geometry.specs.Call.{CallRefused}
@@ -23,20 +23,23 @@ asked k = let g = k .args in lent (g .dim) (g .degree) (g .count) (g .knots .now
 
 -- ---- behind each check that is passed, the refusal is that of the checks that are left
 
+-- The nodes, once they have passed.
+few : (c : tie.Else2) → nodesFit (from-curve (c .before .before .before) .args .nodes) ≡ true
+few c = sym (c .before .nodes-fit .ensures) ∙ not-false _ (c .if2 .left)
+
 past8 : (c : tie.Else1) → let k = from-curve (c .before) in refusal (asked k) ≡ firstFailed (asked k) 9 ((λ c. nodesFit (c .nodes)) ∷ areaFits ∷ [])
 unfolding refusal
 past8 c = else-left _ _ (sym (c .before .curve-refusal .ensures .number) ∙ c .if1 .left)
 
-past9 : (c : tie.Else2) → let k = from-curve (c .before .before) in refusal (asked k) ≡ firstFailed (asked k) 10 (areaFits ∷ [])
-unfolding nodesFit
-past9 c = past8 (c .before) ∙ pass _ 9 (λ c. nodesFit (c .nodes)) _ (le-leb _ _ (c .if2 .left))
+past9 : (c : tie.Else2) → let k = from-curve (c .before .before .before) in refusal (asked k) ≡ firstFailed (asked k) 10 (areaFits ∷ [])
+past9 c = past8 (c .before .before) ∙ pass _ 9 (λ c. nodesFit (c .nodes)) _ (few c)
 
 -- The stated words, once the sizes have passed.
-words : (c : tie.After-stated-words) → let k = from-curve (c .before .before .before) in c .stated-words .result ≡ stated (asked k)
-unfolding stated nodesFit
+words : (c : tie.After-stated-words) → let k = from-curve (c .before .before .before .before) in c .stated-words .result ≡ stated (asked k)
+unfolding stated
 words c =
-    let curve = c .before .before in
-    c .stated-words .ensures ∙ stated-words _ _ _ _ (sizes-accepted _ _ _ _ (sym (curve .before .curve-refusal .ensures .number) ∙ curve .if1 .left)) (le-leb _ _ (c .before .if2 .left))
+    let curve = c .before .before .before in
+    c .stated-words .ensures ∙ stated-words _ _ _ _ (sizes-accepted _ _ _ _ (sym (curve .before .curve-refusal .ensures .number) ∙ curve .if1 .left)) (few (c .before))
 
 -- A number that is given is no 0.
 given : (c : Call) (n : ℕ) → (n ≡ 0 → ⊥) → n ≡ refusal c → CallRefused c n
@@ -53,9 +56,13 @@ returns c =
     let e = c .before .curve-refusal .ensures .number in
     given (asked (from-curve (c .before))) _ (c .if1 .taken) (e ∙ sym (else-taken _ _ (λ z. c .if1 .taken (e ∙ z))))
 
+nodes-fit-requires : tie.Need-nodes-fit-requires
+nodes-fit-requires c κs = search needs
+
 returns-2 : tie.Need-returns-2
-unfolding nodesFit
-returns-2 c = given (asked (from-curve (c .before .before))) 9 (λ z. omega (arith, z)) (sym (past8 (c .before) ∙ fail _ 9 (λ c. nodesFit (c .nodes)) _ (lt-leb _ _ (c .if2 .taken))))
+returns-2 c =
+    let curve = c .before .before in
+    given (asked (from-curve (curve .before))) 9 (λ z. omega (arith, z)) (sym (past8 curve ∙ fail _ 9 (λ c. nodesFit (c .nodes)) _ (sym (c .before .nodes-fit .ensures) ∙ not-true _ (c .if2 .taken))))
 
 stated-words-requires : tie.Need-stated-words-requires
 stated-words-requires c κs = search needs
@@ -64,14 +71,14 @@ returns-3 : tie.Need-returns-3
 unfolding areaFits
 returns-3 c =
     let nodes = c .before .before in
-    let k = from-curve (nodes .before .before) in
+    let k = from-curve (nodes .before .before .before) in
     given (asked k) 10 (λ z. omega (arith, z)) (sym (past9 nodes ∙ fail _ 10 areaFits _ (lt-leb _ _ (subst (λ (w : ℕ). k .args .work-len < w) (words (c .before)) (c .if3 .taken)))))
 
 returns-4 : tie.Need-returns-4
 unfolding areaFits
 returns-4 c =
     let nodes = c .before .before in
-    let curve = nodes .before in
+    let curve = nodes .before .before in
     let k = from-curve (curve .before) in
     let numbers = curve .before .curve-refusal .ensures in record {
       number = sym (past9 nodes ∙ pass _ 10 areaFits _ (le-leb _ _ (subst (λ (w : ℕ). w ≤ k .args .work-len) (words (c .before)) (c .if3 .left))) ∙ none-left _ 11);
@@ -81,4 +88,4 @@ returns-4 c =
 pub refusal-spec : {M : Type 1} → statement M
 refusal-spec =
     tie.close
-    (tie.spec curve-refusal-requires returns returns-2 stated-words-requires returns-3 returns-4)
+    (tie.spec curve-refusal-requires returns nodes-fit-requires returns-2 stated-words-requires returns-3 returns-4)

@@ -14,7 +14,7 @@ value-or-entire-requires c κs = search needs
 
 returns : tie.Need-returns
 unfolding valueOr fromRatio fourFifthsS
-returns c = c .value-or-entire .ensures ∙ ap (λ (d : Divided). valueOr d ENTIRE) (c .before .from-ratio .ensures)
+returns c = c .value-or-entire .ensures ∙ ap (λ (d : Divided). valueOr d ENTIRE) (c .before .from-ratio .ensures .result)
 
 pub four-fifths-spec : {M : Type 1} → statement M
 four-fifths-spec = tie.close (tie.spec from-ratio-requires value-or-entire-requires returns)

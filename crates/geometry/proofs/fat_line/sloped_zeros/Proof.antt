@@ -28,7 +28,7 @@ unfolding ofBits
 returns c =
     let t = c .before .before .before .before in
     let a = t .before .before .before .args in
-    sloped-yes (a .slope) (a .x0) (a .y0) (a .last) (a .band) _ _ _ (t .before .before .union .ensures) (t .before .add .ensures) (t .could-be-equal .ensures) _ _ _ (c .before .before .add2 .ensures) (c .before .div .ensures) (c .crossing .ensures) (c .before .before .before .if1 .taken)
+    sloped-yes (a .slope) (a .x0) (a .y0) (a .last) (a .band) _ _ _ (t .before .before .union .ensures) (t .before .add .ensures) (t .could-be-equal .ensures) _ _ _ (c .before .before .add2 .ensures) (c .before .div .ensures .result) (c .crossing .ensures) (c .before .before .before .if1 .taken)
 
 returns-2 : tie.Need-returns-2
 unfolding ofBits

@@ -75,7 +75,7 @@ returns-3 c =
     let k = from-passed1 passed1 in
     let g = k .args in
     alpha-value (g .degree) (g .knots .now) (g .t) (g .i) (at-div .div .result) _ (at-along .along .given .1)
-    (alpha-between (g .degree) (g .knots .now) (g .t) (g .i) _ _ _ _ _ _ (passed1 .if1 .left) (passed2 .if2 .left) (at-from-f64 .from-f64 .ensures) (at-from-f642 .from-f642 .ensures) (at-sub .sub .ensures) (at-from-f643 .from-f643 .ensures) (at-sub2 .sub2 .ensures) (at-div .div .ensures))
+    (alpha-between (g .degree) (g .knots .now) (g .t) (g .i) _ _ _ _ _ _ (passed1 .if1 .left) (passed2 .if2 .left) (at-from-f64 .from-f64 .ensures) (at-from-f642 .from-f642 .ensures) (at-sub .sub .ensures) (at-from-f643 .from-f643 .ensures) (at-sub2 .sub2 .ensures) (at-div .div .ensures .result))
 
 returns-4 : tie.Need-returns-4
 unfolding ofBits
@@ -91,7 +91,7 @@ returns-4 c =
     let k = from-passed1 passed1 in
     let g = k .args in
     alpha-failed (g .degree) (g .knots .now) (g .t) (g .i) (at-div .div .result) (c .enum-told .given .1)
-    (alpha-between (g .degree) (g .knots .now) (g .t) (g .i) _ _ _ _ _ _ (passed1 .if1 .left) (passed2 .if2 .left) (at-from-f64 .from-f64 .ensures) (at-from-f642 .from-f642 .ensures) (at-sub .sub .ensures) (at-from-f643 .from-f643 .ensures) (at-sub2 .sub2 .ensures) (at-div .div .ensures))
+    (alpha-between (g .degree) (g .knots .now) (g .t) (g .i) _ _ _ _ _ _ (passed1 .if1 .left) (passed2 .if2 .left) (at-from-f64 .from-f64 .ensures) (at-from-f642 .from-f642 .ensures) (at-sub .sub .ensures) (at-from-f643 .from-f643 .ensures) (at-sub2 .sub2 .ensures) (at-div .div .ensures .result))
 
 pub alpha-at-spec : {M : Type 1} → statement M
 alpha-at-spec =

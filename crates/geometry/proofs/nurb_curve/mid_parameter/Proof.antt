@@ -33,7 +33,7 @@ returns c =
     let q = v .before in
     let s = q .before in
     c .to-f64 .ensures
-    ∙ ap middle (v .value-or-entire .ensures ∙ ap (λ d. valueOr d ENTIRE) (q .div .ensures ∙ ap (λ (x : Scalar). divS x TWO) (s .add .ensures ∙ (λ i. addS (s .before .before .from-f64 .ensures i) (s .before .from-f642 .ensures i)))))
+    ∙ ap middle (v .value-or-entire .ensures ∙ ap (λ d. valueOr d ENTIRE) (q .div .ensures .result ∙ ap (λ (x : Scalar). divS x TWO) (s .add .ensures ∙ (λ i. addS (s .before .before .from-f64 .ensures i) (s .before .from-f642 .ensures i)))))
 
 pub mid-parameter-spec : {M : Type 1} → statement M
 mid-parameter-spec =

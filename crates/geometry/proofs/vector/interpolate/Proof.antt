@@ -1,10 +1,9 @@
 -- `interpolate` writes the point between two points. Invariant: its first k intervals are written.
-use mathlib.Core.Path.{_≡_, refl, sym, ap, _∙_}
-use Prim.Native.Nat.{ℕ, _*_, _+_, _-_, _≤_}
+use mathlib.Core.Path.{_≡_, refl, sym, _∙_}
+use Prim.Native.Nat.{_-_, _≤_}
 use lib.ListN.{length}
 use Rattle.lists.proofs.Put.{put-nil}
-use Rattle.math.specs.declared.scalars.Fraction.{Fraction}
-use Rattle.math.proofs.Intervals.Factors.{fraction-own}
+use Rattle.math.proofs.Laws.{fraction-own, between-own}
 use Rattle.model.specs.Layout.{flat}
 use Rattle.geometry.proofs.vector.Between.{after, turn, done}
 use borrow.Author.Needs.{needs}
@@ -44,7 +43,7 @@ scalar-from-requires-2 : tie.Need-scalar-from-requires-2 Inv-loop μ-loop
 scalar-from-requires-2 c κs = omega arith
 
 between-requires : tie.Need-between-requires Inv-loop μ-loop
-between-requires c κs = let at-fraction = c .before .before .before .before .before .before in fraction-own _ _ (at-fraction .fraction .ensures) .1
+between-requires c κs = search needs
 
 mul-set-scalar : tie.Need-mul-set-scalar Inv-loop μ-loop
 mul-set-scalar c = omega arith
@@ -74,7 +73,7 @@ loop-again c =
     let l = at-loop .loop in
     let g = k .args in
     let t = in-loop .loop-test .taken in
-    (omega (arith, t), (at-set-scalar .set-scalar .kept .0 ∙ l .inv .1 .0, turn (g .words .now) (g .a) (g .b) (g .c) (g .d) (at-fraction .fraction .result .alpha) (k .pre .1 .0) (k .pre .1 .1) (k .pre .0 .2) (l .k) _ _ _ _ _ (omega (arith, t)) (l .inv .1 .1) (at-scalar-from .scalar-from .ensures) (at-scalar-from2 .scalar-from2 .ensures) (at-between .between .ensures) (at-set-scalar .set-scalar .ensures)))
+    (omega (arith, t), (at-set-scalar .set-scalar .kept .0 ∙ l .inv .1 .0, turn (g .words .now) (g .a) (g .b) (g .c) (g .d) (at-fraction .fraction .result .alpha) (k .pre .1 .0) (k .pre .1 .1) (k .pre .0 .2) (l .k) _ _ _ _ _ (omega (arith, t)) (l .inv .1 .1) (at-scalar-from .scalar-from .ensures) (at-scalar-from2 .scalar-from2 .ensures) (at-between .between .ensures ∙ between-own _ _ _ _ (at-fraction .fraction .ensures)) (at-set-scalar .set-scalar .ensures)))
 
 same-length : tie.Need-same-length Inv-loop μ-loop
 same-length c = c .before .loop .inv .1 .0
@@ -86,7 +85,7 @@ returns c =
     let g = u .before .before .args in
     let e : l .k ≡ g .d = omega arith in
     let at = after (g .words .now) (g .a) (g .b) (g .c) (g .d) in
-    l .inv .1 .1 ∙ (λ i. at (fraction-own _ _ (u .fraction .ensures) .0 i) (e i)) ∙ done (g .words .now) (g .a) (g .b) (g .c) (g .d) (g .alpha)
+    l .inv .1 .1 ∙ (λ i. at (fraction-own _ _ (u .fraction .ensures) i) (e i)) ∙ done (g .words .now) (g .a) (g .b) (g .c) (g .d) (g .alpha)
 
 pub interpolate-spec : {M : Type 1} → statement M
 interpolate-spec =

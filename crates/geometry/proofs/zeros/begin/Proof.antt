@@ -23,7 +23,7 @@ returns : tie.Need-returns
 unfolding begun
 returns c =
     let a = c .before .before .before .before .args in
-    let q = c .before .div .ensures ∙ (λ i. divS (c .before .before .before .sub .ensures i) (c .before .before .sub2 .ensures i)) in
+    let q = c .before .div .ensures .result ∙ (λ i. divS (c .before .before .before .sub .ensures i) (c .before .before .sub2 .ensures i)) in
     let e = c .off .ensures ∙ ap (λ (s : Divided). offBy s (a .x0) (a .y0) (a .x0) (a .y0)) q in
     λ i. record { x0 = a .x0; y0 = a .y0; last = a .y; slope = q i; band = e i }
 

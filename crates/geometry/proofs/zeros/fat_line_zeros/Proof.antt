@@ -60,7 +60,7 @@ use Rattle.model.proofs.fat_line.Hat.Laws as O′
 use Rattle.geometry.specs.Zeros.{paired, polygonZeros, begun, taken, zerosOf}
 use Rattle.geometry.specs.declared.zeros.Line.{Line}
 use Rattle.geometry.proofs.zeros.ByHand.{machine, Has, Lent, takes, hears}
-use Rattle.geometry.proofs.zeros.Polygon.{not-not, is-pair, no-polygon, a-polygon, as-many, not-empty, lineOf, line-first, line-turn, line-done}
+use Rattle.geometry.proofs.zeros.Polygon.{zeros-found, not-not, is-pair, no-polygon, a-polygon, as-many, not-empty, lineOf, line-first, line-turn, line-done}
 use Rattle.geometry.proofs.zeros.Line as L
 use Rattle.geometry.proofs.zeros.Line.Laws as L′
 use Rattle.geometry.proofs.zeros.paired as paired-fn
@@ -250,7 +250,7 @@ module _ {M : Type 1} (𝓤 : URA M) (H : Heap 𝓤) (A : Atoms 𝓤) (W : Given
     exits : (v : Val) (r : Hat) → r ≡ polygonZeros xs ys → Is O.the-row r (v ∷ []) → ent 𝓤 (⋆ 𝓤 H A (‵ (flft κ₁ q₁) ∷ ‵ (flft κ₂ q₂) ∷ ‵ Own₁ ∷ ‵ Own₂ ∷ [])) (Post v)
     exits v r e is =
         qed W (‵ (flft κ₁ q₁) ∷ ‵ (flft κ₂ q₂) ∷ ‵ Own₁ ∷ ‵ Own₂ ∷ []) ∵
-        suffices ! _ (ends-at 𝓤 H A f.ended stayed (f.clauses 𝓤 H A mem run) W (((κ₁, (κ₂, tt)), (q₁, (q₂, tt)), tt, (ref₁, (ref₂, tt)), at), tt) v r (tt, (tt, tt)) (tt, (tt, tt))) $ says ! e $
+        suffices ! _ (ends-at 𝓤 H A f.ended stayed (f.clauses 𝓤 H A mem run) W (((κ₁, (κ₂, tt)), (q₁, (q₂, tt)), tt, (ref₁, (ref₂, tt)), at), tt) v r (tt, (tt, tt)) (tt, (tt, tt))) $ says ! (zeros-found xs ys r e) $
         nothing ! $ move ! (2 ∷ 0 ∷ []) $ join ! $ move ! (1 ∷ 0 ∷ []) $ join ! $ nothing ! $ move ! (3 ∷ 0 ∷ []) $ fjoin ! $ move ! (2 ∷ 0 ∷ []) $ fjoin ! $ move ! (1 ∷ 0 ∷ []) $ frame ! $ frame ! $
         owned ! O.the-row (Is O.the-row) (EL.makes O.the-type O′.the-plain 𝓤 H A) r _ is $ done !
 

@@ -1,9 +1,9 @@
--- `root::by_digits` meets its contract. The invariant is the record `Turn` of Roots/Turns.antt, and the measure is what is left of the 53 turns.
+-- `root::by_digits` meets its contract. The invariant is the record `Turn` of root/Turns.antt, and the measure is what is left of the 53 turns.
 use Prim.Native.Nat.{ℕ, _-_}
 use native.Mathlib.Omega.{arith}
 use mathlib.Core.Path.{_≡_, subst}
 use mathlib.Core.Logic.{⊎-elim}
-use Rattle.math.proofs.Roots.Turns.{Turn, start, small, more, less, done, at}
+use Rattle.math.proofs.root.Turns.{Turn, start, small, more, less, done, at}
 use Rattle.math.proofs.root.by_digits.Statement.{statement}
 use Rattle.math.proofs.root.by_digits.Tie as tie
 

@@ -1,5 +1,5 @@
--- `root::even` meets its contract, by the two cases of Roots/Shift.antt.
-use Rattle.math.proofs.Roots.Shift.{odd-case, even-case}
+-- `root::even` meets its contract, by the two cases of root/Shift.antt.
+use Rattle.math.proofs.root.Shift.{odd-case, even-case}
 use borrow.Author.Needs.{needs}
 use Rattle.math.proofs.root.even.Statement.{statement}
 use Rattle.math.proofs.root.even.Tie as tie

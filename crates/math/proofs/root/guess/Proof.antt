@@ -1,7 +1,7 @@
 -- `root::guess` meets its contract: its result has 53 binary digits, whatever the floating-point steps give, and none of them meets a NaN's bits.
 use native.Mathlib.Omega.{arith}
 use borrow.Author.Needs.{needs}
-use Rattle.math.proofs.Roots.Guess.{below-no-nan, plain-ok, first-ok}
+use Rattle.math.proofs.root.Estimate.{below-no-nan, plain-ok, first-ok}
 use Rattle.math.proofs.root.guess.Statement.{statement}
 use Rattle.math.proofs.root.guess.Tie as tie
 

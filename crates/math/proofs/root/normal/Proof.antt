@@ -1,7 +1,7 @@
--- `root::normal` meets its contract. The invariant is the record `Going` of Roots/Shift.antt, and the measure is the exponent, which stays above 1021.
+-- `root::normal` meets its contract. The invariant is the record `Going` of root/Shift.antt, and the measure is the exponent, which stays above 1021.
 use mathlib.Core.Path.{refl}
 use native.Mathlib.Omega.{arith}
-use Rattle.math.proofs.Roots.Shift.{Going, begin, enough, go-on, finish}
+use Rattle.math.proofs.root.Shift.{Going, begin, enough, go-on, finish}
 use Rattle.math.proofs.root.normal.Statement.{statement}
 use Rattle.math.proofs.root.normal.Tie as tie
 

@@ -1,7 +1,7 @@
--- `root::root_bits` meets its contract, by Roots/Result.antt, in the two cases of the rounding.
+-- `root::root_bits` meets its contract, by root/Result.antt, in the two cases of the rounding.
 use native.Mathlib.Nat.{lt-of-lt-of-le}
 use lib.Dec.{lit≤}
-use Rattle.math.proofs.Roots.Result.{next-lt, up-lt, down-lt, up-answer, down-answer}
+use Rattle.math.proofs.root.Result.{next-lt, up-lt, down-lt, up-answer, down-answer}
 use borrow.Author.Needs.{needs}
 use Rattle.math.proofs.root.root_bits.Statement.{statement}
 use Rattle.math.proofs.root.root_bits.Tie as tie

@@ -1,9 +1,9 @@
--- `root::sqrt` meets its contract, by Roots/Ends.antt: four tests for the operands that are no positive numbers, then the two kinds of exponent's field.
+-- `root::sqrt` meets its contract, by root/Ends.antt: four tests for the operands that are no positive numbers, then the two kinds of exponent's field.
 use mathlib.Core.Path.{sym, subst, _∙_}
 use native.Mathlib.Omega.{arith}
 use lib.Dec.{T}
 use lib.Ieee.{binary64, fits, nanBits, toBits}
-use Rattle.math.proofs.Roots.Ends.{at-nan, at-zero, at-negative, at-inf, positive, Read, read, low-field, high-field, fine}
+use Rattle.math.proofs.root.Ends.{at-nan, at-zero, at-negative, at-inf, positive, Read, read, low-field, high-field, fine}
 use Rattle.math.proofs.Doubles.Tests.{no-nan}
 use borrow.Author.Needs.{needs}
 use Rattle.math.proofs.root.sqrt.Statement.{statement}

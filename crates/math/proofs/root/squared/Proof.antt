@@ -1,7 +1,7 @@
--- `root::squared` meets its contract, by the square of two halves of Roots/Squares.antt.
+-- `root::squared` meets its contract, by the square of two halves of root/Squares.antt.
 use native.Mathlib.Omega.{arith}
 use borrow.Author.Needs.{needs}
-use Rattle.math.proofs.Roots.Squares.{ab-lt, aa-lt, bb-lt, whole}
+use Rattle.math.proofs.root.Squares.{ab-lt, aa-lt, bb-lt, whole}
 use Rattle.math.proofs.root.squared.Statement.{statement}
 use Rattle.math.proofs.root.squared.Tie as tie
 

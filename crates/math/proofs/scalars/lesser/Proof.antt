@@ -1,13 +1,13 @@
--- `lesser` of a number and another is the definition's pick, and a number: a comparison that passed had no NaN.
-use Rattle.math.proofs.Picks.{lesser-yes, lesser-no}
+-- `lesser` equals its definition: each arm returns what the definition picks under the same test.
+use Rattle.math.proofs.Bools.{pick-yes, pick-no}
 use Rattle.math.proofs.scalars.lesser.Statement.{statement}
 use Rattle.math.proofs.scalars.lesser.Tie as tie
 
 returns : tie.Need-returns
-returns c = lesser-yes (c .before .args .a) (c .before .args .b) (c .before .pre) (c .if1 .taken)
+returns c = pick-yes _ _ _ (c .if1 .taken)
 
 returns-2 : tie.Need-returns-2
-returns-2 c = lesser-no (c .before .args .a) (c .before .args .b) (c .before .pre) (c .if1 .left)
+returns-2 c = pick-no _ _ _ (c .if1 .left)
 
 pub lesser-spec : {M : Type 1} → statement M
 lesser-spec = tie.close (tie.spec returns returns-2)

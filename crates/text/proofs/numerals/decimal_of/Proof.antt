@@ -1,24 +1,42 @@
 -- `decimal_of` gives the number that the digits are. Invariant: v is the number that the first i are.
-use mathlib.Core.Path.{_≡_, ap, _∙_}
-use Prim.Native.Nat.{ℕ, _-_, _^_, _≤_, _<_}
+use mathlib.Core.Path.{_≡_, refl, ap, _∙_}
+use Prim.Native.Nat.{ℕ, _+_, _-_, _≤_, _<_}
 use native.Mathlib.Omega.{arith}
+use lib.ListN.{getD}
 use Rattle.lists.specs.Lists.{part}
 use Rattle.text.specs.Numerals.{decimalOf}
-use Rattle.text.proofs.Digits.{digit-low, digit-high, decimal-none, decimal-turn, decimal-below, power-ten}
+use Rattle.text.proofs.numerals.Base.{Known, known-none, known-turn, known-most}
+use Rattle.text.proofs.numerals.Decimal.{digit-between}
 use Rattle.text.proofs.numerals.decimal_of.Statement.{statement}
 use Rattle.text.proofs.numerals.decimal_of.Tie as tie
 
 abbrev Inv-loop : tie.InvT-loop
-Inv-loop text at n v₀ i₀ v i = (i ≤ n) × (v ≡ decimalOf (part text at i)) × (v < 10 ^ i)
+Inv-loop text at n v₀ i₀ v i = (i ≤ n) × Known 10 (λ b. b - 48) text at i v
 
 abbrev μ-loop : tie.MeasureT-loop
 μ-loop text at n v₀ i₀ v i = n - i
 
+-- what is known of v at the head of the loop
+few : (c : tie.At-loop Inv-loop μ-loop) → c .loop .v < 1000000000
+few c = known-most (c .loop .inv .1) 9 (omega arith) (omega arith)
+
+-- the byte that is read is a digit
+digit : (c : tie.After-shared-slice-known Inv-loop μ-loop)
+    → let at-loop = c .before .before in
+    let a = at-loop .before .args in
+    let b = getD (a .text .now) (a .at + at-loop .loop .i) 0 in
+    (48 ≤ b) × (b ≤ 57)
+digit c =
+    let at-loop = c .before .before in
+    let begin = at-loop .before in
+    let a = begin .args in
+    digit-between (a .text .now) (a .at) (a .n) (at-loop .loop .i) (omega arith) (begin .pre .2) (omega arith)
+
 loop-holds : tie.Need-loop-holds Inv-loop μ-loop
-loop-holds c = (omega arith, decimal-none (c .args .text .now) (c .args .at), omega arith)
+loop-holds c = (omega arith, known-none)
 
 mul-v : tie.Need-mul-v Inv-loop μ-loop
-mul-v c = let l = c .before .loop in omega (arith, power-ten (l .i) (omega arith), l .inv .2)
+mul-v c = omega (arith, few (c .before))
 
 add-v : tie.Need-add-v Inv-loop μ-loop
 add-v c = omega arith
@@ -27,22 +45,13 @@ shared-slice-read-v : tie.Need-shared-slice-read-v Inv-loop μ-loop
 shared-slice-read-v c = omega arith
 
 sub-v : tie.Need-sub-v Inv-loop μ-loop
-sub-v c =
-    let l = c .before .before in
-    let a = l .before .args in
-    digit-low (a .text .now) (a .at) (a .n) (l .loop .i) (omega arith) (l .before .pre .2) (omega arith)
+sub-v c = digit c .0
 
 cast-v : tie.Need-cast-v Inv-loop μ-loop
-cast-v c =
-    let l = c .before .before in
-    let a = l .before .args in
-    omega (arith, digit-high (a .text .now) (a .at) (a .n) (l .loop .i) (omega arith) (l .before .pre .2) (omega arith))
+cast-v c = omega (arith, digit c)
 
 add-v-2 : tie.Need-add-v-2 Inv-loop μ-loop
-add-v-2 c =
-    let l = c .before .before in
-    let a = l .before .args in
-    omega (arith, power-ten (l .loop .i) (omega arith), l .loop .inv .2, digit-high (a .text .now) (a .at) (a .n) (l .loop .i) (omega arith) (l .before .pre .2) (omega arith))
+add-v-2 c = omega (arith, few (c .before .before), digit c)
 
 add-i : tie.Need-add-i Inv-loop μ-loop
 add-i c = omega arith
@@ -51,18 +60,14 @@ loop-less : tie.Need-loop-less Inv-loop μ-loop
 loop-less c = omega arith
 
 loop-again : tie.Need-loop-again Inv-loop μ-loop
-loop-again c =
-    let l = c .before .before in
-    let a = l .before .args in
-    let h = digit-high (a .text .now) (a .at) (a .n) (l .loop .i) (omega arith) (l .before .pre .2) (omega arith) in
-    (omega arith, decimal-turn (a .text .now) (a .at) (l .loop .i) (l .loop .v) (omega arith) (l .loop .inv .1), decimal-below (l .loop .i) (l .loop .v) _ (l .loop .inv .2) (omega (arith, h)))
+loop-again c = (omega arith, known-turn (c .before .before .loop .inv .1) _ (omega arith) refl (omega (arith, digit c)))
 
 returns : tie.Need-returns Inv-loop μ-loop
 returns c =
     let l = c .before in
     let a = l .before .args in
     let e : l .loop .i ≡ a .n = omega arith in
-    (l .loop .inv .1 ∙ ap (λ (k : ℕ). decimalOf (part (a .text .now) (a .at) k)) e, omega (arith, power-ten (l .loop .i) (omega arith), l .loop .inv .2))
+    (l .loop .inv .1 .number ∙ ap (λ (k : ℕ). decimalOf (part (a .text .now) (a .at) k)) e, omega (arith, few l))
 
 pub decimal-of-spec : {M : Type 1} → statement M
 decimal-of-spec =

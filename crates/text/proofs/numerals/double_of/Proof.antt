@@ -3,7 +3,7 @@ use mathlib.Core.Path.{sym, subst}
 use mathlib.Core.Bool.{Bool, not}
 use lib.Dec.{T}
 use lib.Ieee.{ofBits, div}
-use Rattle.text.proofs.Digits.{nan-bits, no-nan-bits, double-nan, double-number}
+use Rattle.text.proofs.numerals.Hexadecimal.{nan-bits, no-nan-bits, double-nan, double-number}
 use Rattle.text.proofs.numerals.double_of.Statement.{statement}
 use Rattle.text.proofs.numerals.double_of.Tie as tie
 

@@ -1,7 +1,7 @@
 -- `is_small` equals its definition.
 use native.Mathlib.Omega.{arith}
 use lib.ListN.{drop}
-use Rattle.text.proofs.Digits.{small-none, small-over, small-one, small-more}
+use Rattle.text.proofs.numerals.Decimal.{small-none, small-over, small-one, small-more}
 use Rattle.text.proofs.numerals.is_small.Statement.{statement}
 use Rattle.text.proofs.numerals.is_small.Tie as tie
 

@@ -1,5 +1,5 @@
 -- `behind` equals its definition.
-use Rattle.text.proofs.Lines.{behind-more}
+use Rattle.text.proofs.question.Doubles.{behind-more}
 use borrow.Author.Needs.{needs}
 use Rattle.text.proofs.question.behind.Statement.{statement}
 use Rattle.text.proofs.question.behind.Tie as tie

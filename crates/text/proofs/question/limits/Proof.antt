@@ -1,9 +1,15 @@
 -- `limits` reads the nodes and the resolution.
-use Rattle.text.proofs.Lines.{small-some, limits-none, limits-one, limits-two}
+use mathlib.Core.Path.{subst}
+use Rattle.text.specs.Cursor.{SmallRead}
+use Rattle.text.proofs.question.Others.{limits-none, limits-one, limits-two}
 use Rattle.text.specs.Bytes.{bytes}
 use borrow.Author.Needs.{needs}
 use Rattle.text.proofs.question.limits.Statement.{statement}
 use Rattle.text.proofs.question.limits.Tie as tie
+
+-- The start, from where the nodes are read.
+abbrev begin : tie.After-small-line → tie.Start
+begin c = c .before .before .before .before
 
 slice-aggregate-small-line : tie.Need-slice-aggregate-small-line
 slice-aggregate-small-line c = search needs
@@ -20,18 +26,20 @@ enum-told c = search needs
 returns : tie.Need-returns
 unfolding bytes
 returns c =
-    let u = c .before .before in
-    let a = u .before .before .before .before .args in
-    limits-none (a .text .now) _ (u .small-line .result) (u .small-line .ensures) (a .out .now) (a .out .now) (c .enum-told .given .1)
+    let nodes = c .before .before in
+    let a = begin nodes .args in
+    limits-none (a .text .now) _ _ (nodes .small-line .ensures) (a .out .now) (a .out .now) (c .enum-told .given .1)
 
 slice-aggregate-line : tie.Need-slice-aggregate-line
 slice-aggregate-line c = search needs
 
 line-requires : tie.Need-line-requires
 line-requires c κs =
-    let n = c .before .before .before in
-    let u = n .before .before in
-    (small-some _ _ _ _ _ (u .small-line .ensures) (n .n .given .1) .1, u .before .before .before .before .pre .1)
+    let at-nodes = c .before .before .before in
+    let nodes = at-nodes .before .before in (
+      subst (SmallRead _ _) (at-nodes .n .given .1) (nodes .small-line .ensures) .1,
+      begin nodes .pre .1,
+    )
 
 enum-known-j : tie.Need-enum-known-j
 enum-known-j c = search needs
@@ -45,11 +53,12 @@ same-length c = search needs
 returns-2 : tie.Need-returns-2
 unfolding bytes
 returns-2 c =
-    let v = c .before .before .before .before in
-    let n = v .before .before .before .before in
-    let u = n .before .before in
-    let a = u .before .before .before .before .args in
-    limits-one (a .text .now) _ (u .small-line .result) (u .small-line .ensures) (a .out .now) (v .line .last .1 .1 .1 .1 .0) _ _ (n .n .given .1) (v .line .result) (v .line .ensures) (c .enum-told2 .given .1)
+    let resolution = c .before .before .before .before in
+    let at-nodes = resolution .before .before .before .before in
+    let nodes = at-nodes .before .before in
+    let a = begin nodes .args in
+    limits-one (a .text .now) _ _ (nodes .small-line .ensures) (a .out .now) (resolution .line .last .1 .1 .1 .1 .0)
+    _ _ (at-nodes .n .given .1) _ (resolution .line .ensures) (c .enum-told2 .given .1)
 
 same-length-2 : tie.Need-same-length-2
 same-length-2 c = search needs
@@ -57,12 +66,13 @@ same-length-2 c = search needs
 returns-3 : tie.Need-returns-3
 unfolding bytes
 returns-3 c =
-    let j = c .before in
-    let v = j .before .before .before .before in
-    let n = v .before .before .before .before in
-    let u = n .before .before in
-    let a = u .before .before .before .before .args in
-    limits-two (a .text .now) _ (u .small-line .result) (u .small-line .ensures) (a .out .now) (v .line .last .1 .1 .1 .1 .0) _ _ (n .n .given .1) (v .line .result) (v .line .ensures) _ (j .j .given .1)
+    let at-resolution = c .before in
+    let resolution = at-resolution .before .before .before .before in
+    let at-nodes = resolution .before .before .before .before in
+    let nodes = at-nodes .before .before in
+    let a = begin nodes .args in
+    limits-two (a .text .now) _ _ (nodes .small-line .ensures) (a .out .now) (resolution .line .last .1 .1 .1 .1 .0)
+    _ _ (at-nodes .n .given .1) _ (resolution .line .ensures) _ (at-resolution .j .given .1)
 
 pub limits-spec : {M : Type 1} → statement M
 limits-spec =

@@ -1,11 +1,43 @@
 -- `shape` reads the knots, the points and the box, and writes them one behind the other.
-use Prim.Native.Nat.{_+_, _*_}
+use mathlib.Core.Path.{subst}
+use mathlib.Core.List.{List}
+use lib.Ieee.{Float}
+use Prim.Native.Nat.{_+_, _*_, _≤_}
 use native.Mathlib.Omega.{arith}
-use Rattle.text.proofs.Lines.{values-some, few, shape-none, shape-one, shape-two}
+use Rattle.text.specs.Question.{Sizes, sizesOf}
+use Rattle.text.specs.Cursor.{ValuesRead}
+use Rattle.text.proofs.question.Others.{few-numbers, shape-none, shape-one, shape-two}
 use Rattle.text.specs.Bytes.{bytes}
 use borrow.Author.Needs.{needs}
 use Rattle.text.proofs.question.shape.Statement.{statement}
 use Rattle.text.proofs.question.shape.Tie as tie
+
+-- The start, from where the knots are read.
+abbrev begin : tie.After-line → tie.Start
+begin c = c .before .before .before .before .before
+
+-- Where the knots are read, from where it is known that they are.
+abbrev knots-at : tie.After-i → tie.After-line
+knots-at c = c .before .before .before .before
+
+-- Where it is known, from where the points are read.
+abbrev before-points : tie.After-lines → tie.After-i
+before-points c = c .before .before .before .before
+
+-- Where the points are read, from where it is known that they are.
+abbrev points-at : tie.After-j → tie.After-lines
+points-at c = c .before .before .before .before
+
+-- The sizes and the memory with the knots in it, from where these are read.
+abbrev these : tie.After-line → Sizes
+these c = let a = begin c .args in sizesOf (a .dim) (a .degree) (a .count)
+
+abbrev memory : tie.After-line → List Float
+memory c = c .line .last .1 .1 .1 .1 .0
+
+-- The points have few numbers.
+few : (c : tie.Start) → 2 * (c .args .dim + 1) * c .args .count ≤ 256
+few c = few-numbers (2 * (c .args .dim + 1)) (c .args .count) (omega arith) (omega arith)
 
 add-k : tie.Need-add-k
 add-k c = search needs
@@ -31,9 +63,9 @@ same-length c = search needs
 returns : tie.Need-returns
 unfolding bytes
 returns c =
-    let u = c .before .before .before .before in
-    let a = u .before .before .before .before .before .args in
-    shape-none (a .text .now) _ (a .dim) (a .degree) (a .count) (a .out .now) (u .line .last .1 .1 .1 .1 .0) (u .line .result) (u .line .ensures) (c .enum-told .given .1)
+    let knots = c .before .before .before .before in
+    let a = begin knots .args in
+    shape-none (a .text .now) _ (these knots) (a .out .now) (memory knots) _ (knots .line .ensures) (c .enum-told .given .1)
 
 add-w : tie.Need-add-w
 add-w c = search needs
@@ -49,11 +81,11 @@ add-lines c = search needs
 
 lines-requires : tie.Need-lines-requires
 lines-requires c κs =
-    let i = c .before .before .before in
-    let u = i .before .before .before .before in
-    let a = u .before .before .before .before .before .args in
-    let h = few (2 * (a .dim + 1)) (a .count) (omega arith) (omega arith) in
-    (values-some _ _ _ _ _ _ _ _ (u .line .ensures) (i .i .given .1) .0, omega (arith, u .line .kept .1 .1 .1 .1 .0))
+    let known = c .before .before .before in
+    let knots = knots-at known in (
+      subst (ValuesRead _ _ _ _ _ _) (known .i .given .1) (knots .line .ensures) .inside,
+      omega (arith, few (begin knots), knots .line .kept .1 .1 .1 .1 .0),
+    )
 
 enum-known-j : tie.Need-enum-known-j
 enum-known-j c = search needs
@@ -67,11 +99,12 @@ same-length-2 c = search needs
 returns-2 : tie.Need-returns-2
 unfolding bytes
 returns-2 c =
-    let v = c .before .before .before .before in
-    let i = v .before .before .before .before in
-    let u = i .before .before .before .before in
-    let a = u .before .before .before .before .before .args in
-    shape-one (a .text .now) _ (a .dim) (a .degree) (a .count) (a .out .now) (u .line .last .1 .1 .1 .1 .0) (u .line .result) (u .line .ensures) _ _ (i .i .given .1) (omega arith) (v .lines .last .1 .1 .1 .1 .1 .0) (v .lines .result) (v .lines .ensures) (c .enum-told2 .given .1)
+    let points = c .before .before .before .before in
+    let known = before-points points in
+    let knots = knots-at known in
+    let a = begin knots .args in
+    shape-one (a .text .now) _ (these knots) (a .out .now) (memory knots) _ (knots .line .ensures) _ _ (known .i .given .1)
+    (omega arith) (points .lines .last .1 .1 .1 .1 .1 .0) _ (points .lines .ensures) (c .enum-told2 .given .1)
 
 slice-aggregate-line-2 : tie.Need-slice-aggregate-line-2
 slice-aggregate-line-2 c = search needs
@@ -82,26 +115,24 @@ mul-line c = search needs
 add-line : tie.Need-add-line
 add-line c = search needs
 
+-- The start, from where the line of the box is to be read.
+abbrev start : tie.After-line-arg2 → tie.Start
+start c = begin (knots-at (before-points (points-at (c .before .before .before))))
+
 mul-line-2 : tie.Need-mul-line-2
-mul-line-2 c =
-    let a = c .before .before .before .before .before .before .before .before .before .before .before .before .before .before .before .before .before .before .before .before .args in
-    let h = few (2 * (a .dim + 1)) (a .count) (omega arith) (omega arith) in
-    omega arith
+mul-line-2 c = omega (arith, few (start c))
 
 add-line-2 : tie.Need-add-line-2
-add-line-2 c =
-    let a = c .before .before .before .before .before .before .before .before .before .before .before .before .before .before .before .before .before .before .before .before .args in
-    let h = few (2 * (a .dim + 1)) (a .count) (omega arith) (omega arith) in
-    omega arith
+add-line-2 c = omega (arith, few (start c))
 
 line-requires-2 : tie.Need-line-requires-2
 line-requires-2 c κs =
-    let j = c .before .before .before in
-    let v = j .before .before .before .before in
-    let u = v .before .before .before .before .before .before .before .before in
-    let a = u .before .before .before .before .before .args in
-    let h = few (2 * (a .dim + 1)) (a .count) (omega arith) (omega arith) in
-    (values-some _ _ _ _ _ _ _ _ (v .lines .ensures) (j .j .given .1) .0, omega (arith, v .lines .kept .1 .1 .1 .1 .1 .0, u .line .kept .1 .1 .1 .1 .0))
+    let known = c .before .before .before in
+    let points = points-at known in
+    let knots = knots-at (before-points points) in (
+      subst (ValuesRead _ _ _ _ _ _) (known .j .given .1) (points .lines .ensures) .inside,
+      omega (arith, few (start c), points .lines .kept .1 .1 .1 .1 .1 .0, knots .line .kept .1 .1 .1 .1 .0),
+    )
 
 same-length-3 : tie.Need-same-length-3
 same-length-3 c = search needs
@@ -109,15 +140,16 @@ same-length-3 c = search needs
 returns-3 : tie.Need-returns-3
 unfolding bytes
 returns-3 c =
-    let w = c .before .before in
-    let j = w .before .before .before .before in
-    let v = j .before .before .before .before in
-    let i = v .before .before .before .before in
-    let u = i .before .before .before .before in
-    let k = u .before .before .before .before .before in
-    let a = k .args in
-    let h = few (2 * (a .dim + 1)) (a .count) (omega (arith, k .pre .1)) (k .pre .3) in
-    shape-two (a .text .now) _ (a .dim) (a .degree) (a .count) (a .out .now) (u .line .last .1 .1 .1 .1 .0) (u .line .result) (u .line .ensures) _ _ (i .i .given .1) (omega arith) (v .lines .last .1 .1 .1 .1 .1 .0) (v .lines .result) (v .lines .ensures) _ (j .j .given .1) (w .line2 .last .1 .1 .1 .1 .0) (w .line2 .result) (w .line2 .ensures) (omega (arith, k .pre .1, k .pre .2, k .pre .3, k .pre .4))
+    let box = c .before .before in
+    let points-known = box .before .before .before .before in
+    let points = points-at points-known in
+    let known = before-points points in
+    let knots = knots-at known in
+    let a = begin knots .args in
+    shape-two (a .text .now) _ (these knots) (a .out .now) (memory knots) _ (knots .line .ensures) _ _ (known .i .given .1)
+    (omega arith) (points .lines .last .1 .1 .1 .1 .1 .0) _ (points .lines .ensures) _ (points-known .j .given .1)
+    (box .line2 .last .1 .1 .1 .1 .0) (box .line2 .result) (box .line2 .ensures)
+    (omega (arith, few (begin knots), begin knots .pre))
 
 pub shape-spec : {M : Type 1} → statement M
 shape-spec =

@@ -1,8 +1,14 @@
 -- `small_line` reads a key, a small number and the end of the line.
-use Rattle.text.proofs.Lines.{word-some, small-some, small-line-keyless, small-line-none, small-line-endless, small-line-whole}
+use mathlib.Core.Path.{subst}
+use Rattle.text.specs.Cursor.{WordRead, SmallRead}
+use Rattle.text.proofs.question.Words.{small-line-keyless, small-line-none, small-line-endless, small-line-whole}
 use borrow.Author.Needs.{needs}
 use Rattle.text.proofs.question.small_line.Statement.{statement}
 use Rattle.text.proofs.question.small_line.Tie as tie
+
+-- The start, from where the key is read.
+abbrev begin : tie.After-word → tie.Start
+begin c = c .before .before .before
 
 word-requires : tie.Need-word-requires
 word-requires c κs = search needs
@@ -15,12 +21,14 @@ enum-told c = search needs
 
 returns : tie.Need-returns
 returns c =
-    let w = c .before .before in
-    let a = w .before .before .before .args in
-    small-line-keyless (a .text .now) (a .key .now) _ _ (w .word .ensures) (c .enum-told .given .1)
+    let key = c .before .before in
+    let a = begin key .args in
+    small-line-keyless (a .text .now) (a .key .now) _ _ (key .word .ensures) (c .enum-told .given .1)
 
 small-requires : tie.Need-small-requires
-small-requires c κs = word-some _ _ _ _ (c .before .before .before .word .ensures) (c .before .i .given .1) .0
+small-requires c κs =
+    let at-key = c .before in
+    subst (WordRead _ _) (at-key .i .given .1) (at-key .before .before .word .ensures) .0
 
 enum-known-n : tie.Need-enum-known-n
 enum-known-n c = search needs
@@ -30,14 +38,17 @@ enum-told-2 c = search needs
 
 returns-2 : tie.Need-returns-2
 returns-2 c =
-    let s = c .before .before in
-    let i = s .before .before in
-    let w = i .before .before in
-    let a = w .before .before .before .args in
-    small-line-none (a .text .now) (a .key .now) _ _ (w .word .ensures) _ (i .i .given .1) _ (s .small .ensures) (c .enum-told2 .given .1)
+    let number = c .before .before in
+    let at-key = number .before .before in
+    let key = at-key .before .before in
+    let a = begin key .args in
+    small-line-none (a .text .now) (a .key .now) _ _ (key .word .ensures) _ (at-key .i .given .1) _ (number .small .ensures)
+    (c .enum-told2 .given .1)
 
 byte-requires : tie.Need-byte-requires
-byte-requires c κs = small-some _ _ _ _ _ (c .before .before .before .small .ensures) (c .before .n .given .1) .1
+byte-requires c κs =
+    let at-number = c .before in
+    subst (SmallRead _ _) (at-number .n .given .1) (at-number .before .before .small .ensures) .1
 
 enum-known-k : tie.Need-enum-known-k
 enum-known-k c = search needs
@@ -47,24 +58,26 @@ enum-told-3 c = search needs
 
 returns-3 : tie.Need-returns-3
 returns-3 c =
-    let k = c .before .before in
-    let n = k .before .before in
-    let s = n .before .before in
-    let i = s .before .before in
-    let w = i .before .before in
-    let a = w .before .before .before .args in
-    small-line-endless (a .text .now) (a .key .now) _ _ (w .word .ensures) _ (i .i .given .1) _ (s .small .ensures) _ _ (n .n .given .1) _ (k .byte .ensures) (c .enum-told3 .given .1)
+    let end = c .before .before in
+    let at-number = end .before .before in
+    let number = at-number .before .before in
+    let at-key = number .before .before in
+    let key = at-key .before .before in
+    let a = begin key .args in
+    small-line-endless (a .text .now) (a .key .now) _ _ (key .word .ensures) _ (at-key .i .given .1) _ (number .small .ensures)
+    _ _ (at-number .n .given .1) _ (end .byte .ensures) (c .enum-told3 .given .1)
 
 returns-4 : tie.Need-returns-4
 returns-4 c =
-    let e = c .before in
-    let k = e .before .before in
-    let n = k .before .before in
-    let s = n .before .before in
-    let i = s .before .before in
-    let w = i .before .before in
-    let a = w .before .before .before .args in
-    small-line-whole (a .text .now) (a .key .now) _ _ (w .word .ensures) _ (i .i .given .1) _ (s .small .ensures) _ _ (n .n .given .1) _ (k .byte .ensures) _ (e .k .given .1)
+    let at-end = c .before in
+    let end = at-end .before .before in
+    let at-number = end .before .before in
+    let number = at-number .before .before in
+    let at-key = number .before .before in
+    let key = at-key .before .before in
+    let a = begin key .args in
+    small-line-whole (a .text .now) (a .key .now) _ _ (key .word .ensures) _ (at-key .i .given .1) _ (number .small .ensures)
+    _ _ (at-number .n .given .1) _ (end .byte .ensures) _ (at-end .k .given .1)
 
 pub small-line-spec : {M : Type 1} → statement M
 small-line-spec =

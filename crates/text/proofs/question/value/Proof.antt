@@ -1,6 +1,6 @@
 -- `value` reads a double and the byte behind it.
 use borrow.Author.Tests.{not-true, not-false}
-use Rattle.text.proofs.Lines.{value-none, value-is}
+use Rattle.text.proofs.question.Doubles.{value-none, value-is}
 use borrow.Author.Needs.{needs}
 use Rattle.text.proofs.question.value.Statement.{statement}
 use Rattle.text.proofs.question.value.Tie as tie

@@ -1,24 +1,36 @@
 -- `values` reads n doubles. Invariant: the first i were read and written, the others are read from k on.
-use mathlib.Core.Path.{_≡_, refl}
+use mathlib.Core.Path.{_≡_, refl, subst}
 use Prim.Native.Nat.{_-_, _≤_}
 use native.Mathlib.Omega.{arith}
-use lib.ListN.{length, drop, length-set}
-use Rattle.text.specs.Question.{values}
-use Rattle.text.proofs.Lines.{value-found, Taken, values-begin, values-stop, values-turn, values-end}
+use lib.ListN.{length, length-set}
+use Rattle.text.specs.Cursor.{ValueRead}
+use Rattle.text.proofs.question.Doubles.{Values, values-begin, values-stop, values-turn, values-end}
 use borrow.Author.Needs.{needs}
 use Rattle.text.proofs.question.values.Statement.{statement}
 use Rattle.text.proofs.question.values.Tie as tie
 
 abbrev Inv-loop : tie.InvT-loop
-Inv-loop text at n out₀ to i₀ k₀ out i k = (i ≤ n) × ((k ≤ length text) × ((length out ≡ length out₀) × Taken (values n (drop at text)) (values (n - i) (drop k text)) i to out₀ out))
+Inv-loop text at n out₀ to i₀ k₀ out i k =
+    (i ≤ n)
+    × (k ≤ length text)
+    × (length out ≡ length out₀)
+    × Values text n at to out₀ i k out
 
 abbrev μ-loop : tie.MeasureT-loop
 μ-loop text at n out₀ to i₀ k₀ out i k = n - i
 
+-- The start, from the head of the loop.
+abbrev begin : tie.At-loop Inv-loop μ-loop → tie.Start Inv-loop μ-loop
+begin c = c .before .before .before
+
+-- The head of the loop, from where a value is read.
+abbrev head : tie.After-value Inv-loop μ-loop → tie.At-loop Inv-loop μ-loop
+head c = c .before .before .before
+
 loop-holds : tie.Need-loop-holds Inv-loop μ-loop
 loop-holds c =
     let a = c .before .before .args in
-    (omega arith, (omega arith, (refl, values-begin (a .text .now) (a .n) (a .at) (a .to) (a .out .now))))
+    (omega arith, omega arith, refl, values-begin (a .text .now) (a .n) (a .at) (a .to) (a .out .now))
 
 sub-behind : tie.Need-sub-behind Inv-loop μ-loop
 sub-behind c = omega arith
@@ -39,20 +51,21 @@ enum-told : tie.Need-enum-told Inv-loop μ-loop
 enum-told c = search needs
 
 same-length : tie.Need-same-length Inv-loop μ-loop
-same-length c = c .before .before .before .before .before .loop .inv .1 .1 .0
+same-length c = head (c .before .before) .loop .inv .2
 
 returns : tie.Need-returns Inv-loop μ-loop
 returns c =
-    let v = c .before .before in
-    let l = v .before .before .before .loop in
-    let a = v .before .before .before .before .before .before .args in
-    values-stop (a .text .now) (a .n) (a .at) (a .to) (a .out .now) (l .i) (l .k) _ (l .out) _ (omega arith) (v .before .behind .ensures) (v .value .ensures) (l .inv .1 .1 .1) (c .enum-told .given .1)
+    let read = c .before .before in
+    let l = head read .loop in
+    let a = begin (head read) .args in
+    values-stop (a .text .now) (a .n) (a .at) (a .to) (a .out .now) (l .i) (l .k) _ (l .out) _ (omega arith)
+    (read .before .behind .ensures) (read .value .ensures) (l .inv .3) (c .enum-told .given .1)
 
 double-requires : tie.Need-double-requires Inv-loop μ-loop
 double-requires c κs =
-    let v = c .before .before .before in
-    let f = value-found _ _ _ _ _ (v .value .ensures) (c .before .j .given .1) in
-    (f .1, f .2)
+    let at-value = c .before in
+    let f = subst (ValueRead _ _ _) (at-value .j .given .1) (at-value .before .before .value .ensures) in
+    (f .room, f .digits)
 
 add-out : tie.Need-add-out Inv-loop μ-loop
 add-out c = omega arith
@@ -71,28 +84,27 @@ loop-less c = omega arith
 
 loop-again : tie.Need-loop-again Inv-loop μ-loop
 loop-again c =
-    let v = c .before .before .before .before in
-    let l = v .before .before .before .loop in
-    let a = v .before .before .before .before .before .before .args in
-    let e = c .before .before .j .given .1 in (
+    let at-value = c .before .before in
+    let read = at-value .before .before in
+    let l = head read .loop in
+    let a = begin (head read) .args in
+    let e = at-value .j .given .1 in (
       omega arith,
-      (
-        value-found _ _ _ _ _ (v .value .ensures) e .0,
-        (
-          simp length-set (l .inv .1 .1 .0),
-          values-turn (a .text .now) (a .n) (a .at) (a .to) (a .out .now) (l .i) (l .k) _ (l .out) _ (omega arith) (v .before .behind .ensures) (v .value .ensures) (l .inv .1 .1 .1) _ _ e (c .double .ensures) (omega arith),
-        ),
-      ),
+      subst (ValueRead _ _ _) e (read .value .ensures) .inside,
+      simp length-set (l .inv .2),
+      values-turn (a .text .now) (a .n) (a .at) (a .to) (a .out .now) (l .i) (l .k) _ (l .out) _ (omega arith)
+          (read .before .behind .ensures) (read .value .ensures) (l .inv .3) _ _ e (c .double .ensures) (omega arith),
     )
 
 same-length-2 : tie.Need-same-length-2 Inv-loop μ-loop
-same-length-2 c = c .before .loop .inv .1 .1 .0
+same-length-2 c = c .before .loop .inv .2
 
 returns-2 : tie.Need-returns-2 Inv-loop μ-loop
 returns-2 c =
     let l = c .before .loop in
-    let a = c .before .before .before .before .args in
-    values-end (a .text .now) (a .n) (a .at) (a .to) (a .out .now) (l .i) (l .k) (l .out) (omega arith) (omega arith) (l .inv .1 .0) (l .inv .1 .1 .1)
+    let a = begin (c .before) .args in
+    values-end (a .text .now) (a .n) (a .at) (a .to) (a .out .now) (l .i) (l .k) (l .out) (omega arith) (omega arith)
+    (l .inv .1) (l .inv .3)
 
 pub values-spec : {M : Type 1} → statement M
 values-spec =

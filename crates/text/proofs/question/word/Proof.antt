@@ -4,12 +4,15 @@ use Prim.Native.Nat.{_+_, _-_, _≤_}
 use native.Mathlib.Omega.{arith}
 use lib.ListN.{length, drop, length-drop}
 use Rattle.text.specs.Bytes.{word}
-use Rattle.text.proofs.Lines.{word-short, word-begins, word-turn, word-off, word-done}
+use Rattle.text.proofs.question.Words.{word-short, word-begins, word-turn, word-off, word-done}
 use Rattle.text.proofs.question.word.Statement.{statement}
 use Rattle.text.proofs.question.word.Tie as tie
 
 abbrev Inv-loop : tie.InvT-loop
-Inv-loop text at w i₀ i = (i ≤ length w) × ((at + length w ≤ length text) × (word w (drop at text) ≡ word (drop i w) (drop (at + i) text)))
+Inv-loop text at w i₀ i =
+    (i ≤ length w)
+    × (at + length w ≤ length text)
+    × (word w (drop at text) ≡ word (drop i w) (drop (at + i) text))
 
 abbrev μ-loop : tie.MeasureT-loop
 μ-loop text at w i₀ i = length w - i
@@ -18,10 +21,12 @@ sub-if1 : tie.Need-sub-if1 Inv-loop μ-loop
 sub-if1 c = omega arith
 
 returns : tie.Need-returns Inv-loop μ-loop
-returns c = let a = c .before .args in word-short (a .w .now) (drop (a .at) (a .text .now)) (simp length-drop (omega arith))
+returns c =
+    let a = c .before .args in
+    word-short (a .w .now) (drop (a .at) (a .text .now)) (simp length-drop (omega arith))
 
 loop-holds : tie.Need-loop-holds Inv-loop μ-loop
-loop-holds c = let a = c .before .args in (omega arith, (omega arith, word-begins (a .text .now) (a .w .now) (a .at)))
+loop-holds c = let a = c .before .args in (omega arith, omega arith, word-begins (a .text .now) (a .w .now) (a .at))
 
 add-if2 : tie.Need-add-if2 Inv-loop μ-loop
 add-if2 c = omega arith
@@ -34,9 +39,10 @@ shared-slice-read-if2-2 c = omega arith
 
 returns-2 : tie.Need-returns-2 Inv-loop μ-loop
 returns-2 c =
-    let l = c .before .before .before .before .loop in
-    let a = c .before .before .before .before .before .before .args in
-    l .inv .1 .1 ∙ word-off (a .text .now) (a .w .now) (a .at) (l .i) (omega arith) (omega arith) (c .if2 .taken)
+    let at-loop = c .before .before .before .before in
+    let l = at-loop .loop in
+    let a = at-loop .before .before .args in
+    l .inv .2 ∙ word-off (a .text .now) (a .w .now) (a .at) (l .i) (omega arith) (omega arith) (c .if2 .taken)
 
 add-i : tie.Need-add-i Inv-loop μ-loop
 add-i c = omega arith
@@ -46,9 +52,11 @@ loop-less c = omega arith
 
 loop-again : tie.Need-loop-again Inv-loop μ-loop
 loop-again c =
-    let l = c .before .before .before .before .loop in
-    let a = c .before .before .before .before .before .before .args in
-    (omega arith, (l .inv .1 .0, l .inv .1 .1 ∙ word-turn (a .text .now) (a .w .now) (a .at) (l .i) (omega arith) (omega arith) (c .if2 .left)))
+    let at-loop = c .before .before .before .before in
+    let l = at-loop .loop in
+    let a = at-loop .before .before .args in
+    let same = word-turn (a .text .now) (a .w .now) (a .at) (l .i) (omega arith) (omega arith) (c .if2 .left) in
+    (omega arith, l .inv .1, l .inv .2 ∙ same)
 
 add-t6 : tie.Need-add-t6 Inv-loop μ-loop
 add-t6 c = omega arith
@@ -57,7 +65,7 @@ returns-3 : tie.Need-returns-3 Inv-loop μ-loop
 returns-3 c =
     let l = c .before .loop in
     let a = c .before .before .before .args in
-    (l .inv .1 .0, l .inv .1 .1 ∙ word-done (a .text .now) (a .w .now) (a .at) (l .i) (omega arith))
+    (l .inv .1, l .inv .2 ∙ word-done (a .text .now) (a .w .now) (a .at) (l .i) (omega arith))
 
 pub word-spec : {M : Type 1} → statement M
 word-spec =

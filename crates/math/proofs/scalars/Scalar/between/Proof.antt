@@ -1,51 +1,51 @@
--- `between` equals the definition of `interpolate`: its first operand where `steady` says so, and else what its calls ensure, one after the other.
--- Where `tame` says so its products are those by factors, and its difference is in order, since it was so before it was widened.
+-- `between` equals its definition: its first operand where `same_operands` says so, and else what its calls ensure, one after the other.
+-- Where `all_in_order` says so its products are those by factors, and its difference is in order, since it was so before it was widened.
 use mathlib.Core.Path.{sym, _∙_}
 use lib.Ieee.{binary64, sub}
 use Rattle.math.proofs.Picks.{kept, blended, sums-meet}
-use Rattle.math.proofs.Intervals.Factors.{lower-number, upper-number, delta-is, delta-order, fraction-beta, Tame, tame-is}
+use Rattle.math.proofs.Intervals.Factors.{lower-number, upper-number, delta-is, delta-order, AllInOrder, all-in-order}
 use borrow.Author.Needs.{needs}
 use Rattle.math.proofs.scalars.Scalar.between.Statement.{statement}
 use Rattle.math.proofs.scalars.Scalar.between.Tie as tie
 
-steady-requires : tie.Need-steady-requires
-steady-requires c κs = search needs
+same-operands-requires : tie.Need-same-operands-requires
+same-operands-requires c κs = search needs
 
 returns : tie.Need-returns
-returns c = let k = c .before .before .before .before .args in kept (k .a) (k .b) (k .f .alpha) (sym (c .before .steady .ensures) ∙ c .if1 .taken)
+returns c = let k = c .before .before .before .before .args in kept (k .a) (k .b) (k .f) (sym (c .before .same-operands .ensures) ∙ c .if1 .taken)
 
-tame-requires : tie.Need-tame-requires
-tame-requires c κs = search needs
+all-in-order-requires : tie.Need-all-in-order-requires
+all-in-order-requires c κs = search needs
 
--- the operands, as they were where `tame` was asked
+-- the operands, as they were where `all_in_order` was asked
 abbrev given : tie.Then2 → tie.Start
 given n = n .before .before .before .before .before .before .before .before .before .before
 
-tamed : (n : tie.Then2) → let k = given n .args in
-    Tame (k .f) (k .a) (k .b) (record { lo = sub binary64 (k .b .lo) (k .a .hi); hi = sub binary64 (k .b .hi) (k .a .lo) })
-tamed n = let k = given n .args in tame-is (k .f) (k .a) (k .b) _ (given n .pre) (sym (n .before .tame .ensures) ∙ n .if2 .taken)
+ordered : (n : tie.Then2) → let k = given n .args in
+    AllInOrder (k .f .alpha) (k .f .beta) (k .a) (k .b) (record { lo = sub binary64 (k .b .lo) (k .a .hi); hi = sub binary64 (k .b .hi) (k .a .lo) })
+ordered n = let k = given n .args in all-in-order (k .f .alpha) (k .f .beta) (k .a) (k .b) _ (sym (n .before .all-in-order .ensures) ∙ n .if2 .taken)
 
 down-requires : tie.Need-down-requires
-down-requires c κs = lower-number _ _ (tamed c .diff)
+down-requires c κs = lower-number _ _ (ordered c .diff)
 
 up-requires : tie.Need-up-requires
-up-requires c κs = upper-number _ _ (tamed (c .before) .diff)
+up-requires c κs = upper-number _ _ (ordered (c .before) .diff)
 
 scale-requires : tie.Need-scale-requires
 scale-requires c κs =
     let d = c .before in
     let n = d .before in
     let k = given n .args in
-    (tamed n .alpha, delta-order (k .a) (k .b) (d .down .result) (c .up .result) (d .down .ensures) (c .up .ensures) (tamed n .diff))
+    (ordered n .alpha, delta-order (k .a) (k .b) (d .down .result) (c .up .result) (d .down .ensures) (c .up .ensures) (ordered n .diff))
 
 scale-requires-2 : tie.Need-scale-requires-2
-scale-requires-2 c κs = let n = c .before .before .before in (tamed n .beta, tamed n .first)
+scale-requires-2 c κs = let n = c .before .before .before in (ordered n .beta, ordered n .first)
 
 scale-requires-3 : tie.Need-scale-requires-3
-scale-requires-3 c κs = let n = c .before .before .before .before in (tamed n .alpha, tamed n .second)
+scale-requires-3 c κs = let n = c .before .before .before .before in (ordered n .alpha, ordered n .second)
 
-common-requires : tie.Need-common-requires
-common-requires c κs = search needs
+meet-of-sums-requires : tie.Need-meet-of-sums-requires
+meet-of-sums-requires c κs = search needs
 
 returns-2 : tie.Need-returns-2
 returns-2 c =
@@ -57,10 +57,10 @@ returns-2 c =
     let n = d .before in
     let if1 = n .before .before .before .before .before .before in
     let st = if1 .before in
-    let s = st .before .before .before in
-    let k = s .args in
-    blended (k .a) (k .b) (k .f .alpha) (k .f .beta) _ (m1 .scale .result) (m2 .scale2 .result) (m3 .scale3 .result) (c .common .result)
-    (fraction-beta (k .f) (s .pre)) (delta-is (k .a) (k .b) (d .down .result) (u .up .result) (d .down .ensures) (u .up .ensures)) (m1 .scale .ensures) (m2 .scale2 .ensures) (m3 .scale3 .ensures) (c .common .ensures) (sym (st .steady .ensures) ∙ if1 .if1 .left)
+    let k = st .before .before .before .args in
+    blended (k .a) (k .b) (k .f) _ (m1 .scale .result) (m2 .scale2 .result) (m3 .scale3 .result) (c .meet-of-sums .result)
+    (delta-is (k .a) (k .b) (d .down .result) (u .up .result) (d .down .ensures) (u .up .ensures))
+    (m1 .scale .ensures) (m2 .scale2 .ensures) (m3 .scale3 .ensures) (c .meet-of-sums .ensures) (sym (st .same-operands .ensures) ∙ if1 .if1 .left)
 
 sub-requires : tie.Need-sub-requires
 sub-requires c κs = search needs
@@ -93,26 +93,25 @@ returns-3 c =
     let s = m1 .before in
     let if1 = s .before .before .before .before .before .before .before in
     let st = if1 .before in
-    let g = st .before .before .before in
-    let k = g .args in
-    blended (k .a) (k .b) (k .f .alpha) (k .f .beta) (s .sub .result) (m1 .mul .result) (m2 .mul2 .result) (m3 .mul3 .result) (c .intersect .result)
-    (fraction-beta (k .f) (g .pre)) (s .sub .ensures) (m1 .mul .ensures) (m2 .mul2 .ensures) (m3 .mul3 .ensures)
+    let k = st .before .before .before .args in
+    blended (k .a) (k .b) (k .f) (s .sub .result) (m1 .mul .result) (m2 .mul2 .result) (m3 .mul3 .result) (c .intersect .result)
+    (s .sub .ensures) (m1 .mul .ensures) (m2 .mul2 .ensures) (m3 .mul3 .ensures)
     (sums-meet (k .a) (m1 .mul .result) (m2 .mul2 .result) (m3 .mul3 .result) (a1 .add .result) (a2 .add2 .result) (c .intersect .result) (a1 .add .ensures) (a2 .add2 .ensures) (c .intersect .ensures))
-    (sym (st .steady .ensures) ∙ if1 .if1 .left)
+    (sym (st .same-operands .ensures) ∙ if1 .if1 .left)
 
 pub between-spec : {M : Type 1} → statement M
 between-spec =
     tie.close
     (tie.spec
-    steady-requires
+    same-operands-requires
     returns
-    tame-requires
+    all-in-order-requires
     down-requires
     up-requires
     scale-requires
     scale-requires-2
     scale-requires-3
-    common-requires
+    meet-of-sums-requires
     returns-2
     sub-requires
     mul-requires

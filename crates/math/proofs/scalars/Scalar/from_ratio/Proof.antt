@@ -2,6 +2,7 @@
 use mathlib.Core.Path.{_∙_}
 use borrow.Author.Tests.{eq-eqb, ne-eqb}
 use Rattle.math.proofs.Bools.{pick-yes, pick-no}
+use Rattle.math.proofs.Paper.{is-ratio}
 use Rattle.math.specs.Scalars.{fromRatio}
 use Rattle.math.specs.declared.scalars.Divided.the-variants.{Value}
 use borrow.Author.Needs.{needs}
@@ -10,7 +11,7 @@ use Rattle.math.proofs.scalars.Scalar.from_ratio.Tie as tie
 
 returns : tie.Need-returns
 unfolding fromRatio
-returns c = pick-yes _ _ _ (eq-eqb (c .before .args .den) 0 (c .if1 .taken))
+returns c = let g = c .before .args in is-ratio (g .num) (g .den) _ (pick-yes _ _ _ (eq-eqb (g .den) 0 (c .if1 .taken)))
 
 int-to-float-exact : tie.Need-int-to-float-exact
 int-to-float-exact c = search needs
@@ -28,8 +29,10 @@ returns-2 : tie.Need-returns-2
 unfolding fromRatio
 returns-2 c =
     let k = c .before .before .before .before in
-    (λ i. Value (record { lo = c .before .next-down .ensures i; hi = c .next-up .ensures i }))
-    ∙ pick-no _ _ _ (ne-eqb (k .before .args .den) 0 (k .if1 .left))
+    let g = k .before .args in
+    is-ratio (g .num) (g .den) _
+    ((λ i. Value (record { lo = c .before .next-down .ensures i; hi = c .next-up .ensures i }))
+    ∙ pick-no _ _ _ (ne-eqb (g .den) 0 (k .if1 .left)))
 
 pub from-ratio-spec : {M : Type 1} → statement M
 from-ratio-spec =

@@ -1,0 +1,33 @@
+-- The published laws: what the proofs of geometry and text lean on beyond the contracts of the arithmetic. Each group passes on laws that
+-- are proved in the file that it names; facts about tests alone are in Bools.
+
+-- ---- doubles
+
+-- the order of doubles: `number` is what is no NaN; of two that compare both are numbers
+pub use Rattle.math.proofs.Doubles.Order.{number, le-number-l, le-number-r, le-self, le-trans, lt-le, le-lt, lt→le-f, lt-not-le}
+-- two finite doubles count as equal exactly where they are one number
+pub use Rattle.math.proofs.Doubles.Values.{eq→value, value→eq}
+-- two finite doubles of one sign that are one number are written alike
+pub use Rattle.math.proofs.Doubles.Held.{unique}
+-- what differs from itself is a NaN, and nothing else does
+pub use Rattle.math.proofs.Doubles.Tests.{ne-nan, no-nan}
+-- a square is not below zero, and a sum of two that are not is at least each of them
+pub use Rattle.math.proofs.Doubles.Nonneg.{square-nonneg, add-number, add-grows}
+-- ---- picks
+
+-- the lesser and the greater are one of the two, and the greater is at least each
+pub use Rattle.math.proofs.Doubles.Least.{min-either, max-either, max-left, max-second}
+-- picks by one comparison are `min` and `max`, and numbers, where the first operand is a number; the corners of a product are numbers and doubles
+pub use Rattle.math.proofs.Picks.{lesser-number, greater-number, lesser-min, greater-max, corners-lower, corners-upper, corners-doubles}
+-- ---- intervals
+
+-- a union of intervals that were widened is widened once
+pub use Rattle.math.proofs.Intervals.Widen.{widened-union}
+-- a fraction has its alpha, and to go it is to interpolate
+pub use Rattle.math.proofs.Intervals.Factors.{fraction-own, between-own}
+-- the Rust's arithmetic encloses
+pub use Rattle.math.proofs.Intervals.Instance.{geop-encloses}
+-- ---- the square root
+
+-- the root of a double is a double, and not below zero where the operand is not; a limit is below a root where the square of the next double says so
+pub use Rattle.math.proofs.root.Over.{sqrt-fits, sqrt-nonneg, square-decides}

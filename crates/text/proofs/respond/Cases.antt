@@ -1,0 +1,140 @@
+-- The answer to a text by cases: a refusal, or the answer of the search; and what is written for it.
+use mathlib.Core.Path.{_≡_, refl, sym, ap, _∙_, subst}
+use mathlib.Core.Bool.{Bool, cond, _&&_}
+use Prim.Native.Nat.{ℕ, zero, suc, _≤_, _<_}
+use native.Mathlib.Omega.{arith}
+use borrow.Author.Tests.{le-leb, lt-leb, eq-eqb, ne-eqb}
+use lib.Dec.{leb, eqb}
+use mathlib.Core.List.{List, []}
+use Rattle.lists.proofs.Put.{put-nil}
+use Rattle.text.specs.Printable.{Written}
+use lib.ListN.{length, drop, length-drop}
+use lib.Seq.{length-take-le}
+use lib.Ieee.{Float}
+use Rattle.math.specs.Scalars.{geop}
+use Rattle.math.proofs.Bools.{pick-yes, pick-no}
+use Rattle.model.specs.Call.{searched, sizesRefusal}
+use Rattle.model.specs.Paper.{paper}
+use Rattle.model.specs.declared.contains.Found.{Found}
+use Rattle.model.specs.declared.contains.Found.the-variants.{Refused}
+use Rattle.text.specs.Bytes.{Read}
+use Rattle.text.specs.Question.{Sizes, sizesOf, sizes, Numbers, numbers}
+use Rattle.text.specs.Question.{refusedBy, asks, callOf, completeBy, openedBy, readBy, reading}
+use Rattle.text.specs.Respond.{answeredBy, answered, printed, response, fitting}
+use Rattle.text.specs.Cursor.{HeadRead, NumbersAt, NumbersRead, numbersIn}
+use Rattle.text.specs.Counts.{Counts}
+use Rattle.text.specs.declared.cursor.Head.{Head}
+use Rattle.text.specs.declared.cursor.Head.the-variants.{NoHead, Heads}
+use Rattle.text.specs.declared.cursor.Small.{Small}
+use Rattle.text.specs.declared.cursor.Small.the-variants.{NoNumber, Number}
+use Rattle.text.proofs.respond.Lent.{lines-back}
+
+-- ---- the other lines, as `numbers` says that it read them
+
+module _ (s : Sizes) (text : List ℕ) (spec : Read Numbers) (l m : List Float) (r : Small)
+    (h : NumbersRead text spec s l m r) where
+  -- The answer, by what is read.
+  abbrev after : Read Numbers → Found
+  after x = answeredBy (completeBy s (length text) x)
+
+  -- they are of another form
+  pub numbers-bad : r ≡ NoNumber → Refused 12 0 ≡ after spec
+  unfolding completeBy answeredBy
+  numbers-bad e = sym (ap after (subst (NumbersRead text spec s l m) e h))
+
+  module _ (nodes i : ℕ) (e : r ≡ Number nodes i) where
+    seen : NumbersAt text spec s l m nodes i
+    seen = subst (NumbersRead text spec s l m) e h
+
+    -- what the two tests of the whole text say
+    by-tests : {a b : Bool} → leb (length text) 65536 ≡ a → eqb (length (drop i text)) 0 ≡ b
+        → answeredBy (cond (a && b) (asks s (seen .says)) (refusedBy 12)) ≡ after spec
+    unfolding completeBy
+    by-tests A B =
+        sym (λ j. answeredBy (cond (A j && B j) (asks s (seen .says)) (refusedBy 12))) ∙ ap after (sym (seen .reads))
+
+    -- the text is too long
+    pub numbers-long : 65536 < length text → Refused 12 0 ≡ after spec
+    unfolding answeredBy
+    numbers-long a = by-tests (lt-leb (length text) 65536 a) refl
+
+    -- something stands behind the last line
+    pub numbers-more : length text ≤ 65536 → i < length text → Refused 12 0 ≡ after spec
+    unfolding answeredBy
+    numbers-more a b =
+        by-tests (le-leb (length text) 65536 a)
+        (ne-eqb (length (drop i text)) 0 (λ z. omega (arith, z, length-drop i text)))
+
+    -- a question is asked
+    pub numbers-all : (f : Found) → length text ≤ 65536 → length text ≤ i
+        → f ≡ searched geop (callOf s (numbersIn s nodes m)) → f ≡ after spec
+    unfolding answeredBy
+    numbers-all f a b F =
+        let z = seen in
+        lines-back s (z .says) l m (z .long) (z .wrote) nodes f (z .nodes-same) F
+        ∙ by-tests (le-leb (length text) 65536 a) (eq-eqb (length (drop i text)) 0 (omega (arith, length-drop i text)))
+
+-- ---- the first three lines
+
+module _ (text : List ℕ) (r : Head) (h : HeadRead text (sizes text) r) where
+  -- The answer, by what is read.
+  abbrev from : Read Sizes → Found
+  from x = answeredBy (readBy (length text) x)
+
+  pub head-bad : r ≡ NoHead → Refused 12 0 ≡ answered text
+  unfolding answered reading readBy answeredBy
+  head-bad e = sym (ap from (subst (HeadRead text (sizes text)) e h))
+
+  module _ (d p n i : ℕ) (e : r ≡ Heads d p n i) where
+    abbrev these : Sizes
+    these = sizesOf d p n
+
+    -- The answer, where the refusal of the sizes is known.
+    abbrev opened : ℕ → Found
+    opened k = answeredBy (openedBy these (length text) (drop i text) k)
+
+    head-seen : HeadRead text (sizes text) (Heads d p n i)
+    head-seen = subst (HeadRead text (sizes text)) e h
+
+    pub head-inside : i ≤ length text
+    head-inside = head-seen .0
+
+    same : (k : ℕ) → k ≡ sizesRefusal d p n → opened k ≡ answered text
+    unfolding answered reading readBy
+    same k K = ap opened K ∙ sym (ap from (head-seen .1))
+
+    pub head-refused : (k : ℕ) → k ≡ sizesRefusal d p n → (k ≡ 0 → ⊥) → Refused k 0 ≡ answered text
+    head-refused zero K never = absurd (never refl)
+    head-refused (suc k) K never = one ∙ same (suc k) K
+      where
+        one : Refused (suc k) 0 ≡ opened (suc k)
+        one = unfold answeredBy openedBy in refl
+
+    pub head-asked : (k : ℕ) (f : Found) → k ≡ sizesRefusal d p n → k ≡ 0
+        → f ≡ answeredBy (completeBy these (length text) (numbers these (drop i text))) → f ≡ answered text
+    head-asked k f K z F = F ∙ one ∙ same 0 (sym z ∙ K)
+      where
+        one : answeredBy (completeBy these (length text) (numbers these (drop i text))) ≡ opened 0
+        one = unfold openedBy in refl
+
+-- ---- what is written
+
+-- All of it, where there is room.
+pub responds : (text : List ℕ) {l m : List ℕ} {f : Found} {r : ℕ} → f ≡ answered text → 160 ≤ length l
+    → length m ≡ length l → r ≤ 160
+    → Written l 0 (printed (paper f)) m r → Written l 0 (fitting (length l) text) m r × Counts r m
+responds text {l} {m} {f} {r} F room long few w =
+    let whole : printed (paper f) ≡ fitting (length l) text =
+    same ∙ pick-yes (leb 160 (length l)) (response text) [] (le-leb 160 (length l) room) in
+    (subst (λ (x : List ℕ). Written l 0 x m r) whole w, (omega arith, sym (length-take-le r m (omega arith))))
+  where
+    same : printed (paper f) ≡ response text
+    same = unfold response in ap (λ (x : Found). printed (paper x)) F
+
+-- Nothing, where there is not.
+pub too-short : (text l : List ℕ) → length l < 160 → Written l 0 (fitting (length l) text) l 0 × Counts 0 l
+too-short text l h =
+    let nothing : [] ≡ fitting (length l) text =
+    pick-no (leb 160 (length l)) (response text) [] (lt-leb 160 (length l) h) in
+    let w : Written l 0 [] l 0 = record { memory = sym (put-nil l 0); end = refl } in
+    (subst (λ (x : List ℕ). Written l 0 x l 0) nothing w, (omega arith, sym (length-take-le 0 l (omega arith))))

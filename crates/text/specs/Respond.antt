@@ -1,0 +1,52 @@
+-- The answer to a text, and the five lines that are printed for it. Definitions only.
+use Prim.Native.Nat.{ℕ}
+use mathlib.Core.Bool.{cond}
+use mathlib.Core.List.{List, [], _++_}
+use lib.Dec.{leb}
+use mathlib.Core.Option.{Option, none, some}
+use Rattle.math.specs.declared.scalars.Scalar.{Scalar}
+use Rattle.math.specs.Scalars.{geop}
+use Rattle.model.specs.Call.{searched}
+use Rattle.model.specs.Paper.{Result, none-found, enclosed, spent, refused, Paper, paper}
+use Rattle.model.specs.declared.contains.Found.{Found}
+use Rattle.model.specs.declared.contains.Found.the-variants.{Refused}
+use Rattle.text.specs.Bytes.{bytes}
+use Rattle.text.specs.Numerals.{decimal, hexadecimal}
+use Rattle.text.specs.Question.{Reading, refusedBy, asks, callOf, reading}
+
+-- The answer to what was read: "A refusal other than 11 prints visited=0."
+unfoldable pub answeredBy : Reading → Found
+answeredBy (refusedBy n) = Refused n 0
+answeredBy (asks s q) = searched geop (callOf s q)
+
+-- The answer to a text.
+unfoldable pub answered : List ℕ → Found
+answered text = answeredBy (reading text)
+
+-- "`result` is none, enclosed, spent or refused-N"
+unfoldable pub resultWord : Result → List ℕ
+resultWord none-found = bytes "none"
+resultWord enclosed = bytes "enclosed"
+resultWord spent = bytes "spent"
+resultWord (refused n) = bytes "refused-" ++ decimal n
+
+-- "lo and hi are `-` unless enclosed"
+unfoldable pub boundLines : Option Scalar → List ℕ
+boundLines none = bytes "lo=-\nhi=-\n"
+boundLines (some x) = bytes "lo=" ++ hexadecimal (x .lo) ++ bytes "\nhi=" ++ hexadecimal (x .hi) ++ bytes "\n"
+
+-- The five lines.
+unfoldable pub printed : Paper → List ℕ
+printed a =
+    bytes "result=" ++ resultWord (a .result)
+    ++ bytes "\nvisited=" ++ decimal (a .visited)
+    ++ bytes "\npending=" ++ decimal (a .pending)
+    ++ bytes "\n" ++ boundLines (a .bounds)
+
+-- What the program writes for a text.
+unfoldable pub response : List ℕ → List ℕ
+response text = printed (paper (answered text))
+
+-- What is written of it where there are n bytes for it: all of it, or nothing where they are fewer than 160.
+abbrev pub fitting : ℕ → List ℕ → List ℕ
+fitting n text = cond (leb 160 n) (response text) []

@@ -1,0 +1,187 @@
+// The five lines of an answer.
+use model::contains::Found;
+ghost use mathlib.Core.Path.{_≡_};
+ghost use mathlib.Core.Bool.{not};
+ghost use mathlib.Core.List.{_++_};
+ghost use Prim.Native.Nat.{_+_, _≤_, _<_};
+ghost use lib.ListN.{length};
+ghost use lib.Dec.{T};
+ghost use lib.Ieee.{isNan};
+ghost use Rattle.model.specs.Paper.{paper};
+ghost use Rattle.text.specs.Numerals.{digitOf, lastDigits, decimalLength, decimal, hexadecimal};
+ghost use Rattle.text.specs.Respond.{resultWord, boundLines, printed};
+ghost use Rattle.text.specs.Printable.{Written, Printable};
+
+// ---- words and numbers
+
+// The word w from `at` on. As of all that write here, the result is where the rest begins.
+fn put_word(out: &mut [u8], at: usize, w: &[u8]) -> usize
+    requires { ⌜ at + length (now w) ≤ length (now out) ⌝ }
+    ensures { λ r. ⌜ Written (now (out .entry)) at (now (w .entry)) (now (out .exit)) r ⌝ }
+{
+    let mut i = 0;
+    while i < w.len() {
+        out[at + i] = w[i];
+        i += 1;
+    }
+    at + i
+}
+
+// A number below 10 or 16 as a digit of lower case.
+fn digit_of(n: u64) -> u8
+    requires { ⌜ n < 16 ⌝ }
+    ensures { λ r. ⌜ r ≡ digitOf n ⌝ }
+{
+    if n <= 9 { 48 + n as u8 } else { 87 + n as u8 }
+}
+
+// The last k digits of n in a base, from `at` on.
+fn put_digits(out: &mut [u8], at: usize, base: u64, k: usize, n: u64) -> usize
+    requires { ⌜ (0 < base) × (base ≤ 16) × (at + k ≤ length (now out)) ⌝ }
+    ensures { λ r. ⌜ Written (now (out .entry)) at (lastDigits base k n) (now (out .exit)) r ⌝ }
+{
+    let mut i = k;
+    let mut rest = n;
+    while 0 < i {
+        i -= 1;
+        out[at + i] = digit_of(rest % base);
+        rest /= base;
+    }
+    at + k
+}
+
+// How many digits n has in decimal. No u64 has more than 20.
+fn decimal_length(n: u64) -> usize
+    ensures { λ r. ⌜ (r ≡ decimalLength 19 n) × (r ≤ 20) ⌝ }
+{
+    let mut l = 1;
+    let mut rest = n;
+    while l < 20 {
+        if rest <= 9 {
+            return l;
+        }
+        rest /= 10;
+        l += 1;
+    }
+    l
+}
+
+// A number in decimal, from `at` on.
+fn put_decimal(out: &mut [u8], at: usize, n: u64) -> usize
+    requires { ⌜ at + 20 ≤ length (now out) ⌝ }
+    ensures { λ r. ⌜ Written (now (out .entry)) at (decimal n) (now (out .exit)) r × (r ≤ at + 20) ⌝ }
+{
+    let k = decimal_length(n);
+    put_digits(out, at, 10, k, n)
+}
+
+// A double that is no NaN as the sixteen hexadecimal digits of its bits, from `at` on.
+fn put_double(out: &mut [u8], at: usize, x: f64) -> usize
+    requires { ⌜ (at + 16 ≤ length (now out)) × T (not (isNan x)) ⌝ }
+    ensures { λ r. ⌜ Written (now (out .entry)) at (hexadecimal x) (now (out .exit)) r × (r ≡ at + 16) ⌝ }
+{
+    put_digits(out, at, 16, 16, f64::to_bits(x))
+}
+
+// ---- lines
+
+// What stands behind `result=`, from `at` on.
+fn put_result(out: &mut [u8], at: usize, f: Found) -> usize
+    requires { ⌜ at + 28 ≤ length (now out) ⌝ }
+    ensures { λ r.
+        let l = now (out .entry) in let m = now (out .exit) in
+        ⌜ Written l at (resultWord (paper f .result)) m r × (r ≤ at + 28) ⌝ }
+{
+    match f {
+        Found::Nothing(_) => {
+            let none = [b'n', b'o', b'n', b'e'];
+            put_word(out, at, &none)
+        }
+        Found::Enclosed(_, _, _) => {
+            let enclosed = [b'e', b'n', b'c', b'l', b'o', b's', b'e', b'd'];
+            put_word(out, at, &enclosed)
+        }
+        Found::Spent(_, _) => {
+            let spent = [b's', b'p', b'e', b'n', b't'];
+            put_word(out, at, &spent)
+        }
+        Found::Refused(n, _) => {
+            let refused = [b'r', b'e', b'f', b'u', b's', b'e', b'd', b'-'];
+            let i = put_word(out, at, &refused);
+            put_decimal(out, i, n)
+        }
+    }
+}
+
+// How many pieces were visited.
+fn visited_of(f: Found) -> u64
+    ensures { λ r. ⌜ r ≡ paper f .visited ⌝ }
+{
+    match f {
+        Found::Nothing(v) => v as u64,
+        Found::Enclosed(_, _, v) => v as u64,
+        Found::Spent(_, v) => v as u64,
+        Found::Refused(_, v) => v as u64,
+    }
+}
+
+// How many pieces were left: 0 unless spent.
+fn pending_of(f: Found) -> u64
+    ensures { λ r. ⌜ r ≡ paper f .pending ⌝ }
+{
+    match f {
+        Found::Nothing(_) => 0,
+        Found::Enclosed(_, _, _) => 0,
+        Found::Spent(n, _) => n as u64,
+        Found::Refused(_, _) => 0,
+    }
+}
+
+// A key and a number, from `at` on.
+fn put_count(out: &mut [u8], at: usize, key: &[u8], n: u64) -> usize
+    requires { ⌜ at + length (now key) + 20 ≤ length (now out) ⌝ }
+    ensures { λ r.
+        let k = now (key .entry) in let l = now (out .entry) in let m = now (out .exit) in
+        ⌜ Written l at (k ++ decimal n) m r × (r ≤ at + length k + 20) ⌝ }
+{
+    let i = put_word(out, at, key);
+    put_decimal(out, i, n)
+}
+
+// The lines of the two bounds, from `at` on.
+fn put_bounds(out: &mut [u8], at: usize, f: Found) -> usize
+    requires { ⌜ (at + 40 ≤ length (now out)) × Printable f ⌝ }
+    ensures { λ r.
+        let l = now (out .entry) in let m = now (out .exit) in
+        ⌜ Written l at (boundLines (paper f .bounds)) m r × (r ≤ at + 40) ⌝ }
+{
+    let Found::Enclosed(lo, hi, _) = f else {
+        let dashes = [b'l', b'o', b'=', b'-', b'\n', b'h', b'i', b'=', b'-', b'\n'];
+        return put_word(out, at, &dashes);
+    };
+    let first = [b'l', b'o', b'='];
+    let i = put_word(out, at, &first);
+    let j = put_double(out, i, lo);
+    let second = [b'\n', b'h', b'i', b'='];
+    let k = put_word(out, j, &second);
+    let l = put_double(out, k, hi);
+    let end = [b'\n'];
+    put_word(out, l, &end)
+}
+
+// The five lines of an answer, written to the front of `out`. The result is how many bytes they are.
+pub(crate) fn write(f: Found, out: &mut [u8]) -> usize
+    requires { ⌜ (160 ≤ length (now out)) × Printable f ⌝ }
+    ensures { λ r. ⌜ Written (now (out .entry)) 0 (printed (paper f)) (now (out .exit)) r × (r ≤ 160) ⌝ }
+{
+    let result = [b'r', b'e', b's', b'u', b'l', b't', b'='];
+    let i = put_word(out, 0, &result);
+    let j = put_result(out, i, f);
+    let visited = [b'\n', b'v', b'i', b's', b'i', b't', b'e', b'd', b'='];
+    let k = put_count(out, j, &visited, visited_of(f));
+    let pending = [b'\n', b'p', b'e', b'n', b'd', b'i', b'n', b'g', b'='];
+    let l = put_count(out, k, &pending, pending_of(f));
+    let end = [b'\n'];
+    let m = put_word(out, l, &end);
+    put_bounds(out, m, f)
+}
