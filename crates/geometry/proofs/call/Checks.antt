@@ -1,12 +1,12 @@
 -- Laws behind the checks of a call: knots that rise, one by one, and the checks in their order. Assumes nothing.
 use mathlib.Core.Path.{_≡_, refl, sym, ap, _∙_}
-use mathlib.Core.Bool.{Bool, true, false, cond, _&&_, _||_, true≢false}
+use mathlib.Core.Bool.{Bool, true, false, _&&_, _||_, true≢false}
 use mathlib.Core.List.{List, [], _∷_}
 use Prim.Native.Nat.{ℕ, zero, suc, _+_, _-_, _*_, _≤_, _<_}
 use native.Mathlib.Nat.{le-trans, le-of-eq, mul-assoc, mul-le-mul-left, mul-le-mul-right}
 use native.Mathlib.Omega.{arith}
-use borrow.Author.Tests.{leb-true, eqb-true}
-use lib.Dec.{leb, eqb}
+use borrow.Author.Tests.{eqb-true}
+use lib.Dec.{eqb}
 use lib.ListN.{length, drop, getD}
 use lib.Ieee.{Float, nan, lt, le}
 use Rattle.lists.specs.Lists.{all}
@@ -140,19 +140,9 @@ module _ (t u v w x : Bool) where
   five-rest a b c d = passes-2 (t && u && v) w x (sym (passes-2 t u v a b) ∙ c) d
 
 -- ---- what the first checks leave
-pub dim-small : (d : ℕ) → (eqb d 2 || eqb d 3) ≡ true → d ≤ 3
-dim-small d e = go (eqb d 2) (eqb d 3) (eqb-true d 2) (eqb-true d 3) e
-  where
-    go : (t u : Bool) → (t ≡ true → d ≡ 2) → (u ≡ true → d ≡ 3) → (t || u) ≡ true → d ≤ 3
-    go true u f g h = omega (arith, f refl)
-    go false u f g h = omega (arith, g h)
-
 both : (t u : Bool) → t && u ≡ true → (t ≡ true) × (u ≡ true)
 both true u e = (refl, e)
 both false u e = absurd (true≢false (sym e))
-
-pub count-small : (p n : ℕ) → leb (p + 1) n && leb n 32 ≡ true → (p < n) × (n ≤ 32)
-count-small p n e = let b = both (leb (p + 1) n) (leb n 32) e in (omega (arith, leb-true (p + 1) n (b .0)), leb-true n 32 (b .1))
 
 pub lengths-are : (k p n m d b i : ℕ) → eqb k (n + p + 1) && eqb m (2 * suc d * n) && eqb b (2 * i) ≡ true → (k ≡ n + p + 1) × (2 * (suc d * n) ≤ m) × (2 * i ≤ b)
 lengths-are k p n m d b i e =

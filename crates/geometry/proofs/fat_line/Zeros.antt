@@ -2,7 +2,7 @@
 use mathlib.Core.Path.{_≡_, refl, sym, ap, _∙_, subst}
 use mathlib.Core.Bool.{Bool, true, false, cond}
 use mathlib.Core.List.{List, map, zipWith}
-use mathlib.Core.Option.{none, some}
+use mathlib.Core.Option.{some}
 use Prim.Native.Nat.{ℕ, zero, suc, _+_, _-_, _*_, _^_, _≤_, _<_}
 use native.Mathlib.Numerals.{add-one}
 use native.Mathlib.Omega.{arith}
@@ -91,15 +91,6 @@ held-long ar (suc p) n knots r h e =
     ap (λ (a : Abscissae). length (a .at)) e
     ∙ length-put-flat (replicate 64 zeroF) n (λ i. abscissa ar (suc p) (window (suc p) knots i)) (rw (length-replicate 64 zeroF) (omega arith))
     ∙ length-replicate 64 zeroF
-
--- Where the array's enum says none there are none.
-pub none-greville : (ar : Arithmetic) (p n : ℕ) (knots : List Float) (r : Abscissae) → r ≡ held (greville ar p n knots) → r .has ≡ None → greville ar p n knots ≡ none
-unfolding held greville
-none-greville ar zero n knots r e h = refl
-none-greville ar (suc p) n knots r e h = let z : Some ≡ None = sym (ap (λ (a : Abscissae). a .has) e) ∙ h in absurd (omega (arith, never z))
-  where
-    never : Some ≡ None → _≡_ {A = ℕ} 0 1
-    never z = cc
 
 -- degree 0 has none, and it alone
 pub none-degree : (ar : Arithmetic) (p n : ℕ) (knots : List Float) (r : Abscissae) → r ≡ held (greville ar p n knots) → r .has ≡ None → p ≡ 0

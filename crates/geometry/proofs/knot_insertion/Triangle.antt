@@ -110,9 +110,6 @@ module _ (s : Shape) (l : List Float) (base : ℕ) (α : Scalar) (ins : Inside s
   abbrev state : ℕ → List Float
   state r = withLast s l base α r
 
-  abbrev early : ℕ → List Float
-  early r = withRow s l base α r
-
   ps-long : length ps ≡ suc p
   ps-long = length-points D (suc p) (drop P l)
 

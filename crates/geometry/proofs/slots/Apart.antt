@@ -1,21 +1,19 @@
 -- Slots apart from each other: what is written into one is not seen in the other. Leans on the laws of one slot.
 use mathlib.Core.Path.{_≡_, sym, ap, _∙_, subst}
 use mathlib.Core.Logic.{_⊎_, inl, inr}
-use mathlib.Core.List.{List, [], _∷_, _++_}
-use Prim.Native.Nat.{ℕ, zero, suc, _+_, _-_, _*_, _≤_, _<_}
+use mathlib.Core.List.{List}
+use Prim.Native.Nat.{ℕ, suc, _+_, _-_, _*_, _≤_, _<_}
 use native.Mathlib.Nat.{mul-le-mul-left, mul-suc}
 use native.Mathlib.Omega.{arith}
-use lib.ListN.{length, take, drop, getD}
+use lib.ListN.{length, drop, getD}
 use lib.Ieee.{Float, nan, toUnsigned}
-use Rattle.lists.specs.Lists.{part, put, tab}
+use Rattle.lists.specs.Lists.{part}
 use Rattle.lists.proofs.Tab.{tab-ext}
 use Rattle.lists.proofs.Part.{length-part, getD-part, part-part}
-use Rattle.lists.proofs.Put.{length-put, put-swap}
 use Rattle.lists.proofs.Read.{part-put-other}
 use Rattle.model.specs.NurbCurve.{Piece}
-use Rattle.model.specs.Vector.{Vector}
 use Rattle.model.specs.Layout.{pointsOf, slotWords}
-use Rattle.geometry.specs.Slots.{pointWords, pointsFrom, word, countAt, vectorAt, pieceAt, placed, Sized, Fits, Inside, Held, Apart}
+use Rattle.geometry.specs.Slots.{pointWords, pointsFrom, word, countAt, vectorAt, pieceAt, placed, Fits, Inside, Held, Apart}
 use Rattle.geometry.specs.declared.slots.Shape.{Shape}
 use Rattle.geometry.proofs.Lists.Numbers.{points-tab, vector-part}
 use Rattle.geometry.proofs.slots.Piece.{wordsOf, room, pieceOf, length-placed, placed-local}
@@ -116,23 +114,3 @@ module _ (s : Shape) (l : List Float) (a b : ℕ) (c : Piece) (i : Inside s l a)
 
     pub piece-apart : Held s l b → pieceAt s (placed s l a c) b ≡ pieceAt s l b
     piece-apart h = piece-same s l (placed s l a c) b (sym slot-apart) (inside-apart (h .inside)) h
-
--- writes to two slots, in either order
-pub placed-swap : (s : Shape) (l : List Float) (a b : ℕ) (c d : Piece) → Inside s l a → Inside s l b → Fits s c → Fits s d → Apart s a b
-    → placed s (placed s l a c) b d ≡ placed s (placed s l b d) a c
-placed-swap s l a b c d i j f g p =
-    let X : List Float = placed s (slot s l a) 0 c in
-    let Y : List Float = placed s (slot s l b) 0 d in
-    let x : length X ≡ wordsOf s = local-long s l a b c i f in
-    let y : length Y ≡ wordsOf s = local-long s l b a d j g in
-    placed-local s (placed s l a c) b d (inside-apart s l a b c i f p j) g
-    ∙ ap (λ (k : List Float). put (placed s l a c) b (placed s k 0 d)) (slot-apart s l a b c i f p)
-    ∙ ap (λ (k : List Float). put k b Y) (placed-local s l a c i f)
-    ∙ put-swap l a X b Y (omega (arith, i .within)) (omega (arith, j .within)) (far p)
-    ∙ sym (placed-local s (placed s l b d) a c (inside-apart s l b a d j g (other s a b p) i) f
-    ∙ ap (λ (k : List Float). put (placed s l b d) a (placed s k 0 c)) (slot-apart s l b a d j g (other s a b p))
-    ∙ ap (λ (k : List Float). put k a X) (placed-local s l b d j g))
-  where
-    far : Apart s a b → (a + length (placed s (slot s l a) 0 c) ≤ b) ⊎ (b + length (placed s (slot s l b) 0 d) ≤ a)
-    far (inl h) = inl (omega (arith, local-long s l a b c i f))
-    far (inr h) = inr (omega (arith, local-long s l b a d j g))

@@ -2,21 +2,20 @@
 use mathlib.Core.Path.{_≡_, refl, sym, ap, _∙_}
 use mathlib.Core.Logic.{_⊎_, inl, inr, ⊎-elim}
 use mathlib.Core.List.{List, [], _∷_, _++_, append-assoc}
-use Prim.Native.Nat.{ℕ, zero, suc, _+_, _-_, _*_, _≤_, _<_}
-use native.Mathlib.Nat.{add-zero, add-assoc}
+use Prim.Native.Nat.{ℕ, suc, _+_, _-_, _*_, _≤_, _<_}
 use native.Mathlib.Numerals.{add-one}
 use native.Mathlib.Decide.{decLt}
 use native.Mathlib.Omega.{arith}
 use lib.ListN.{length, drop, length-drop}
 use lib.Seq.{take-all}
 use lib.Ieee.{Float}
-use Rattle.lists.specs.Lists.{part, tab}
+use Rattle.lists.specs.Lists.{part}
 use Rattle.lists.specs.Ring.{wrapped}
 use Rattle.lists.proofs.Tab.{length-tab, tab-ext, tab-cons}
 use Rattle.lists.proofs.Ring.{apart, slot-in, wrapped-in, wrapped-head, wrapped-ne, wrapped-next, wrapped-free}
 use Rattle.model.specs.NurbCurve.{Piece}
 use Rattle.model.specs.Layout.{slotWords}
-use Rattle.geometry.specs.Slots.{pieceAt, placed, Sized, Fits, Inside, Held, Apart}
+use Rattle.geometry.specs.Slots.{pieceAt, placed, Fits, Inside, Held, Apart}
 use Rattle.geometry.specs.Ring.{baseOf, ringBase, waiting, Ring, Outside, Beside}
 use Rattle.geometry.specs.declared.slots.Shape.{Shape}
 use Rattle.geometry.proofs.slots.Piece.{wordsOf, length-placed}
@@ -26,20 +25,6 @@ use Rattle.geometry.proofs.slots.Apart.{held-same, piece-same, part-bes
 
 pub beside-refl : (s : Shape) (a b : ℕ) (l : List Float) → Beside s a b l l
 beside-refl s a b l = record { long = refl; same = λ x w f g. refl }
-
-pub beside-trans : (s : Shape) (a b : ℕ) (l m n : List Float) → Beside s a b l m → Beside s a b m n → Beside s a b l n
-beside-trans s a b l m n h k = record { long = k .long ∙ h .long; same = λ x w f g. k .same x w f g ∙ h .same x w f g }
-
--- the two slots in the other order
-pub beside-swap : (s : Shape) (a b : ℕ) (l m : List Float) → Beside s a b l m → Beside s b a l m
-beside-swap s a b l m h = record { long = h .long; same = λ x w f g. h .same x w g f }
-
--- what differs in one slot differs in it or another
-pub beside-first : (s : Shape) (a b : ℕ) (l m : List Float) → Beside s a a l m → Beside s a b l m
-beside-first s a b l m h = record { long = h .long; same = λ x w f g. h .same x w f f }
-
-pub beside-second : (s : Shape) (a b : ℕ) (l m : List Float) → Beside s b b l m → Beside s a b l m
-beside-second s a b l m h = record { long = h .long; same = λ x w f g. h .same x w g g }
 
 -- a piece that is written into the slot at a
 pub beside-placed : (s : Shape) (a : ℕ) (l : List Float) (c : Piece) → Inside s l a → Fits s c → Beside s a a l (placed s l a c)

@@ -7,10 +7,7 @@ use native.Mathlib.Omega.{arith}
 use lib.ListN.{length, getD}
 use lib.Ieee.{Float, nan}
 use Rattle.lists.specs.Lists.{part}
-use Rattle.math.specs.declared.scalars.Scalar.{Scalar}
-use Rattle.math.specs.declared.scalars.Divided.{Divided}
-use Rattle.math.specs.declared.scalars.Divided.the-variants.{Value, Failed}
-use Rattle.math.specs.Scalars.{geop, sharp, addS, divS, TWO, ENTIRE, middle, valueOr}
+use Rattle.math.specs.Scalars.{geop}
 use Rattle.model.specs.NurbCurve.{Piece, knot, start, end, inDomain, midParameter}
 use Rattle.model.specs.KnotInsertion.{Cut, fullCut, leftOf, rightOf}
 use Rattle.model.specs.Split.{splitBy, split, fromBy, upToBy, restrict}
@@ -36,20 +33,6 @@ module _ (s : Shape) (l : List Float) (base m f : ℕ) (h : Held s l base) (e : 
 
   pub mid-words : midParameter geop (getD l (f + s .degree) nan) (getD l (f + m) nan) ≡ midParameter geop (start (s .degree) (pieceAt s l base)) (end (pieceAt s l base))
   mid-words = sym (λ j. midParameter geop (start-word j) (end-word j))
-
--- ---- the middle
-
-module _ (a b : Float) (fa fb x : Scalar) (r : Divided) (ea : fa ≡ sharp a) (eb : fb ≡ sharp b) (ex : x ≡ addS fa fb) (er : r ≡ divS x TWO) where
-  quotient : r ≡ divS (addS (sharp a) (sharp b)) TWO
-  quotient = er ∙ (λ j. divS ((ex ∙ (λ i. addS (ea i) (eb i))) j) TWO)
-
-  pub mid-value : (v : Scalar) (y : Float) → r ≡ Value v → y ≡ middle v → y ≡ midParameter geop a b
-  unfolding midParameter valueOr
-  mid-value v y e f = f ∙ sym (ap (λ (d : Divided). middle (valueOr d ENTIRE)) (sym quotient ∙ e))
-
-  pub mid-failed : (v : Scalar) (y : Float) → r ≡ Failed → v ≡ ENTIRE → y ≡ middle v → y ≡ midParameter geop a b
-  unfolding midParameter valueOr
-  mid-failed v y e g f = f ∙ ap middle g ∙ sym (ap (λ (d : Divided). middle (valueOr d ENTIRE)) (sym quotient ∙ e))
 
 -- ---- one cut in a slot
 
