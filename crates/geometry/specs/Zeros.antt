@@ -30,8 +30,8 @@ pub record ZerosFound (ξ d : List Scalar) (r : Hat) : Type 0 where
   pub paper : hatOf r ≡ cond (paired (length ξ) (length d)) (hatOf (fatLineZeros geop ξ d)) (some ENTIRE)
 
 -- How far each abscissa lies from the first.
-unfoldable pub runs : List Scalar → List Scalar
-runs ξ = map (λ x. subS x (getD ξ 0 absent)) ξ
+unfoldable pub fromFirst : List Scalar → List Scalar
+fromFirst ξ = map (λ x. subS x (getD ξ 0 absent)) ξ
 
 -- How far a point of value y lies off the chord from a point of value y₀, at a run of x from there.
 abbrev pub offRun : Scalar → Scalar → Scalar → Scalar → Scalar

@@ -23,7 +23,7 @@ ghost use Rattle.model.specs.Layout.{scalarsOf, pointAt, pointsOf, flat};
 ghost use Rattle.model.specs.Aabb.{unions};
 ghost use Rattle.model.specs.FatLine.{window, greville, crossing, fatLineZeros, cartesian, square, distance, extent, toF64, widest, carriedBy, carriedWidth, restricts, halves};
 ghost use Rattle.geometry.specs.Abscissae.{held};
-ghost use Rattle.geometry.specs.Zeros.{runs, offRun};
+ghost use Rattle.geometry.specs.Zeros.{fromFirst, offRun};
 ghost use lib.Dec.{ltb};
 ghost use lib.Ieee.{binary64, add, sub, div, lt};
 ghost use Rattle.math.specs.Picks.{maxF};
@@ -108,7 +108,7 @@ pub(crate) fn unions(l: &[f64], count: usize) -> Scalar
 // How far each abscissa lies from the first, written to the front of dx.
 pub(crate) fn from_first(xi: &[f64], count: usize, dx: &mut [f64])
     requires { ⌜ (0 < count) × ((2 * count ≤ length (now xi)) × (2 * count ≤ length (now dx))) ⌝ }
-    ensures { λ _. ⌜ now (dx .exit) ≡ put (now (dx .entry)) 0 (flat (runs (scalarsOf count (now (xi .entry))))) ⌝ }
+    ensures { λ _. ⌜ now (dx .exit) ≡ put (now (dx .entry)) 0 (flat (fromFirst (scalarsOf count (now (xi .entry))))) ⌝ }
 {
     let x0 = scalar_at(xi, 0);
     let mut i = 0;
@@ -188,7 +188,7 @@ pub(crate) fn sloped_zeros(slope: Scalar, x0: Scalar, y0: Scalar, last: Scalar, 
 pub(crate) fn fat_line_zeros(xi: &[f64], dx: &[f64], d: &[f64], count: usize) -> Hat
     requires { ⌜ (0 < count)
         × ((2 * count ≤ length (now xi)) × ((2 * count ≤ length (now dx)) × (2 * count ≤ length (now d)))) ⌝ }
-    requires { ⌜ scalarsOf count (now dx) ≡ runs (scalarsOf count (now xi)) ⌝ }
+    requires { ⌜ scalarsOf count (now dx) ≡ fromFirst (scalarsOf count (now xi)) ⌝ }
     ensures { λ r. ⌜ r ≡ fatLineZeros geop (scalarsOf count (now (xi .entry))) (scalarsOf count (now (d .entry))) ⌝ }
 {
     let x0 = scalar_at(xi, 0);

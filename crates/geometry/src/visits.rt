@@ -32,7 +32,7 @@ ghost use Rattle.model.specs.NurbCurve.{domain, weightsPositive};
 ghost use Rattle.model.specs.FatLine.{greville, fatLineZeros};
 ghost use Rattle.model.specs.Split.{splitMid, restrict};
 ghost use Rattle.model.specs.Contains.{axis, narrowed, clip, handOn, handBoth, visit};
-ghost use Rattle.geometry.specs.Zeros.{runs};
+ghost use Rattle.geometry.specs.Zeros.{fromFirst};
 ghost use Rattle.geometry.specs.Slots.{pieceAt, Inside, Held, Apart, Whole, Fit};
 ghost use Rattle.geometry.specs.State.{askedOf, Visited};
 ghost use Rattle.geometry.specs.Plan.{planHat, planClip, planned};
@@ -108,7 +108,7 @@ fn clip_axis(
 ) -> Hat
     requires { ⌜ ((0 < count) × (2 * count ≤ length (now xi)))
         × ((k < dim) × ((2 * (suc dim * count) ≤ length (now points)) × (2 * count ≤ length (now d)))) ⌝ }
-    requires { ⌜ (2 * count ≤ length (now dx)) × (scalarsOf count (now dx) ≡ runs (scalarsOf count (now xi))) ⌝ }
+    requires { ⌜ (2 * count ≤ length (now dx)) × (scalarsOf count (now dx) ≡ fromFirst (scalarsOf count (now xi))) ⌝ }
     ensures { λ r.
         ⌜ r ≡ narrowed hat
         (fatLineZeros geop (scalarsOf count (now (xi .entry)))

@@ -26,7 +26,7 @@ use Rattle.model.specs.Layout.{scalarAt, scalarsOf, flat}
 use Rattle.model.specs.Aabb.{unions}
 use Rattle.model.specs.FatLine.{window, abscissa, greville, offset, crossing, zerosBy, fatLineZeros}
 use Rattle.geometry.specs.Abscissae.{held}
-use Rattle.geometry.specs.Zeros.{runs, offRun}
+use Rattle.geometry.specs.Zeros.{fromFirst, offRun}
 use Rattle.model.specs.declared.fat_line.Hat.{Hat}
 use Rattle.model.specs.declared.fat_line.Hat.the-variants.{Over, Missing}
 use Rattle.geometry.specs.declared.fat_line.Abscissae.{Abscissae}
@@ -156,25 +156,25 @@ last-scalars n l h = rw (length-tab n (λ j. scalarAt l j)) (getD-tab n (λ j. s
 pub first-scalars : (n : ℕ) (l : List Float) → 0 < n → getD (scalarsOf n l) 0 absent ≡ scalarAt l 0
 first-scalars n l h = getD-tab n (λ j. scalarAt l j) 0 absent h
 
--- ---- the runs
+-- ---- how far each abscissa lies from the first
 
 -- How far abscissa j lies from the first.
-abbrev pub runAt : List Float → ℕ → Scalar
-runAt xi j = subS (scalarAt xi j) (scalarAt xi 0)
+abbrev pub fromFirstAt : List Float → ℕ → Scalar
+fromFirstAt xi j = subS (scalarAt xi j) (scalarAt xi 0)
 
-runs-tab : (n : ℕ) (xi : List Float) → 0 < n → runs (scalarsOf n xi) ≡ tab n (runAt xi)
-unfolding runs
-runs-tab n xi h = ap (λ (x₀ : Scalar). map (λ x. subS x x₀) (scalarsOf n xi)) (first-scalars n xi h) ∙ map-tab (λ x. subS x (scalarAt xi 0)) n (λ j. scalarAt xi j)
+from-first-tab : (n : ℕ) (xi : List Float) → 0 < n → fromFirst (scalarsOf n xi) ≡ tab n (fromFirstAt xi)
+unfolding fromFirst
+from-first-tab n xi h = ap (λ (x₀ : Scalar). map (λ x. subS x x₀) (scalarsOf n xi)) (first-scalars n xi h) ∙ map-tab (λ x. subS x (scalarAt xi 0)) n (λ j. scalarAt xi j)
 
-pub runs-done : (xi l dx : List Float) (n i : ℕ) → 0 < n → i ≡ n → dx ≡ put l 0 (flat (tab i (runAt xi))) → dx ≡ put l 0 (flat (runs (scalarsOf n xi)))
-runs-done xi l dx n i h e D = D ∙ ap (λ (m : ℕ). put l 0 (flat (tab m (runAt xi)))) e ∙ ap (λ (v : List Scalar). put l 0 (flat v)) (sym (runs-tab n xi h))
+pub from-first-done : (xi l dx : List Float) (n i : ℕ) → 0 < n → i ≡ n → dx ≡ put l 0 (flat (tab i (fromFirstAt xi))) → dx ≡ put l 0 (flat (fromFirst (scalarsOf n xi)))
+from-first-done xi l dx n i h e D = D ∙ ap (λ (m : ℕ). put l 0 (flat (tab m (fromFirstAt xi)))) e ∙ ap (λ (v : List Scalar). put l 0 (flat v)) (sym (from-first-tab n xi h))
 
 -- What stands in the list that they were written to, which keeps its length.
-pub runs-held : (xi l dx : List Float) (n : ℕ) → 0 < n → dx ≡ put l 0 (flat (runs (scalarsOf n xi))) → scalarsOf n dx ≡ runs (scalarsOf n xi)
-runs-held xi l dx n h D = ap (scalarsOf n) D ∙ scalars-put l (runs (scalarsOf n xi)) n (ap length (runs-tab n xi h) ∙ length-tab n (runAt xi))
+pub from-first-held : (xi l dx : List Float) (n : ℕ) → 0 < n → dx ≡ put l 0 (flat (fromFirst (scalarsOf n xi))) → scalarsOf n dx ≡ fromFirst (scalarsOf n xi)
+from-first-held xi l dx n h D = ap (scalarsOf n) D ∙ scalars-put l (fromFirst (scalarsOf n xi)) n (ap length (from-first-tab n xi h) ∙ length-tab n (fromFirstAt xi))
 
-pub runs-kept : (xi l dx : List Float) (n : ℕ) → 0 < n → 2 * n ≤ length l → dx ≡ put l 0 (flat (runs (scalarsOf n xi))) → length dx ≡ length l
-runs-kept xi l dx n h g D = ap length (D ∙ ap (λ (v : List Scalar). put l 0 (flat v)) (runs-tab n xi h)) ∙ length-put-flat l n (runAt xi) g
+pub from-first-kept : (xi l dx : List Float) (n : ℕ) → 0 < n → 2 * n ≤ length l → dx ≡ put l 0 (flat (fromFirst (scalarsOf n xi))) → length dx ≡ length l
+from-first-kept xi l dx n h g D = ap length (D ∙ ap (λ (v : List Scalar). put l 0 (flat v)) (from-first-tab n xi h)) ∙ length-put-flat l n (fromFirstAt xi) g
 
 -- ---- the band
 
@@ -246,7 +246,7 @@ module _ (slope x0 y0 last band u b : Scalar) (t : Bool) (U : u ≡ unionS y0 la
   pub sloped-no : t ≡ false → Missing ≡ cond (couldBeEqual (addS (unionS y0 last) band) ZERO) (crossing geop x0 (divS (addS y0 band) slope)) Missing
   sloped-no e = pick-no _ _ _ (sym reaches ∙ e)
 
-module _ (n : ℕ) (xi dx d : List Float) (x0 y0 run yn rise : Scalar) (q : Divided) (h : 0 < n) (D : scalarsOf n dx ≡ runs (scalarsOf n xi)) (X0 : x0 ≡ scalarAt xi 0) (Y0 : y0 ≡ scalarAt d 0)
+module _ (n : ℕ) (xi dx d : List Float) (x0 y0 run yn rise : Scalar) (q : Divided) (h : 0 < n) (D : scalarsOf n dx ≡ fromFirst (scalarsOf n xi)) (X0 : x0 ≡ scalarAt xi 0) (Y0 : y0 ≡ scalarAt d 0)
     (R : run ≡ scalarAt dx (n - 1)) (YN : yn ≡ scalarAt d (n - 1)) (S : rise ≡ subS yn y0) (Q : q ≡ divS rise run) where
   abbrev ξ : List Scalar
   ξ = scalarsOf n xi
@@ -263,14 +263,14 @@ module _ (n : ℕ) (xi dx d : List Float) (x0 y0 run yn rise : Scalar) (q : Divi
   first-ξ : getD ξ 0 absent ≡ x0
   first-ξ = first-scalars n xi h ∙ sym X0
 
-  -- the runs, as they are lent
-  lent : tab n (runAt xi) ≡ scalarsOf n dx
-  lent = sym (D ∙ runs-tab n xi h)
+  -- how far they lie, as it is lent
+  lent : tab n (fromFirstAt xi) ≡ scalarsOf n dx
+  lent = sym (D ∙ from-first-tab n xi h)
 
   run-is : subS (lastD ξ absent) (getD ξ 0 absent) ≡ run
   run-is =
       (λ i. subS (last-scalars n xi h i) (first-scalars n xi h i))
-      ∙ sym (getD-tab n (runAt xi) (n - 1) absent (omega arith))
+      ∙ sym (getD-tab n (fromFirstAt xi) (n - 1) absent (omega arith))
       ∙ ap (λ (l : List Scalar). getD l (n - 1) absent) lent
       ∙ getD-tab n (λ j. scalarAt dx j) (n - 1) absent (omega arith)
       ∙ sym R
@@ -278,11 +278,11 @@ module _ (n : ℕ) (xi dx d : List Float) (x0 y0 run yn rise : Scalar) (q : Divi
   slope-is : divS (subS (lastD ds absent) (getD ds 0 absent)) (subS (lastD ξ absent) (getD ξ 0 absent)) ≡ q
   slope-is = (λ i. divS (subS (last-d i) (first-d i)) (run-is i)) ∙ sym (Q ∙ ap (λ (v : Scalar). divS v run) S)
 
-  -- the offsets, over the runs
+  -- the offsets, over how far they lie
   offsets-are : (slope : Scalar) → zipWith (λ x y. offRun slope y0 x y) (scalarsOf n dx) ds ≡ zipWith (λ x y. offset geop slope x0 y0 x y) ξ ds
   offsets-are slope =
       ap (λ (l : List Scalar). zipWith (λ x y. offRun slope y0 x y) l ds) (sym lent)
-      ∙ zipWith-tab (λ x y. offRun slope y0 x y) n (runAt xi) (λ j. scalarAt d j)
+      ∙ zipWith-tab (λ x y. offRun slope y0 x y) n (fromFirstAt xi) (λ j. scalarAt d j)
       ∙ sym (zipWith-tab (λ x y. offset geop slope (scalarAt xi 0) y0 x y) n (λ j. scalarAt xi j) (λ j. scalarAt d j))
       ∙ ap (λ (v : Scalar). zipWith (λ x y. offset geop slope v y0 x y) ξ ds) (sym X0)
 

@@ -49,27 +49,37 @@ enum-told-2 c = search needs
 
 returns-2 : tie.Need-returns-2
 returns-2 c =
-    let n = c .before .before in
-    let f = n .before .before .before .before in
-    let k = f .before .before in
-    let m = k .before .before .before in
-    let a = m .before .args in
-    along-second (a .e) (a .a) (a .b) _ _ _ (m .sub .ensures) (k .before .sub2 .ensures ∙ ap (λ (v : Scalar). subS v (a .a)) (k .before .before .lower .ensures)) (k .div .ensures .result)
-    _ (f .first .given .1) _ _ (n .before .sub3 .ensures ∙ ap (λ (v : Scalar). subS v (a .a)) (n .before .before .upper .ensures)) (n .div2 .ensures .result) (c .enum-told2 .given .1)
+    let at-div2 = c .before .before in
+    let at-sub3 = at-div2 .before in
+    let at-upper = at-sub3 .before in
+    let at-first = at-upper .before .before in
+    let at-div = at-first .before .before in
+    let at-sub2 = at-div .before in
+    let at-lower = at-sub2 .before in
+    let at-sub = at-lower .before in
+    let k = at-sub .before in
+    let a = k .args in
+    along-second (a .e) (a .a) (a .b) _ _ _ (at-sub .sub .ensures) (at-sub2 .sub2 .ensures ∙ ap (λ (v : Scalar). subS v (a .a)) (at-lower .lower .ensures)) (at-div .div .ensures .result)
+    _ (at-first .first .given .1) _ _ (at-sub3 .sub3 .ensures ∙ ap (λ (v : Scalar). subS v (a .a)) (at-upper .upper .ensures)) (at-div2 .div2 .ensures .result) (c .enum-told2 .given .1)
 
 union-requires : tie.Need-union-requires
 union-requires c κs = search needs
 
 returns-3 : tie.Need-returns-3
 returns-3 c =
-    let g = c .before .before in
-    let n = g .before .before in
-    let f = n .before .before .before .before in
-    let k = f .before .before in
-    let m = k .before .before .before in
-    let a = m .before .args in
-    along-both (a .e) (a .a) (a .b) _ _ _ (m .sub .ensures) (k .before .sub2 .ensures ∙ ap (λ (v : Scalar). subS v (a .a)) (k .before .before .lower .ensures)) (k .div .ensures .result)
-    _ (f .first .given .1) _ _ (n .before .sub3 .ensures ∙ ap (λ (v : Scalar). subS v (a .a)) (n .before .before .upper .ensures)) (n .div2 .ensures .result) _ _ (g .second .given .1) (c .union .ensures)
+    let at-second = c .before .before in
+    let at-div2 = at-second .before .before in
+    let at-sub3 = at-div2 .before in
+    let at-upper = at-sub3 .before in
+    let at-first = at-upper .before .before in
+    let at-div = at-first .before .before in
+    let at-sub2 = at-div .before in
+    let at-lower = at-sub2 .before in
+    let at-sub = at-lower .before in
+    let k = at-sub .before in
+    let a = k .args in
+    along-both (a .e) (a .a) (a .b) _ _ _ (at-sub .sub .ensures) (at-sub2 .sub2 .ensures ∙ ap (λ (v : Scalar). subS v (a .a)) (at-lower .lower .ensures)) (at-div .div .ensures .result)
+    _ (at-first .first .given .1) _ _ (at-sub3 .sub3 .ensures ∙ ap (λ (v : Scalar). subS v (a .a)) (at-upper .upper .ensures)) (at-div2 .div2 .ensures .result) _ _ (at-second .second .given .1) (c .union .ensures)
 
 pub along-spec : {M : Type 1} → statement M
 along-spec =

@@ -20,6 +20,9 @@ Inv-loop points dim count k last₀ lo₀ hi₀ i₀ last lo hi i =
 abbrev μ-loop : tie.MeasureT-loop
 μ-loop points dim count k last₀ lo₀ hi₀ i₀ last lo hi i = count - i
 
+abbrev from-loop : tie.At-loop Inv-loop μ-loop → tie.Start Inv-loop μ-loop
+from-loop c = c .before .before .before .before .before
+
 coordinate-requires : tie.Need-coordinate-requires Inv-loop μ-loop
 coordinate-requires c κs = let a = c .before .args in omega (arith, point-in (a .dim) 0 (a .count) (length (a .points .now)) (omega arith) (omega arith))
 
@@ -33,25 +36,30 @@ raw-place-requires c κs =
 
 loop-holds : tie.Need-loop-holds Inv-loop μ-loop
 loop-holds c =
-    let a = c .before .before .before .before .args in
+    let at-inverse = c .before in
+    let k = at-inverse .before .before .before in
+    let a = k .args in
     let s = raw-first (a .dim) (a .k) (a .points .now) _ (c .raw-place .ensures) in
-    (omega arith, omega arith, s .0, s .1, c .before .inverse .ensures)
+    (omega arith, omega arith, s .0, s .1, at-inverse .inverse .ensures)
 
 coordinate-requires-2 : tie.Need-coordinate-requires-2 Inv-loop μ-loop
 coordinate-requires-2 c κs =
-    let l = c .before in
-    let a = l .before .before .before .before .before .args in
-    omega (arith, point-in (a .dim) (l .loop .i) (a .count) (length (a .points .now)) (omega arith) (omega arith))
+    let at-loop = c .before in
+    let k = from-loop at-loop in
+    let a = k .args in
+    omega (arith, point-in (a .dim) (at-loop .loop .i) (a .count) (length (a .points .now)) (omega arith) (omega arith))
 
 inverse-of-requires : tie.Need-inverse-of-requires Inv-loop μ-loop
 inverse-of-requires c κs = c .before .before .loop .inv .4
 
 raw-place-requires-2 : tie.Need-raw-place-requires-2 Inv-loop μ-loop
 raw-place-requires-2 c κs =
-    let l = c .before .before .before in
-    let a = l .before .before .before .before .before .args in
+    let at-coordinate2 = c .before in
+    let at-loop = at-coordinate2 .before .before in
+    let k = from-loop at-loop in
+    let a = k .args in
     let w = c .inverse-of .ensures in
-    (omega (arith, point-in (a .dim) (l .loop .i) (a .count) (length (a .points .now)) (omega arith) (omega arith)), (w .0 ∙ c .before .coordinate2 .ensures, w .1 ∙ ap inverseS (sym (w .0))))
+    (omega (arith, point-in (a .dim) (at-loop .loop .i) (a .count) (length (a .points .now)) (omega arith) (omega arith)), (w .0 ∙ at-coordinate2 .coordinate2 .ensures, w .1 ∙ ap inverseS (sym (w .0))))
 
 lesser-requires : tie.Need-lesser-requires Inv-loop μ-loop
 lesser-requires c κs = tt
@@ -60,21 +68,21 @@ greater-requires : tie.Need-greater-requires Inv-loop μ-loop
 greater-requires c κs = tt
 
 add-i : tie.Need-add-i Inv-loop μ-loop
-add-i c =
-    let t = c .before .before .before .before .before in
-    let s = t .before .before .before .before .before .before in
-    omega (arith, t .loop-test .taken)
+add-i c = let in-loop = c .before .before .before .before .before in let k = from-loop (in-loop .before) in omega (arith, in-loop .loop-test .taken)
 
 loop-less : tie.Need-loop-less Inv-loop μ-loop
 loop-less c = omega arith
 
 loop-again : tie.Need-loop-again Inv-loop μ-loop
 loop-again c =
-    let p = c .before .before in
-    let w = p .before .inverse-of .ensures in
-    let l = p .before .before .before .before in
-    let a = l .before .before .before .before .before .args in
-    let s = raw-turn (a .dim) (a .k) (l .loop .i) (a .points .now) _ _ (l .loop .inv .2) (l .loop .inv .3) (p .raw-place2 .ensures) _ _ (omega arith) (c .before .lesser .ensures) (c .greater .ensures) in
+    let at-lesser = c .before in
+    let at-raw-place2 = at-lesser .before in
+    let at-inverse-of = at-raw-place2 .before in
+    let at-loop = at-inverse-of .before .before .before in
+    let k = from-loop at-loop in
+    let w = at-inverse-of .inverse-of .ensures in
+    let a = k .args in
+    let s = raw-turn (a .dim) (a .k) (at-loop .loop .i) (a .points .now) _ _ (at-loop .loop .inv .2) (at-loop .loop .inv .3) (at-raw-place2 .raw-place2 .ensures) _ _ (omega arith) (at-lesser .lesser .ensures) (c .greater .ensures) in
     (omega arith, omega arith, s .0, s .1, w .1 ∙ ap inverseS (sym (w .0)))
 
 next-down-requires : tie.Need-next-down-requires Inv-loop μ-loop
@@ -85,11 +93,13 @@ next-up-requires c κs = tt
 
 returns : tie.Need-returns Inv-loop μ-loop
 returns c =
-    let l = c .before .before .before in
-    let a = l .before .before .before .before .before .args in
-    let e : l .loop .i ≡ a .count = omega arith in
-    (λ j. record { lo = c .before .next-down .ensures j; hi = c .next-up .ensures j })
-    ∙ l .loop .inv .3
+    let at-next-down = c .before in
+    let at-loop = at-next-down .before .before in
+    let k = from-loop at-loop in
+    let a = k .args in
+    let e : at-loop .loop .i ≡ a .count = omega arith in
+    (λ j. record { lo = at-next-down .next-down .ensures j; hi = c .next-up .ensures j })
+    ∙ at-loop .loop .inv .3
     ∙ ap (λ (n : ℕ). unions (tab n (λ j. place geop (a .dim) (a .k) (pointAt (suc (a .dim)) (a .points .now) j)))) e
     ∙ axis-of (a .dim) (a .k) (a .count) (a .points .now)
 

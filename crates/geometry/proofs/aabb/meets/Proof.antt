@@ -24,6 +24,9 @@ Inv-loop points point-box dim range₀ k₀ range k =
 abbrev μ-loop : tie.MeasureT-loop
 μ-loop points point-box dim range₀ k₀ range k = dim - k
 
+abbrev from-loop : tie.At-loop Inv-loop μ-loop → tie.Start Inv-loop μ-loop
+from-loop c = c .before .before .before .before
+
 union-requires : tie.Need-union-requires Inv-loop μ-loop
 union-requires c κs = tt
 
@@ -53,13 +56,17 @@ could-be-equal-requires c κs = tt
 
 returns : tie.Need-returns Inv-loop μ-loop
 returns c =
-    let p = c .before .before .before in
-    let o = p .before .before in
-    let s = o .before in
-    let l = s .before .before .before .before in
-    let a = l .before .before .before .before .args in
-    segment-stop (a .dim) (pointAt (suc (a .dim)) (a .points .now) 0) (pointAt (suc (a .dim)) (a .points .now) 1) (a .point-box .now) (l .loop .range) (l .loop .k) _ (l .loop .inv .1) (omega arith)
-    _ _ _ (s .scalar-at .ensures) (s .before .before .place .ensures) (s .before .place2 .ensures) _ (o .along .ensures) _ (p .part .given .1) _ (c .before .could-be-equal .ensures) (not-true _ (c .if1 .taken))
+    let at-could-be-equal = c .before in
+    let at-part = at-could-be-equal .before .before in
+    let at-along = at-part .before .before in
+    let at-scalar-at = at-along .before in
+    let at-place2 = at-scalar-at .before in
+    let at-place = at-place2 .before in
+    let at-loop = at-place .before .before in
+    let k = from-loop at-loop in
+    let a = k .args in
+    segment-stop (a .dim) (pointAt (suc (a .dim)) (a .points .now) 0) (pointAt (suc (a .dim)) (a .points .now) 1) (a .point-box .now) (at-loop .loop .range) (at-loop .loop .k) _ (at-loop .loop .inv .1) (omega arith)
+    _ _ _ (at-scalar-at .scalar-at .ensures) (at-place .place .ensures) (at-place2 .place2 .ensures) _ (at-along .along .ensures) _ (at-part .part .given .1) _ (at-could-be-equal .could-be-equal .ensures) (not-true _ (c .if1 .taken))
 
 intersect-requires : tie.Need-intersect-requires Inv-loop μ-loop
 intersect-requires c κs = tt
@@ -75,26 +82,30 @@ loop-less c = omega arith
 
 loop-again : tie.Need-loop-again Inv-loop μ-loop
 loop-again c =
-    let o = c .before in
-    let s = o .before in
-    let l = s .before .before .before .before in
-    let a = l .before .before .before .before .args in (
+    let at-along = c .before in
+    let at-scalar-at = at-along .before in
+    let at-place2 = at-scalar-at .before in
+    let at-place = at-place2 .before in
+    let at-loop = at-place .before .before in
+    let k = from-loop at-loop in
+    let a = k .args in (
       omega arith,
       ⊎-elim
           (λ w.
-          segment-narrow (a .dim) (pointAt (suc (a .dim)) (a .points .now) 0) (pointAt (suc (a .dim)) (a .points .now) 1) (a .point-box .now) (l .loop .range) (l .loop .k) _ (l .loop .inv .1) (omega arith)
-          _ _ _ (s .scalar-at .ensures) (s .before .before .place .ensures) (s .before .place2 .ensures) _ (o .along .ensures) _ (w .1 .given .1) _ (w .3 .ensures) _ _ (not-false _ (w .4 .left)) (w .5 .ensures) (w .6))
+          segment-narrow (a .dim) (pointAt (suc (a .dim)) (a .points .now) 0) (pointAt (suc (a .dim)) (a .points .now) 1) (a .point-box .now) (at-loop .loop .range) (at-loop .loop .k) _ (at-loop .loop .inv .1) (omega arith)
+          _ _ _ (at-scalar-at .scalar-at .ensures) (at-place .place .ensures) (at-place2 .place2 .ensures) _ (at-along .along .ensures) _ (w .1 .given .1) _ (w .3 .ensures) _ _ (not-false _ (w .4 .left)) (w .5 .ensures) (w .6))
           (λ w.
-          segment-skip (a .dim) (pointAt (suc (a .dim)) (a .points .now) 0) (pointAt (suc (a .dim)) (a .points .now) 1) (a .point-box .now) (l .loop .range) (l .loop .k) _ (l .loop .inv .1) (omega arith)
-          _ _ _ (s .scalar-at .ensures) (s .before .before .place .ensures) (s .before .place2 .ensures) _ (o .along .ensures) _ (w .1 .given .1) (w .2))
+          segment-skip (a .dim) (pointAt (suc (a .dim)) (a .points .now) 0) (pointAt (suc (a .dim)) (a .points .now) 1) (a .point-box .now) (at-loop .loop .range) (at-loop .loop .k) _ (at-loop .loop .inv .1) (omega arith)
+          _ _ _ (at-scalar-at .scalar-at .ensures) (at-place .place .ensures) (at-place2 .place2 .ensures) _ (at-along .along .ensures) _ (w .1 .given .1) (w .2))
           (c .match .came),
     )
 
 returns-2 : tie.Need-returns-2 Inv-loop μ-loop
 returns-2 c =
-    let l = c .before in
-    let a = l .before .before .before .before .args in
-    segment-end (a .dim) (pointAt (suc (a .dim)) (a .points .now) 0) (pointAt (suc (a .dim)) (a .points .now) 1) (a .point-box .now) (l .loop .range) (l .loop .k) _ (l .loop .inv .1) (omega arith)
+    let at-loop = c .before in
+    let k = from-loop at-loop in
+    let a = k .args in
+    segment-end (a .dim) (pointAt (suc (a .dim)) (a .points .now) 0) (pointAt (suc (a .dim)) (a .points .now) 1) (a .point-box .now) (at-loop .loop .range) (at-loop .loop .k) _ (at-loop .loop .inv .1) (omega arith)
 
 pub meets-spec : {M : Type 1} → statement M
 meets-spec =

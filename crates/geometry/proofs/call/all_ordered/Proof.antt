@@ -14,8 +14,6 @@ use Rattle.math.specs.Scalars.{absent}
 use Rattle.model.specs.Layout.{scalarAt}
 use Rattle.geometry.proofs.call.all_ordered.Statement.{statement}
 use Rattle.geometry.proofs.call.all_ordered.Tie as tie
-use Rattle.geometry.proofs.call.all_ordered.Reads as reads
-use Rattle.geometry.proofs.call.all_ordered.Lts as lts
 
 abbrev Inv-loop : tie.InvT-loop
 Inv-loop l n i₀ i = (i ≤ n) × (all ordered (drop i (scalarsOf n l)) ≡ all ordered (scalarsOf n l))
@@ -23,61 +21,50 @@ Inv-loop l n i₀ i = (i ≤ n) × (all ordered (drop i (scalarsOf n l)) ≡ all
 abbrev μ-loop : tie.MeasureT-loop
 μ-loop l n i₀ i = n - i
 
--- src/call.rt:38:5
 loop-holds : tie.Need-loop-holds Inv-loop μ-loop
 loop-holds c = (omega arith, refl)
 
--- src/call.rt:39:16
 mul-if1 : tie.Need-mul-if1 Inv-loop μ-loop
 mul-if1 c = omega arith
 
--- src/call.rt:39:14
 mul-if1-2 : tie.Need-mul-if1-2 Inv-loop μ-loop
 mul-if1-2 c = omega arith
 
--- src/call.rt:39:14
 shared-slice-read-if1 : tie.Need-shared-slice-read-if1 Inv-loop μ-loop
 shared-slice-read-if1 c = omega arith
 
--- src/call.rt:39:28
 mul-if1-3 : tie.Need-mul-if1-3 Inv-loop μ-loop
 mul-if1-3 c = omega arith
 
--- src/call.rt:39:28
 add-if1 : tie.Need-add-if1 Inv-loop μ-loop
 add-if1 c = omega arith
 
--- src/call.rt:39:26
 mul-if1-4 : tie.Need-mul-if1-4 Inv-loop μ-loop
 mul-if1-4 c = omega arith
 
--- src/call.rt:39:26
 shared-slice-read-if1-2 : tie.Need-shared-slice-read-if1-2 Inv-loop μ-loop
 shared-slice-read-if1-2 c = omega arith
 
--- src/call.rt:40:13
 returns : tie.Need-returns Inv-loop μ-loop
 returns c =
-    let l = c .before .before .before .before in
-    let a = l .before .args in
-    all-stop ordered (scalarsOf (a .n) (a .l .now)) (l .loop .i) _ (l .loop .inv .1) absent (omega (arith, length-tab (a .n) (λ j. scalarAt (a .l .now) j))) (ap ordered (getD-tab (a .n) (λ j. scalarAt (a .l .now) j) (l .loop .i) absent (omega arith)) ∙ not-true _ (c .if1 .taken))
+    let at-loop = c .before .before .before .before in
+    let k = at-loop .before in
+    let a = k .args in
+    all-stop ordered (scalarsOf (a .n) (a .l .now)) (at-loop .loop .i) _ (at-loop .loop .inv .1) absent (omega (arith, length-tab (a .n) (λ j. scalarAt (a .l .now) j))) (ap ordered (getD-tab (a .n) (λ j. scalarAt (a .l .now) j) (at-loop .loop .i) absent (omega arith)) ∙ not-true _ (c .if1 .taken))
 
--- src/call.rt:42:9
 add-i : tie.Need-add-i Inv-loop μ-loop
 add-i c = omega arith
 
--- src/call.rt:38:5
 loop-less : tie.Need-loop-less Inv-loop μ-loop
 loop-less c = omega arith
 
--- src/call.rt:38:5
 loop-again : tie.Need-loop-again Inv-loop μ-loop
 loop-again c =
-    let l = c .before .before .before .before in
-    let a = l .before .args in
-    (omega arith, all-keep ordered (scalarsOf (a .n) (a .l .now)) (l .loop .i) _ (l .loop .inv .1) absent (omega (arith, length-tab (a .n) (λ j. scalarAt (a .l .now) j))) (ap ordered (getD-tab (a .n) (λ j. scalarAt (a .l .now) j) (l .loop .i) absent (omega arith)) ∙ not-false _ (c .if1 .left)))
+    let at-loop = c .before .before .before .before in
+    let k = at-loop .before in
+    let a = k .args in
+    (omega arith, all-keep ordered (scalarsOf (a .n) (a .l .now)) (at-loop .loop .i) _ (at-loop .loop .inv .1) absent (omega (arith, length-tab (a .n) (λ j. scalarAt (a .l .now) j))) (ap ordered (getD-tab (a .n) (λ j. scalarAt (a .l .now) j) (at-loop .loop .i) absent (omega arith)) ∙ not-false _ (c .if1 .left)))
 
--- src/call.rt:33:1
 returns-2 : tie.Need-returns-2 Inv-loop μ-loop
 returns-2 c =
     let l = c .before in

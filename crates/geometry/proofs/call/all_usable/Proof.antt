@@ -20,6 +20,9 @@ Inv-loop l i₀ i = (i ≤ length l) × (all usable (drop i l) ≡ all usable l)
 abbrev μ-loop : tie.MeasureT-loop
 μ-loop l i₀ i = length l - i
 
+abbrev to-loop : tie.After-usable Inv-loop μ-loop → tie.At-loop Inv-loop μ-loop
+to-loop c = c .before .before .before
+
 loop-holds : tie.Need-loop-holds Inv-loop μ-loop
 loop-holds c = (omega arith, refl, λ j h. absurd (omega arith))
 
@@ -34,9 +37,11 @@ usable-requires c κs = tt
 
 returns : tie.Need-returns Inv-loop μ-loop
 returns c =
-    let l = c .before .before .before .before in
-    let a = l .before .before .args in (
-      all-stop usable (a .l .now) (l .loop .i) _ (l .loop .inv .1) nan (omega arith) (sym (c .before .usable .ensures .0) ∙ not-true _ (c .if1 .taken)),
+    let at-usable = c .before in
+    let at-loop = to-loop at-usable in
+    let k = at-loop .before .before in
+    let a = k .args in (
+      all-stop usable (a .l .now) (at-loop .loop .i) _ (at-loop .loop .inv .1) nan (omega arith) (sym (at-usable .usable .ensures .0) ∙ not-true _ (c .if1 .taken)),
       λ e. absurd (yes false e),
     )
 
@@ -48,9 +53,11 @@ loop-less c = omega arith
 
 loop-again : tie.Need-loop-again Inv-loop μ-loop
 loop-again c =
-    let l = c .before .before .before .before in
-    let a = l .before .before .args in
-    (omega arith, all-keep usable (a .l .now) (l .loop .i) _ (l .loop .inv .1) nan (omega arith) (sym (c .before .usable .ensures .0) ∙ not-false _ (c .if1 .left)), known-on nan (λ x. T (fits binary64 x)) (a .l .now) (l .loop .i) (l .loop .inv .2) (c .before .usable .ensures .1))
+    let at-usable = c .before in
+    let at-loop = to-loop at-usable in
+    let k = at-loop .before .before in
+    let a = k .args in
+    (omega arith, all-keep usable (a .l .now) (at-loop .loop .i) _ (at-loop .loop .inv .1) nan (omega arith) (sym (at-usable .usable .ensures .0) ∙ not-false _ (c .if1 .left)), known-on nan (λ x. T (fits binary64 x)) (a .l .now) (at-loop .loop .i) (at-loop .loop .inv .2) (at-usable .usable .ensures .1))
 
 returns-2 : tie.Need-returns-2 Inv-loop μ-loop
 returns-2 c =

@@ -12,8 +12,6 @@ use mathlib.Core.List.{List}
 use mathlib.Core.Path.{_≡_, sym, ap, _∙_}
 use Rattle.geometry.proofs.call.bounds_ordered.Statement.{statement}
 use Rattle.geometry.proofs.call.bounds_ordered.Tie as tie
-use Rattle.geometry.proofs.call.bounds_ordered.Reads as reads
-use Rattle.geometry.proofs.call.bounds_ordered.Lts as lts
 use Rattle.geometry.proofs.call.all_ordered.Reads as all-ordered-reads
 
 -- the number of intervals of the points, as the code and as the definition have it
@@ -23,29 +21,25 @@ same d n l = ap (λ (k : ℕ). all ordered (scalarsOf (k * n) l)) eq
     eq : d + 1 ≡ suc d
     eq = omega arith
 
--- src/call.rt:186:30
 add-all-ordered : tie.Need-add-all-ordered
 add-all-ordered c = search needs
 
--- src/call.rt:186:29
 mul-all-ordered : tie.Need-mul-all-ordered
 mul-all-ordered c = search needs
 
--- src/call.rt:186:9
 all-ordered-requires : tie.Need-all-ordered-requires
 all-ordered-requires c κs = search needs
 
--- src/call.rt:187:9
 returns : tie.Need-returns
 returns c =
-    let g = c .before .before .before .before .args in
-    and-stop (all ordered (scalarsOf (suc (g .dim) * g .count) (g .points .now))) _ (sym (c .before .all-ordered .ensures ∙ same (g .dim) (g .count) (g .points .now)) ∙ not-true _ (c .if1 .taken))
+    let at-all-ordered = c .before in
+    let k = at-all-ordered .before .before .before in
+    let g = k .args in
+    and-stop (all ordered (scalarsOf (suc (g .dim) * g .count) (g .points .now))) _ (sym (at-all-ordered .all-ordered .ensures ∙ same (g .dim) (g .count) (g .points .now)) ∙ not-true _ (c .if1 .taken))
 
--- src/call.rt:189:5
 all-ordered-requires-2 : tie.Need-all-ordered-requires-2
 all-ordered-requires-2 c κs = search needs
 
--- src/call.rt:182:1
 returns-2 : tie.Need-returns-2
 returns-2 c =
     let k = c .before .before in

@@ -5,18 +5,13 @@ use Rattle.math.proofs.Bools.{and-no}
 use borrow.Author.Tests.{le-leb, lt-leb}
 use Rattle.geometry.proofs.call.count_fits.Statement.{statement}
 use Rattle.geometry.proofs.call.count_fits.Tie as tie
-use Rattle.geometry.proofs.call.count_fits.Reads as reads
-use Rattle.geometry.proofs.call.count_fits.Lts as lts
 
--- src/call.rt:145:5
 add-if1 : tie.Need-add-if1
 add-if1 c = search needs
 
--- src/call.rt:141:1
 returns : tie.Need-returns
 returns c = and-go _ _ (le-leb _ _ (c .if1 .taken))
 
--- src/call.rt:141:1
 returns-2 : tie.Need-returns-2
 returns-2 c = and-no _ _ (lt-leb _ _ (c .if1 .left))
 

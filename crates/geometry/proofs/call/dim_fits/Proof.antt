@@ -3,14 +3,10 @@ use Rattle.geometry.proofs.call.Checks.{or-yes, or-no}
 use borrow.Author.Tests.{eq-eqb, ne-eqb}
 use Rattle.geometry.proofs.call.dim_fits.Statement.{statement}
 use Rattle.geometry.proofs.call.dim_fits.Tie as tie
-use Rattle.geometry.proofs.call.dim_fits.Reads as reads
-use Rattle.geometry.proofs.call.dim_fits.Lts as lts
 
--- src/call.rt:134:1
 returns : tie.Need-returns
 returns c = or-yes _ _ (eq-eqb _ _ (c .if1 .taken))
 
--- src/call.rt:134:1
 returns-2 : tie.Need-returns-2
 returns-2 c = or-no _ _ (ne-eqb _ _ (c .if1 .left))
 

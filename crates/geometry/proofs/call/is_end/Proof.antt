@@ -2,14 +2,10 @@
 use Rattle.geometry.proofs.call.Checks.{or-yes, or-no}
 use Rattle.geometry.proofs.call.is_end.Statement.{statement}
 use Rattle.geometry.proofs.call.is_end.Tie as tie
-use Rattle.geometry.proofs.call.is_end.Reads as reads
-use Rattle.geometry.proofs.call.is_end.Lts as lts
 
--- src/call.rt:78:1
 returns : tie.Need-returns
 returns c = or-yes _ _ (c .if1 .taken)
 
--- src/call.rt:78:1
 returns-2 : tie.Need-returns-2
 returns-2 c = or-no _ _ (c .if1 .left)
 

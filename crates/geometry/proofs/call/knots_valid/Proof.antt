@@ -6,55 +6,55 @@ use mathlib.Core.Path.{sym, _∙_}
 use native.Mathlib.Omega.{arith}
 use Rattle.geometry.proofs.call.knots_valid.Statement.{statement}
 use Rattle.geometry.proofs.call.knots_valid.Tie as tie
-use Rattle.geometry.proofs.call.knots_valid.Reads as reads
-use Rattle.geometry.proofs.call.knots_valid.Lts as lts
 use Rattle.geometry.proofs.call.multiplicities_ok.Reads as multiplicities-ok-reads
 use Rattle.geometry.proofs.call.rising.Reads as rising-reads
 
--- src/call.rt:135:13
+-- ---- the places
+
+abbrev from-rising : tie.After-rising → tie.Start
+from-rising c = c .before .before .before .before
+
 mul-a : tie.Need-mul-a
 mul-a c = search needs
 
--- src/call.rt:135:13
 shared-slice-read-a : tie.Need-shared-slice-read-a
 shared-slice-read-a c = search needs
 
--- src/call.rt:136:13
 mul-b : tie.Need-mul-b
 mul-b c = search needs
 
--- src/call.rt:136:13
 shared-slice-read-b : tie.Need-shared-slice-read-b
 shared-slice-read-b c = search needs
 
--- src/call.rt:137:9
 rising-requires : tie.Need-rising-requires
 rising-requires c κs = search needs
 
--- src/call.rt:138:9
 returns : tie.Need-returns
 returns c =
-    let g = c .before .before .before .before .before .args in
-    knots-fall (g .degree) (g .count) (g .knots .now) (sym (c .before .rising .ensures) ∙ not-true _ (c .if1 .taken))
+    let at-rising = c .before in
+    let k = from-rising at-rising in
+    let g = k .args in
+    knots-fall (g .degree) (g .count) (g .knots .now) (sym (at-rising .rising .ensures) ∙ not-true _ (c .if1 .taken))
 
--- src/call.rt:141:9
 returns-2 : tie.Need-returns-2
 returns-2 c =
-    let g = c .before .before .before .before .before .before .args in
+    let k = from-rising (c .before .before) in
+    let g = k .args in
     domain-empty (g .degree) (g .count) (g .knots .now) (not-true _ (c .if2 .taken))
 
--- src/call.rt:143:5
 multiplicities-ok-requires : tie.Need-multiplicities-ok-requires
 multiplicities-ok-requires c κs =
     let k = c .before .before in
     (omega arith, sym (k .rising .ensures) ∙ not-false _ (c .before .if1 .left))
 
--- src/call.rt:131:1
 returns-3 : tie.Need-returns-3
 returns-3 c =
-    let k = c .before .before in
-    let g = k .before .before .before .before .before .args in
-    c .multiplicities-ok .ensures ∙ knots-rest (g .degree) (g .count) (g .knots .now) (sym (k .before .rising .ensures) ∙ not-false _ (k .if1 .left)) (not-false _ (c .before .if2 .left))
+    let passed2 = c .before in
+    let passed1 = passed2 .before in
+    let at-rising = passed1 .before in
+    let k = from-rising at-rising in
+    let g = k .args in
+    c .multiplicities-ok .ensures ∙ knots-rest (g .degree) (g .count) (g .knots .now) (sym (at-rising .rising .ensures) ∙ not-false _ (passed1 .if1 .left)) (not-false _ (passed2 .if2 .left))
 
 pub knots-valid-spec : {M : Type 1} → statement M
 knots-valid-spec =

@@ -9,8 +9,6 @@ use lib.Dec.{eqb}
 use Prim.Native.Nat.{ℕ, suc, _+_, _*_}
 use Rattle.geometry.proofs.call.lengths_fit.Statement.{statement}
 use Rattle.geometry.proofs.call.lengths_fit.Tie as tie
-use Rattle.geometry.proofs.call.lengths_fit.Reads as reads
-use Rattle.geometry.proofs.call.lengths_fit.Lts as lts
 
 -- the number of words of the points, as the code and as the definition have it
 words : (d n : ℕ) → 2 * (d + 1) * n ≡ 2 * suc d * n
@@ -19,43 +17,34 @@ words d n = ap (λ (k : ℕ). 2 * k * n) eq
     eq : d + 1 ≡ suc d
     eq = omega arith
 
--- src/call.rt:153:23
 add-if1 : tie.Need-add-if1
 add-if1 c = search needs
 
--- src/call.rt:153:23
 add-if1-2 : tie.Need-add-if1-2
 add-if1-2 c = search needs
 
--- src/call.rt:154:9
 returns : tie.Need-returns
 returns c =
     let g = c .before .args in
     fails-1 (eqb (length (g .knots .now)) (g .count + g .degree + 1)) (eqb (length (g .points .now)) (2 * suc (g .dim) * g .count)) (eqb (length (g .point-box .now)) (2 * g .sides)) (ne-eqb _ _ (c .if1 .taken))
 
--- src/call.rt:156:29
 add-if2 : tie.Need-add-if2
 add-if2 c = search needs
 
--- src/call.rt:156:24
 mul-if2 : tie.Need-mul-if2
 mul-if2 c = search needs
 
--- src/call.rt:156:24
 mul-if2-2 : tie.Need-mul-if2-2
 mul-if2-2 c = omega (arith, few-points (c .before .args .dim) (c .before .args .count) 0 (omega arith) (omega arith) (omega arith) .0)
 
--- src/call.rt:157:9
 returns-2 : tie.Need-returns-2
 returns-2 c =
     let g = c .before .before .args in
     fails-2 (eqb (length (g .knots .now)) (g .count + g .degree + 1)) (eqb (length (g .points .now)) (2 * suc (g .dim) * g .count)) (eqb (length (g .point-box .now)) (2 * g .sides)) (ne-eqb _ _ (λ e. c .if2 .taken (e ∙ sym (words (g .dim) (g .count)))))
 
--- src/call.rt:159:24
 mul-result : tie.Need-mul-result
 mul-result c = search needs
 
--- src/call.rt:149:1
 returns-3 : tie.Need-returns-3
 returns-3 c =
     let g = c .before .before .args in

@@ -9,9 +9,6 @@ use Rattle.geometry.specs.Multiplicity.{multiplicityOkAt}
 use Rattle.geometry.proofs.call.Multiplicity.{runs-miss, runs-all, each-on}
 use Rattle.geometry.proofs.call.multiplicities_ok.Statement.{statement}
 use Rattle.geometry.proofs.call.multiplicities_ok.Tie as tie
-use Rattle.geometry.proofs.call.multiplicities_ok.Reads as reads
-use Rattle.geometry.proofs.call.multiplicities_ok.Lts as lts
-use Rattle.geometry.proofs.call.multiplicity_ok.Reads as multiplicity-ok-reads
 
 abbrev Inv-loop : tie.InvT-loop
 Inv-loop degree a b knots i₀ i = (i ≤ length knots) × ((j : ℕ) → j < i → multiplicityOkAt degree a b knots j ≡ true)
@@ -19,37 +16,30 @@ Inv-loop degree a b knots i₀ i = (i ≤ length knots) × ((j : ℕ) → j < i 
 abbrev μ-loop : tie.MeasureT-loop
 μ-loop degree a b knots i₀ i = length knots - i
 
--- src/call.rt:121:5
 loop-holds : tie.Need-loop-holds Inv-loop μ-loop
 loop-holds c = (omega arith, λ j h. absurd (omega arith))
 
--- src/call.rt:122:13
 multiplicity-ok-requires : tie.Need-multiplicity-ok-requires Inv-loop μ-loop
 multiplicity-ok-requires c κs = (omega arith, omega arith)
 
--- src/call.rt:123:13
 returns : tie.Need-returns Inv-loop μ-loop
 returns c =
     let l = c .before .before .before in
     let g = l .before .before .args in
     sym (runs-miss (g .degree) (g .a) (g .b) (g .knots .now) (l .before .before .pre .1) (l .loop .i) (omega arith) (sym (c .before .multiplicity-ok .ensures) ∙ not-true _ (c .if1 .taken)))
 
--- src/call.rt:125:9
 add-i : tie.Need-add-i Inv-loop μ-loop
 add-i c = omega arith
 
--- src/call.rt:121:5
 loop-less : tie.Need-loop-less Inv-loop μ-loop
 loop-less c = omega arith
 
--- src/call.rt:121:5
 loop-again : tie.Need-loop-again Inv-loop μ-loop
 loop-again c =
     let l = c .before .before .before in
     let g = l .before .before .args in
     (omega arith, each-on (λ (j : ℕ). multiplicityOkAt (g .degree) (g .a) (g .b) (g .knots .now) j ≡ true) (l .loop .i) (l .loop .inv .1) (sym (c .before .multiplicity-ok .ensures) ∙ not-false _ (c .if1 .left)))
 
--- src/call.rt:116:1
 returns-2 : tie.Need-returns-2 Inv-loop μ-loop
 returns-2 c =
     let l = c .before in

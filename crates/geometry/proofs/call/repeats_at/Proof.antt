@@ -3,40 +3,30 @@ use borrow.Author.Needs.{needs}
 use Rattle.geometry.proofs.call.Multiplicity.{repeats-there, repeats-past}
 use Rattle.geometry.proofs.call.repeats_at.Statement.{statement}
 use Rattle.geometry.proofs.call.repeats_at.Tie as tie
-use Rattle.geometry.proofs.call.repeats_at.Reads as reads
-use Rattle.geometry.proofs.call.repeats_at.Lts as lts
 
--- src/call.rt:94:8
 add-if1 : tie.Need-add-if1
 add-if1 c = search needs
 
--- src/call.rt:95:22
 add-result : tie.Need-add-result
 add-result c = search needs
 
--- src/call.rt:95:16
 mul-result : tie.Need-mul-result
 mul-result c = search needs
 
--- src/call.rt:95:16
 shared-slice-read-result : tie.Need-shared-slice-read-result
 shared-slice-read-result c = search needs
 
--- src/call.rt:95:32
 mul-result-2 : tie.Need-mul-result-2
 mul-result-2 c = search needs
 
--- src/call.rt:95:32
 shared-slice-read-result-2 : tie.Need-shared-slice-read-result-2
 shared-slice-read-result-2 c = search needs
 
--- src/call.rt:95:9
 returns : tie.Need-returns
 returns c =
     let g = c .before .before .before .args in
     repeats-there (g .knots .now) (g .i) (g .k) (c .before .before .if1 .taken)
 
--- src/call.rt:90:1
 returns-2 : tie.Need-returns-2
 returns-2 c =
     let g = c .before .args in

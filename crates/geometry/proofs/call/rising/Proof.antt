@@ -10,8 +10,6 @@ use borrow.Author.Tests.{not-true, not-false}
 use Rattle.geometry.proofs.call.Checks.{rising-keep, rising-stop, rising-end}
 use Rattle.geometry.proofs.call.rising.Statement.{statement}
 use Rattle.geometry.proofs.call.rising.Tie as tie
-use Rattle.geometry.proofs.call.rising.Reads as reads
-use Rattle.geometry.proofs.call.rising.Lts as lts
 
 abbrev Inv-loop : tie.InvT-loop
 Inv-loop knots i₀ i = (1 ≤ i) × (rising (drop (i - 1) knots) ≡ rising knots)
@@ -19,53 +17,44 @@ Inv-loop knots i₀ i = (1 ≤ i) × (rising (drop (i - 1) knots) ≡ rising kno
 abbrev μ-loop : tie.MeasureT-loop
 μ-loop knots i₀ i = length knots - i
 
--- src/call.rt:52:5
 loop-holds : tie.Need-loop-holds Inv-loop μ-loop
 loop-holds c = (omega arith, refl)
 
--- src/call.rt:53:20
 sub-if1 : tie.Need-sub-if1 Inv-loop μ-loop
 sub-if1 c = omega arith
 
--- src/call.rt:53:14
 mul-if1 : tie.Need-mul-if1 Inv-loop μ-loop
 mul-if1 c = omega arith
 
--- src/call.rt:53:14
 shared-slice-read-if1 : tie.Need-shared-slice-read-if1 Inv-loop μ-loop
 shared-slice-read-if1 c = omega arith
 
--- src/call.rt:53:30
 mul-if1-2 : tie.Need-mul-if1-2 Inv-loop μ-loop
 mul-if1-2 c = omega arith
 
--- src/call.rt:53:30
 shared-slice-read-if1-2 : tie.Need-shared-slice-read-if1-2 Inv-loop μ-loop
 shared-slice-read-if1-2 c = omega arith
 
--- src/call.rt:54:13
 returns : tie.Need-returns Inv-loop μ-loop
 returns c =
-    let l = c .before .before .before .before in
-    let a = l .before .args in
-    rising-stop (a .knots .now) (l .loop .i) _ (l .loop .inv .0) (l .loop .inv .1) (omega arith) (not-true _ (c .if1 .taken))
+    let at-loop = c .before .before .before .before in
+    let k = at-loop .before in
+    let a = k .args in
+    rising-stop (a .knots .now) (at-loop .loop .i) _ (at-loop .loop .inv .0) (at-loop .loop .inv .1) (omega arith) (not-true _ (c .if1 .taken))
 
--- src/call.rt:56:9
 add-i : tie.Need-add-i Inv-loop μ-loop
 add-i c = omega arith
 
--- src/call.rt:52:5
 loop-less : tie.Need-loop-less Inv-loop μ-loop
 loop-less c = omega arith
 
--- src/call.rt:52:5
 loop-again : tie.Need-loop-again Inv-loop μ-loop
 loop-again c =
-    let l = c .before .before .before .before in
-    let a = l .before .args in
-    (omega arith, rising-keep (a .knots .now) (l .loop .i) _ (l .loop .inv .0) (l .loop .inv .1) (omega arith) (not-false _ (c .if1 .left)))
+    let at-loop = c .before .before .before .before in
+    let k = at-loop .before in
+    let a = k .args in
+    (omega arith, rising-keep (a .knots .now) (at-loop .loop .i) _ (at-loop .loop .inv .0) (at-loop .loop .inv .1) (omega arith) (not-false _ (c .if1 .left)))
 
--- src/call.rt:48:1
 returns-2 : tie.Need-returns-2 Inv-loop μ-loop
 returns-2 c =
     let l = c .before in

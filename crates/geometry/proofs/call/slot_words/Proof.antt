@@ -4,50 +4,37 @@ use Rattle.geometry.proofs.call.Checks.{few-points, slot-words}
 use native.Mathlib.Omega.{arith}
 use Rattle.geometry.proofs.call.slot_words.Statement.{statement}
 use Rattle.geometry.proofs.call.slot_words.Tie as tie
-use Rattle.geometry.proofs.call.slot_words.Reads as reads
-use Rattle.geometry.proofs.call.slot_words.Lts as lts
 
--- src/call.rt:197:10
 add-result : tie.Need-add-result
 add-result c = search needs
 
--- src/call.rt:197:5
 mul-result : tie.Need-mul-result
 mul-result c = search needs
 
--- src/call.rt:197:22
 add-result-2 : tie.Need-add-result-2
 add-result-2 c = search needs
 
--- src/call.rt:197:22
 add-result-3 : tie.Need-add-result-3
 add-result-3 c = search needs
 
--- src/call.rt:197:5
 mul-result-2 : tie.Need-mul-result-2
 mul-result-2 c = omega (arith, few-points (c .args .dim) (c .args .count) (c .args .degree) (omega arith) (omega arith) (omega arith) .1)
 
--- src/call.rt:197:57
 mul-result-3 : tie.Need-mul-result-3
 mul-result-3 c = search needs
 
--- src/call.rt:197:49
 add-result-4 : tie.Need-add-result-4
 add-result-4 c = search needs
 
--- src/call.rt:197:49
 add-result-5 : tie.Need-add-result-5
 add-result-5 c = search needs
 
--- src/call.rt:197:44
 mul-result-4 : tie.Need-mul-result-4
 mul-result-4 c = search needs
 
--- src/call.rt:197:5
 add-result-6 : tie.Need-add-result-6
 add-result-6 c = omega (arith, few-points (c .args .dim) (c .args .count) (c .args .degree) (omega arith) (omega arith) (omega arith) .1)
 
--- src/call.rt:193:1
 returns : tie.Need-returns
 returns c = slot-words (c .args .dim) (c .args .degree) (c .args .count)
 

@@ -11,11 +11,14 @@ use Rattle.geometry.proofs.call.Checks.{area-few}
 use Rattle.geometry.proofs.call.stated_words.Statement.{statement}
 use Rattle.geometry.proofs.call.stated_words.Tie as tie
 
+abbrev from-nodes : tie.Else2 → tie.Start
+from-nodes c = c .before .before .before .before
+
 -- The sizes, and the nodes, once they have passed.
 small : (c : tie.Else1) → let g = c .before .before .args in SmallSizes (g .dim) (g .degree) (g .count)
 small c = small-sizes _ _ _ (sym (c .before .sizes-refusal .ensures) ∙ c .if1 .left)
 
-few : (c : tie.Else2) → nodesFit (c .before .before .before .before .args .nodes) ≡ true
+few : (c : tie.Else2) → nodesFit (from-nodes c .args .nodes) ≡ true
 few c = sym (c .before .nodes-fit .ensures) ∙ not-false _ (c .if2 .left)
 
 sizes-refusal-requires : tie.Need-sizes-refusal-requires
@@ -31,7 +34,7 @@ returns-2 : tie.Need-returns-2
 returns-2 c = sym (no-nodes _ _ _ _ (sym (c .before .nodes-fit .ensures) ∙ not-true _ (c .if2 .taken)))
 
 add-result : tie.Need-add-result
-add-result c = let nodes = c .before .before .before .before .args .nodes in omega (arith, leb-true nodes 4096 (few c))
+add-result c = let nodes = from-nodes c .args .nodes in omega (arith, leb-true nodes 4096 (few c))
 
 slot-words-requires : tie.Need-slot-words-requires
 slot-words-requires c κs = let z = small (c .before .before) in (z .dim, (z .degree, z .count))

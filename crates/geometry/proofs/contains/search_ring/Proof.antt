@@ -25,6 +25,9 @@ Inv-loop work₀ s point-box resolution nodes w slots q₀ work q = Going (seein
 abbrev μ-loop : tie.MeasureT-loop
 μ-loop work₀ s point-box resolution nodes w slots q₀ work q = nodes - q .visited
 
+abbrev from-loop : tie.At-loop Inv-loop μ-loop → tie.Start Inv-loop μ-loop
+from-loop c = c .before .before .before .before
+
 slot-words-requires : tie.Need-slot-words-requires Inv-loop μ-loop
 slot-words-requires c κs = let z = c .before .before .pre .0 .ring .sized in (z .dim, (z .degree, z .count))
 
@@ -40,7 +43,7 @@ same-length c = let at-loop = c .before .before .before .before in at-loop .loop
 returns : tie.Need-returns Inv-loop μ-loop
 returns c =
     let at-loop = c .before .before .before .before in
-    let g = at-loop .before .before .before .before .args in
+    let g = from-loop at-loop .args in
     let l = at-loop .loop in record {
       found = going-spent (seeing (g .s) (g .point-box .now) (g .resolution) (g .nodes)) (g .nodes) (g .s) (g .work .now) (l .work) (l .q) (l .inv) (omega arith) (omega arith);
       rest = l .inv .rest;
@@ -49,7 +52,7 @@ returns c =
 visit-next-requires : tie.Need-visit-next-requires Inv-loop μ-loop
 visit-next-requires c κs =
     let at-loop = c .before .before .before .before .before in
-    let k = at-loop .before .before .before .before in
+    let k = from-loop at-loop in
     let g = k .args in
     let l = at-loop .loop in (
       (l .inv .ring, omega arith, going-room (seeing (g .s) (g .point-box .now) (g .resolution) (g .nodes)) (g .nodes) (g .s) (g .work .now) (l .work) (l .q) (l .inv) (omega arith) (omega (arith, l .inv .within))),
@@ -66,7 +69,7 @@ add-t17 : tie.Need-add-t17 Inv-loop μ-loop
 add-t17 c =
     let at-visit = c .before .before .before .before .before in
     let at-loop = at-visit .before .before .before .before .before .before in
-    omega (arith, at-loop .loop .inv .within, at-loop .before .before .before .before .pre .0 .few)
+    omega (arith, at-loop .loop .inv .within, from-loop at-loop .pre .0 .few)
 
 same-length-2 : tie.Need-same-length-2 Inv-loop μ-loop
 same-length-2 c =
@@ -79,7 +82,7 @@ returns-2 c =
     let bad = c .before in
     let at-visit = bad .before .before .before .before in
     let at-loop = at-visit .before .before .before .before .before .before in
-    let g = at-loop .before .before .before .before .args in
+    let g = from-loop at-loop .args in
     let l = at-loop .loop in
     let v = at-visit .visit-next in
     let w = turned (g .s) (g .point-box .now) (g .resolution) (g .nodes) _ _ _ _ _ _ (v .ensures) in record {
@@ -91,7 +94,7 @@ after-visit-requires : tie.Need-after-visit-requires Inv-loop μ-loop
 after-visit-requires c κs =
     let at-visit = c .before .before .before .before in
     let at-loop = at-visit .before .before .before .before .before .before in
-    let k = at-loop .before .before .before .before in
+    let k = from-loop at-loop in
     let l = at-loop .loop in
     ((l .inv .ring .start, omega arith, omega (arith, l .inv .low, l .inv .within), omega (arith, k .pre .0 .few)), omega (arith, l .inv .within, k .pre .0 .few))
 
@@ -106,7 +109,7 @@ loop-again c =
     let good = c .before in
     let at-visit = good .before .before .before .before in
     let at-loop = at-visit .before .before .before .before .before .before in
-    let g = at-loop .before .before .before .before .args in
+    let g = from-loop at-loop .args in
     let l = at-loop .loop in
     let v = at-visit .visit-next in
     going-on (seeing (g .s) (g .point-box .now) (g .resolution) (g .nodes)) (g .nodes) (g .s) (g .work .now) (l .work) (l .q) (l .inv) (omega arith) (omega (arith, l .inv .within)) _ _ (v .kept .0)
@@ -121,7 +124,7 @@ same-length-3 c = let at-loop = c .before .before .before .before in at-loop .lo
 returns-3 : tie.Need-returns-3 Inv-loop μ-loop
 returns-3 c =
     let at-loop = c .before .before .before .before in
-    let g = at-loop .before .before .before .before .args in
+    let g = from-loop at-loop .args in
     let l = at-loop .loop in record {
       found = going-none (seeing (g .s) (g .point-box .now) (g .resolution) (g .nodes)) (g .nodes) (g .s) (g .work .now) (l .work) (l .q) (l .inv) _ (omega arith) (c .completed .ensures);
       rest = l .inv .rest;

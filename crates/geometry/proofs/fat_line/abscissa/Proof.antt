@@ -41,8 +41,9 @@ loop-less c = omega arith
 
 loop-again : tie.Need-loop-again Inv-loop μ-loop
 loop-again c =
-    let l = c .before .before .before .before in
-    (omega arith, sum-turn _ (l .loop .sum) _ _ (l .loop .j) (omega arith) (c .before .from-f64 .ensures) (c .add .ensures) (l .loop .inv .1))
+    let at-from-f64 = c .before in
+    let at-loop = at-from-f64 .before .before .before in
+    (omega arith, sum-turn _ (at-loop .loop .sum) _ _ (at-loop .loop .j) (omega arith) (at-from-f64 .from-f64 .ensures) (c .add .ensures) (at-loop .loop .inv .1))
 
 times-requires : tie.Need-times-requires Inv-loop μ-loop
 times-requires c κs = search needs

@@ -12,6 +12,9 @@ Inv-loop dx d count slope y0 lo₀ hi₀ i₀ lo hi i = (0 < i) × ((i ≤ count
 abbrev μ-loop : tie.MeasureT-loop
 μ-loop dx d count slope y0 lo₀ hi₀ i₀ lo hi i = count - i
 
+abbrev from-loop : tie.At-loop Inv-loop μ-loop → tie.Start Inv-loop μ-loop
+from-loop c = c .before .before .before .before .before .before .before .before .before .before
+
 scalar-at-requires : tie.Need-scalar-at-requires Inv-loop μ-loop
 scalar-at-requires c κs = search needs
 
@@ -23,9 +26,12 @@ scalar-at-requires-2 c κs = search needs
 
 loop-holds : tie.Need-loop-holds Inv-loop μ-loop
 loop-holds c =
-    let k = c .before .before .before .before in
-    let a = k .before .before .before .before .before .args in
-    (omega arith, (omega arith, band-first (a .slope) (a .y0) (a .dx .now) (a .d .now) _ _ _ (k .before .before .scalar-at .ensures) (k .before .chord .ensures) (k .scalar-at2 .ensures)))
+    let at-scalar-at2 = c .before .before .before .before in
+    let at-chord = at-scalar-at2 .before in
+    let at-scalar-at = at-chord .before in
+    let k = at-scalar-at .before .before .before in
+    let a = k .args in
+    (omega arith, (omega arith, band-first (a .slope) (a .y0) (a .dx .now) (a .d .now) _ _ _ (at-scalar-at .scalar-at .ensures) (at-chord .chord .ensures) (at-scalar-at2 .scalar-at2 .ensures)))
 
 scalar-at-requires-3 : tie.Need-scalar-at-requires-3 Inv-loop μ-loop
 scalar-at-requires-3 c κs = search needs
@@ -43,21 +49,27 @@ max-requires : tie.Need-max-requires Inv-loop μ-loop
 max-requires c κs = search needs
 
 add-i : tie.Need-add-i Inv-loop μ-loop
-add-i c = let s = c .before .before .before .before .before .before .before .before .before .before .before .before .before .before .before .before .before .before .before .before in omega (arith, c .before .before .before .before .before .before .before .before .before .loop-test .taken)
+add-i c =
+    let in-loop = c .before .before .before .before .before .before .before .before .before in
+    let k = from-loop (in-loop .before) in
+    omega (arith, in-loop .loop-test .taken)
 
 loop-less : tie.Need-loop-less Inv-loop μ-loop
 loop-less c = search needs
 
 loop-again : tie.Need-loop-again Inv-loop μ-loop
 loop-again c =
-    let k = c .before .before .before .before .before .before in
-    let l = k .before .before .before .before in
-    let s = l .before .before .before .before .before .before .before .before .before .before in
-    let a = s .args in (
+    let at-min = c .before .before .before in
+    let at-scalar-at4 = at-min .before .before .before in
+    let at-chord2 = at-scalar-at4 .before in
+    let at-scalar-at3 = at-chord2 .before in
+    let at-loop = at-scalar-at3 .before .before in
+    let k = from-loop at-loop in
+    let a = k .args in (
       omega arith,
       (
         omega arith,
-        band-turn (a .slope) (a .y0) (a .dx .now) (a .d .now) (l .loop .i) (l .loop .lo) (l .loop .hi) _ _ _ _ _ (l .loop .inv .0) (l .loop .inv .1 .1) (k .before .before .scalar-at3 .ensures) (k .before .chord2 .ensures) (k .scalar-at4 .ensures) (c .before .before .before .min .ensures) (c .max .ensures),
+        band-turn (a .slope) (a .y0) (a .dx .now) (a .d .now) (at-loop .loop .i) (at-loop .loop .lo) (at-loop .loop .hi) _ _ _ _ _ (at-loop .loop .inv .0) (at-loop .loop .inv .1 .1) (at-scalar-at3 .scalar-at3 .ensures) (at-chord2 .chord2 .ensures) (at-scalar-at4 .scalar-at4 .ensures) (at-min .min .ensures) (c .max .ensures),
       ),
     )
 
@@ -69,10 +81,11 @@ next-up-requires c κs = search needs
 
 returns : tie.Need-returns Inv-loop μ-loop
 returns c =
-    let l = c .before .before .before in
-    let s = l .before .before .before .before .before .before .before .before .before .before in
-    let a = s .args in
-    band-done (a .slope) (a .y0) (a .dx .now) (a .d .now) (a .count) (l .loop .i) (l .loop .lo) (l .loop .hi) _ _ (omega arith) (l .loop .inv .1 .1) (c .before .next-down .ensures) (c .next-up .ensures)
+    let at-next-down = c .before in
+    let at-loop = at-next-down .before .before in
+    let k = from-loop at-loop in
+    let a = k .args in
+    band-done (a .slope) (a .y0) (a .dx .now) (a .d .now) (a .count) (at-loop .loop .i) (at-loop .loop .lo) (at-loop .loop .hi) _ _ (omega arith) (at-loop .loop .inv .1 .1) (at-next-down .next-down .ensures) (c .next-up .ensures)
 
 pub band-spec : {M : Type 1} → statement M
 band-spec =

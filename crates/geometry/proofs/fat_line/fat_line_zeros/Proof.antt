@@ -4,6 +4,11 @@ use borrow.Author.Needs.{needs}
 use Rattle.geometry.proofs.fat_line.fat_line_zeros.Statement.{statement}
 use Rattle.geometry.proofs.fat_line.fat_line_zeros.Tie as tie
 
+-- ---- the places
+
+abbrev from-scalar-at : tie.After-scalar-at → tie.Start
+from-scalar-at c = c .before .before .before .before
+
 scalar-at-requires : tie.Need-scalar-at-requires
 scalar-at-requires c κs = search needs
 
@@ -42,27 +47,41 @@ level-zeros-requires c κs = search needs
 
 returns : tie.Need-returns
 returns c =
-    let q = c .before .before .before .before in
-    let s = q .before .before in
-    let o = s .before .before .before .before .before .before .before in
-    let a = o .args in
-    zeros-level (a .count) (a .xi .now) (a .dx .now) (a .d .now) (s .before .before .before .scalar-at .result) (s .before .before .scalar-at2 .result) (s .scalar-at4 .result) (s .before .scalar-at3 .result) (q .before .sub .result) (q .div .result) (o .pre .0 .0) (o .pre .1)
-    (s .before .before .before .scalar-at .ensures) (s .before .before .scalar-at2 .ensures) (s .scalar-at4 .ensures) (s .before .scalar-at3 .ensures) (q .before .sub .ensures) (q .div .ensures .result) _ _ (c .before .before .enum-told .given .1) (c .before .unions .ensures) (c .level-zeros .ensures)
+    let at-unions = c .before in
+    let at-enum-told = at-unions .before in
+    let at-div = at-enum-told .before .before in
+    let at-sub = at-div .before in
+    let at-scalar-at4 = at-sub .before in
+    let at-scalar-at3 = at-scalar-at4 .before in
+    let at-scalar-at2 = at-scalar-at3 .before in
+    let at-scalar-at = at-scalar-at2 .before in
+    let k = from-scalar-at at-scalar-at in
+    let a = k .args in
+    zeros-level (a .count) (a .xi .now) (a .dx .now) (a .d .now) (at-scalar-at .scalar-at .result) (at-scalar-at2 .scalar-at2 .result) (at-scalar-at4 .scalar-at4 .result) (at-scalar-at3 .scalar-at3 .result) (at-sub .sub .result) (at-div .div .result) (k .pre .0 .0) (k .pre .1)
+    (at-scalar-at .scalar-at .ensures) (at-scalar-at2 .scalar-at2 .ensures) (at-scalar-at4 .scalar-at4 .ensures) (at-scalar-at3 .scalar-at3 .ensures) (at-sub .sub .ensures) (at-div .div .ensures .result) _ _ (at-enum-told .enum-told .given .1) (at-unions .unions .ensures) (c .level-zeros .ensures)
 
 band-requires : tie.Need-band-requires
-band-requires c κs = let o = c .before .before .before .before .before .before .before .before .before .before .before .before in (o .pre .0 .0, (o .pre .0 .1 .1 .0, o .pre .0 .1 .1 .1))
+band-requires c κs =
+    let k = from-scalar-at (c .before .before .before .before .before .before .before .before) in
+    (k .pre .0 .0, (k .pre .0 .1 .1 .0, k .pre .0 .1 .1 .1))
 
 sloped-zeros-requires : tie.Need-sloped-zeros-requires
 sloped-zeros-requires c κs = search needs
 
 returns-2 : tie.Need-returns-2
 returns-2 c =
-    let q = c .before .before .before .before .before in
-    let s = q .before .before in
-    let o = s .before .before .before .before .before .before .before in
-    let a = o .args in
-    zeros-sloped (a .count) (a .xi .now) (a .dx .now) (a .d .now) (s .before .before .before .scalar-at .result) (s .before .before .scalar-at2 .result) (s .scalar-at4 .result) (s .before .scalar-at3 .result) (q .before .sub .result) (q .div .result) (o .pre .0 .0) (o .pre .1)
-    (s .before .before .before .scalar-at .ensures) (s .before .before .scalar-at2 .ensures) (s .scalar-at4 .ensures) (s .before .scalar-at3 .ensures) (q .before .sub .ensures) (q .div .ensures .result) _ _ _ (c .before .before .before .slope .given .1) (c .before .band .ensures) (c .sloped-zeros .ensures)
+    let at-band = c .before in
+    let at-slope = at-band .before .before in
+    let at-div = at-slope .before .before in
+    let at-sub = at-div .before in
+    let at-scalar-at4 = at-sub .before in
+    let at-scalar-at3 = at-scalar-at4 .before in
+    let at-scalar-at2 = at-scalar-at3 .before in
+    let at-scalar-at = at-scalar-at2 .before in
+    let k = from-scalar-at at-scalar-at in
+    let a = k .args in
+    zeros-sloped (a .count) (a .xi .now) (a .dx .now) (a .d .now) (at-scalar-at .scalar-at .result) (at-scalar-at2 .scalar-at2 .result) (at-scalar-at4 .scalar-at4 .result) (at-scalar-at3 .scalar-at3 .result) (at-sub .sub .result) (at-div .div .result) (k .pre .0 .0) (k .pre .1)
+    (at-scalar-at .scalar-at .ensures) (at-scalar-at2 .scalar-at2 .ensures) (at-scalar-at4 .scalar-at4 .ensures) (at-scalar-at3 .scalar-at3 .ensures) (at-sub .sub .ensures) (at-div .div .ensures .result) _ _ _ (at-slope .slope .given .1) (at-band .band .ensures) (c .sloped-zeros .ensures)
 
 pub fat-line-zeros-spec : {M : Type 1} → statement M
 fat-line-zeros-spec =

@@ -33,7 +33,9 @@ inverse-requires : tie.Need-inverse-requires Inv-loop μ-loop
 inverse-requires c κs = tt
 
 loop-holds : tie.Need-loop-holds Inv-loop μ-loop
-loop-holds c = let a = c .before .before .before .before .before .args in (omega arith, flat-none (λ j. abscissa geop (a .degree) (window (a .degree) (a .knots .now) j)) _)
+loop-holds c =
+    let k = c .before .before .before .before .before in
+    let a = k .args in (omega arith, flat-none (λ j. abscissa geop (a .degree) (window (a .degree) (a .knots .now) j)) _)
 
 window-requires : tie.Need-window-requires Inv-loop μ-loop
 window-requires c κs = omega arith
@@ -70,22 +72,26 @@ loop-less c = omega arith
 
 loop-again : tie.Need-loop-again Inv-loop μ-loop
 loop-again c =
-    let l = c .before .before .before in
-    let n = l .before in
-    let d = n .before .before .before in
-    let a = d .before .before .args in (
+    let at-window = c .before in
+    let at-loop = at-window .before .before in
+    let at-inverse = at-loop .before in
+    let at-from-f64 = at-inverse .before in
+    let passed1 = at-from-f64 .before .before in
+    let k = passed1 .before .before in
+    let a = k .args in (
       omega arith,
-      flat-next (λ j. abscissa geop (a .degree) (window (a .degree) (a .knots .now) j)) _ (l .loop .at) (l .loop .i) (c .abscissa .result) (omega arith) (l .loop .inv .1)
-          (mean-is (a .degree) _ _ _ _ (d .if1 .left) (d .before .before .pre .0) (n .before .from-f64 .ensures) (n .inverse .ensures) (c .abscissa .ensures) ∙ ap (λ (w : List Float). abscissa geop (a .degree) w) (c .before .window .ensures)),
+      flat-next (λ j. abscissa geop (a .degree) (window (a .degree) (a .knots .now) j)) _ (at-loop .loop .at) (at-loop .loop .i) (c .abscissa .result) (omega arith) (at-loop .loop .inv .1)
+          (mean-is (a .degree) _ _ _ _ (passed1 .if1 .left) (k .pre .0) (at-from-f64 .from-f64 .ensures) (at-inverse .inverse .ensures) (c .abscissa .ensures) ∙ ap (λ (w : List Float). abscissa geop (a .degree) w) (at-window .window .ensures)),
     )
 
 returns-2 : tie.Need-returns-2 Inv-loop μ-loop
 unfolding ofBits
 returns-2 c =
-    let l = c .before in
-    let d = l .before .before .before .before in
-    let a = d .before .before .args in
-    held-some (a .degree) (a .count) (l .loop .i) (a .knots .now) (l .loop .at) (d .if1 .left) (omega arith) (l .loop .inv .1)
+    let at-loop = c .before in
+    let passed1 = at-loop .before .before .before .before in
+    let k = passed1 .before .before in
+    let a = k .args in
+    held-some (a .degree) (a .count) (at-loop .loop .i) (a .knots .now) (at-loop .loop .at) (passed1 .if1 .left) (omega arith) (at-loop .loop .inv .1)
 
 pub greville-abscissae-spec : {M : Type 1} → statement M
 greville-abscissae-spec =

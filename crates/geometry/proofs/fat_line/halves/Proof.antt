@@ -31,7 +31,8 @@ returns c =
 returns-2 : tie.Need-returns-2
 unfolding halves
 returns-2 c =
-    let a = c .before .before .before .before .before .before .args in
+    let k = c .before .before .before .before .before .before in
+    let a = k .args in
     halves-nan (a .carried) (a .resolution) (extent (a .dim) (pointsOf (suc (a .dim)) (a .count) (a .points .now))) _ (c .if2 .taken)
 
 max-requires : tie.Need-max-requires

@@ -27,8 +27,10 @@ shared-slice-read-if1 c = omega arith
 
 returns : tie.Need-returns Inv-loop μ-loop
 returns c =
-    let l = c .before .before .before .loop in
-    let g = c .before .before .before .before .args in
+    let at-loop = c .before .before .before in
+    let k = at-loop .before in
+    let l = at-loop .loop in
+    let g = k .args in
     all-off (g .knots .now) (g .v) (l .i) (omega arith) (c .if1 .taken) ∙ l .inv .1
 
 add-i : tie.Need-add-i Inv-loop μ-loop
@@ -39,8 +41,10 @@ loop-less c = omega arith
 
 loop-again : tie.Need-loop-again Inv-loop μ-loop
 loop-again c =
-    let l = c .before .before .before .loop in
-    let g = c .before .before .before .before .args in
+    let at-loop = c .before .before .before in
+    let k = at-loop .before in
+    let l = at-loop .loop in
+    let g = k .args in
     (omega arith, all-on (g .knots .now) (g .v) (l .i) (omega arith) (c .if1 .left) ∙ l .inv .1)
 
 returns-2 : tie.Need-returns-2 Inv-loop μ-loop

@@ -6,6 +6,11 @@ use borrow.Author.Needs.{needs}
 use Rattle.geometry.proofs.knot_insertion.alpha_at.Statement.{statement}
 use Rattle.geometry.proofs.knot_insertion.alpha_at.Tie as tie
 
+-- ---- the places
+
+abbrev from-passed1 : tie.Else1 → tie.Start
+from-passed1 c = c .before .before .before .before
+
 mul-a : tie.Need-mul-a
 mul-a c = search needs
 
@@ -23,11 +28,14 @@ shared-slice-read-b c = search needs
 
 returns : tie.Need-returns
 unfolding ofBits
-returns c = let k = c .before .before .before .before .args in alpha-start (k .degree) (k .knots .now) (k .t) (k .i) (c .if1 .taken)
+returns c = let k = c .before .before .before .before in let g = k .args in alpha-start (g .degree) (g .knots .now) (g .t) (g .i) (c .if1 .taken)
 
 returns-2 : tie.Need-returns-2
 unfolding ofBits
-returns-2 c = let k = c .before .before .before .before .before .args in alpha-end (k .degree) (k .knots .now) (k .t) (k .i) (c .before .if1 .left) (c .if2 .taken)
+returns-2 c =
+    let passed1 = c .before in
+    let k = from-passed1 passed1 in
+    let g = k .args in alpha-end (g .degree) (g .knots .now) (g .t) (g .i) (passed1 .if1 .left) (c .if2 .taken)
 
 from-f64-requires : tie.Need-from-f64-requires
 from-f64-requires c κs = search needs
@@ -55,16 +63,35 @@ enum-told c = search needs
 
 returns-3 : tie.Need-returns-3
 returns-3 c =
-    let k = c .before .before .before .before .before .before .before .before .before .before .before .before .before .before .args in
-    alpha-value (k .degree) (k .knots .now) (k .t) (k .i) (c .before .before .before .div .result) _ (c .before .along .given .1)
-    (alpha-between (k .degree) (k .knots .now) (k .t) (k .i) _ _ _ _ _ _ (c .before .before .before .before .before .before .before .before .before .before .if1 .left) (c .before .before .before .before .before .before .before .before .before .if2 .left) (c .before .before .before .before .before .before .before .before .from-f64 .ensures) (c .before .before .before .before .before .before .before .from-f642 .ensures) (c .before .before .before .before .before .before .sub .ensures) (c .before .before .before .before .before .from-f643 .ensures) (c .before .before .before .before .sub2 .ensures) (c .before .before .before .div .ensures .result))
+    let at-along = c .before in
+    let at-div = at-along .before .before in
+    let at-sub2 = at-div .before in
+    let at-from-f643 = at-sub2 .before in
+    let at-sub = at-from-f643 .before in
+    let at-from-f642 = at-sub .before in
+    let at-from-f64 = at-from-f642 .before in
+    let passed2 = at-from-f64 .before in
+    let passed1 = passed2 .before in
+    let k = from-passed1 passed1 in
+    let g = k .args in
+    alpha-value (g .degree) (g .knots .now) (g .t) (g .i) (at-div .div .result) _ (at-along .along .given .1)
+    (alpha-between (g .degree) (g .knots .now) (g .t) (g .i) _ _ _ _ _ _ (passed1 .if1 .left) (passed2 .if2 .left) (at-from-f64 .from-f64 .ensures) (at-from-f642 .from-f642 .ensures) (at-sub .sub .ensures) (at-from-f643 .from-f643 .ensures) (at-sub2 .sub2 .ensures) (at-div .div .ensures .result))
 
 returns-4 : tie.Need-returns-4
 unfolding ofBits
 returns-4 c =
-    let k = c .before .before .before .before .before .before .before .before .before .before .before .before .before .args in
-    alpha-failed (k .degree) (k .knots .now) (k .t) (k .i) (c .before .before .div .result) (c .enum-told .given .1)
-    (alpha-between (k .degree) (k .knots .now) (k .t) (k .i) _ _ _ _ _ _ (c .before .before .before .before .before .before .before .before .before .if1 .left) (c .before .before .before .before .before .before .before .before .if2 .left) (c .before .before .before .before .before .before .before .from-f64 .ensures) (c .before .before .before .before .before .before .from-f642 .ensures) (c .before .before .before .before .before .sub .ensures) (c .before .before .before .before .from-f643 .ensures) (c .before .before .before .sub2 .ensures) (c .before .before .div .ensures .result))
+    let at-div = c .before .before in
+    let at-sub2 = at-div .before in
+    let at-from-f643 = at-sub2 .before in
+    let at-sub = at-from-f643 .before in
+    let at-from-f642 = at-sub .before in
+    let at-from-f64 = at-from-f642 .before in
+    let passed2 = at-from-f64 .before in
+    let passed1 = passed2 .before in
+    let k = from-passed1 passed1 in
+    let g = k .args in
+    alpha-failed (g .degree) (g .knots .now) (g .t) (g .i) (at-div .div .result) (c .enum-told .given .1)
+    (alpha-between (g .degree) (g .knots .now) (g .t) (g .i) _ _ _ _ _ _ (passed1 .if1 .left) (passed2 .if2 .left) (at-from-f64 .from-f64 .ensures) (at-from-f642 .from-f642 .ensures) (at-sub .sub .ensures) (at-from-f643 .from-f643 .ensures) (at-sub2 .sub2 .ensures) (at-div .div .ensures .result))
 
 pub alpha-at-spec : {M : Type 1} → statement M
 alpha-at-spec =

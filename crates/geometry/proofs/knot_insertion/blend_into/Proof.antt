@@ -8,6 +8,11 @@ use native.Mathlib.Omega.{arith}
 use Rattle.geometry.proofs.knot_insertion.blend_into.Statement.{statement}
 use Rattle.geometry.proofs.knot_insertion.blend_into.Tie as tie
 
+-- ---- the places
+
+abbrev from-is-same : tie.After-is-same → tie.Start
+from-is-same c = c .before .before
+
 is-same-requires : tie.Need-is-same-requires
 is-same-requires c κs = search needs
 
@@ -23,8 +28,12 @@ same-length c = search needs
 returns : tie.Need-returns
 unfolding ofBits
 returns c =
-    let g = c .before .before .before .before .before .before .before .args in
-    c .before .before .copy .ensures ∙ blend-zero (g .work .now) (g .a) (g .b) (g .d) (g .alpha) (sym (c .before .before .before .before .before .is-same .ensures) ∙ c .before .before .before .before .if1 .taken) (omega arith)
+    let at-copy = c .before .before in
+    let taken1 = at-copy .before .before in
+    let at-is-same = taken1 .before in
+    let k = from-is-same at-is-same in
+    let g = k .args in
+    at-copy .copy .ensures ∙ blend-zero (g .work .now) (g .a) (g .b) (g .d) (g .alpha) (sym (at-is-same .is-same .ensures) ∙ taken1 .if1 .taken) (omega arith)
 
 is-same-requires-2 : tie.Need-is-same-requires-2
 is-same-requires-2 c κs = search needs
@@ -32,8 +41,12 @@ is-same-requires-2 c κs = search needs
 returns-2 : tie.Need-returns-2
 unfolding ofBits
 returns-2 c =
-    let g = c .before .before .before .before .before .args in
-    blend-one (g .work .now) (g .a) (g .b) (g .d) (g .alpha) (sym (c .before .before .before .is-same .ensures) ∙ c .before .before .if1 .left) (sym (c .before .is-same2 .ensures) ∙ c .if2 .taken) (omega arith)
+    let at-is-same2 = c .before in
+    let passed1 = at-is-same2 .before in
+    let at-is-same = passed1 .before in
+    let k = from-is-same at-is-same in
+    let g = k .args in
+    blend-one (g .work .now) (g .a) (g .b) (g .d) (g .alpha) (sym (at-is-same .is-same .ensures) ∙ passed1 .if1 .left) (sym (at-is-same2 .is-same2 .ensures) ∙ c .if2 .taken) (omega arith)
 
 interpolate-requires : tie.Need-interpolate-requires
 interpolate-requires c κs = ((omega arith, omega arith, omega arith), (inl (omega arith), inr (omega arith)))
@@ -44,8 +57,14 @@ same-length-2 c = search needs
 returns-3 : tie.Need-returns-3
 unfolding ofBits
 returns-3 c =
-    let g = c .before .before .before .before .before .before .before .before .before .args in
-    c .before .before .interpolate .ensures ∙ blend-mid (g .work .now) (g .a) (g .b) (g .d) (g .alpha) (sym (c .before .before .before .before .before .before .before .is-same .ensures) ∙ c .before .before .before .before .before .before .if1 .left) (sym (c .before .before .before .before .before .is-same2 .ensures) ∙ c .before .before .before .before .if2 .left)
+    let at-interpolate = c .before .before in
+    let passed2 = at-interpolate .before .before in
+    let at-is-same2 = passed2 .before in
+    let passed1 = at-is-same2 .before in
+    let at-is-same = passed1 .before in
+    let k = from-is-same at-is-same in
+    let g = k .args in
+    at-interpolate .interpolate .ensures ∙ blend-mid (g .work .now) (g .a) (g .b) (g .d) (g .alpha) (sym (at-is-same .is-same .ensures) ∙ passed1 .if1 .left) (sym (at-is-same2 .is-same2 .ensures) ∙ passed2 .if2 .left)
 
 pub blend-into-spec : {M : Type 1} → statement M
 blend-into-spec =

@@ -16,6 +16,9 @@ Inv-loop work₀ base s n k t last i₀ work i = (last ≤ i) × (i ≤ k) × (l
 abbrev μ-loop : tie.MeasureT-loop
 μ-loop work₀ base s n k t last i₀ work i = i
 
+abbrev from-loop : tie.At-loop Inv-loop μ-loop → tie.Start Inv-loop μ-loop
+from-loop c = c .before .before .before
+
 sub-last : tie.Need-sub-last Inv-loop μ-loop
 sub-last c = omega arith
 
@@ -30,22 +33,25 @@ sub-i c = omega arith
 
 blend-point-requires : tie.Need-blend-point-requires Inv-loop μ-loop
 blend-point-requires c κs =
-    let k = c .before .before .before .before .before in
-    (inside-of (k .args .s) (k .args .work .now) (c .before .before .loop .work) (k .args .base) (c .before .before .loop .inv .2) (k .pre .0), omega arith, omega arith)
+    let at-loop = c .before .before in
+    let k = from-loop at-loop in
+    (inside-of (k .args .s) (k .args .work .now) (at-loop .loop .work) (k .args .base) (at-loop .loop .inv .2) (k .pre .0), omega arith, omega arith)
 
 loop-less : tie.Need-loop-less Inv-loop μ-loop
 loop-less c = omega arith
 
 loop-again : tie.Need-loop-again Inv-loop μ-loop
 loop-again c =
-    let l = c .before .before .before .before .before .loop in
-    let k = c .before .before .before .before .before .before .before .before in
+    let at-blend-point = c .before .before in
+    let at-loop = at-blend-point .before .before .before in
+    let k = from-loop at-loop in
+    let l = at-loop .loop in
     let g = k .args in (
       omega arith,
       omega arith,
-      c .before .before .blend-point .kept .0 ∙ l .inv .2,
+      at-blend-point .blend-point .kept .0 ∙ l .inv .2,
       makes-turn (g .s) (g .base) (λ l j. blendAt (g .s) l (g .base) (g .n) (g .t) j) (blend-made (g .s) (g .base) (g .n) (g .t) (k .pre .3)) (g .work .now) (g .k) (l .i) (l .work) _ (omega arith) (omega arith)
-          (place-within (g .s) (g .work .now) (g .base) (suc (g .k)) (k .pre .0) (omega arith)) (l .inv .3) (c .before .before .blend-point .ensures),
+          (place-within (g .s) (g .work .now) (g .base) (suc (g .k)) (k .pre .0) (omega arith)) (l .inv .3) (at-blend-point .blend-point .ensures),
     )
 
 same-length : tie.Need-same-length Inv-loop μ-loop
@@ -53,8 +59,9 @@ same-length c = c .before .loop .inv .2
 
 returns : tie.Need-returns Inv-loop μ-loop
 returns c =
-    let l = c .before .loop in
-    let k = c .before .before .before .before in
+    let at-loop = c .before in
+    let k = from-loop at-loop in
+    let l = at-loop .loop in
     let g = k .args in
     l .inv .3 ∙ makes-done (g .s) (g .base) (λ l j. blendAt (g .s) l (g .base) (g .n) (g .t) j) (blend-made (g .s) (g .base) (g .n) (g .t) (k .pre .3)) (g .work .now) (g .k) (g .s .degree) (l .i) (omega arith) (omega arith)
 

@@ -7,6 +7,11 @@ use native.Mathlib.Omega.{arith}
 use Rattle.geometry.proofs.knot_insertion.insert_to_full_multiplicity.Statement.{statement}
 use Rattle.geometry.proofs.knot_insertion.insert_to_full_multiplicity.Tie as tie
 
+-- ---- the places
+
+abbrev from-is-bezier-in : tie.After-is-bezier-in → tie.Start
+from-is-bezier-in c = c .before .before .before
+
 is-bezier-in-requires : tie.Need-is-bezier-in-requires
 is-bezier-in-requires c κs = search needs
 
@@ -18,8 +23,12 @@ same-length c = search needs
 
 returns : tie.Need-returns
 returns c =
-    let g = c .before .before .before .before .before .before .before .before .args in
-    full-from (g .s) (g .work .now) _ (g .base) _ (g .t) _ (full-boehm (g .s .degree) (g .t) _ (sym (c .before .before .before .before .before .is-bezier-in .ensures) ∙ not-true _ (c .before .before .before .before .if1 .taken))) (c .before .before .boehm-cut .ensures)
+    let at-boehm-cut = c .before .before in
+    let taken1 = at-boehm-cut .before .before in
+    let at-is-bezier-in = taken1 .before in
+    let k = from-is-bezier-in at-is-bezier-in in
+    let g = k .args in
+    full-from (g .s) (g .work .now) _ (g .base) _ (g .t) _ (full-boehm (g .s .degree) (g .t) _ (sym (at-is-bezier-in .is-bezier-in .ensures) ∙ not-true _ (taken1 .if1 .taken))) (at-boehm-cut .boehm-cut .ensures)
 
 along-in-requires : tie.Need-along-in-requires
 along-in-requires c κs = search needs
@@ -29,9 +38,11 @@ enum-known-along c = search needs
 
 split-bezier-span-requires : tie.Need-split-bezier-span-requires
 split-bezier-span-requires c κs =
-    let k = c .before .before .before .before .before .before .before .before .before .before in
+    let passed1 = c .before .before .before .before .before .before in
+    let at-is-bezier-in = passed1 .before in
+    let k = from-is-bezier-in at-is-bezier-in in
     let g = k .args in
-    let one = sym (c .before .before .before .before .before .before .before .is-bezier-in .ensures) ∙ not-false _ (c .before .before .before .before .before .before .if1 .left) in
+    let one = sym (at-is-bezier-in .is-bezier-in .ensures) ∙ not-false _ (passed1 .if1 .left) in
     (k .pre .0, single-held (g .s) (g .work .now) (g .base) (g .t) (k .pre .0) one, omega (arith, k .pre .1, k .pre .2))
 
 add-result : tie.Need-add-result
@@ -48,22 +59,33 @@ same-length-2 c = search needs
 
 returns-2 : tie.Need-returns-2
 returns-2 c =
-    let k = c .before .before .before .before .before .before .before .before .before .before .before .before .before .before in
+    let at-split-bezier-span = c .before .before .before in
+    let at-along = at-split-bezier-span .before .before .before in
+    let at-along-in = at-along .before .before in
+    let passed1 = at-along-in .before .before in
+    let at-is-bezier-in = passed1 .before in
+    let k = from-is-bezier-in at-is-bezier-in in
     let g = k .args in
-    let one = sym (c .before .before .before .before .before .before .before .before .before .before .before .is-bezier-in .ensures) ∙ not-false _ (c .before .before .before .before .before .before .before .before .before .before .if1 .left) in
+    let one = sym (at-is-bezier-in .is-bezier-in .ensures) ∙ not-false _ (passed1 .if1 .left) in
     full-from (g .s) (g .work .now) _ (g .base) _ (g .t) _
-    (full-bezier (g .s .degree) (g .t) _ _ one (sym (c .before .before .before .before .before .before .before .before .along-in .ensures) ∙ c .before .before .before .before .before .before .along .given .1))
-    (bezier-cut (g .s) (g .work .now) _ (g .base) (g .t) _ (k .pre .0) (single-held (g .s) (g .work .now) (g .base) (g .t) (k .pre .0) one) (omega (arith, k .pre .1, k .pre .2)) (c .before .before .before .split-bezier-span .ensures))
+    (full-bezier (g .s .degree) (g .t) _ _ one (sym (at-along-in .along-in .ensures) ∙ at-along .along .given .1))
+    (bezier-cut (g .s) (g .work .now) _ (g .base) (g .t) _ (k .pre .0) (single-held (g .s) (g .work .now) (g .base) (g .t) (k .pre .0) one) (omega (arith, k .pre .1, k .pre .2)) (at-split-bezier-span .split-bezier-span .ensures))
 
 same-length-3 : tie.Need-same-length-3
 same-length-3 c = search needs
 
 returns-3 : tie.Need-returns-3
 returns-3 c =
-    let g = c .before .before .before .before .before .before .before .before .before .before .before .before .args in
+    let at-boehm-cut2 = c .before .before in
+    let at-enum-told = at-boehm-cut2 .before .before in
+    let at-along-in = at-enum-told .before .before in
+    let passed1 = at-along-in .before .before in
+    let at-is-bezier-in = passed1 .before in
+    let k = from-is-bezier-in at-is-bezier-in in
+    let g = k .args in
     full-from (g .s) (g .work .now) _ (g .base) _ (g .t) _
-    (full-failed (g .s .degree) (g .t) _ (sym (c .before .before .before .before .before .before .before .before .before .is-bezier-in .ensures) ∙ not-false _ (c .before .before .before .before .before .before .before .before .if1 .left)) (sym (c .before .before .before .before .before .before .along-in .ensures) ∙ c .before .before .before .before .enum-told .given .1))
-    (c .before .before .boehm-cut2 .ensures)
+    (full-failed (g .s .degree) (g .t) _ (sym (at-is-bezier-in .is-bezier-in .ensures) ∙ not-false _ (passed1 .if1 .left)) (sym (at-along-in .along-in .ensures) ∙ at-enum-told .enum-told .given .1))
+    (at-boehm-cut2 .boehm-cut2 .ensures)
 
 pub insert-to-full-multiplicity-spec : {M : Type 1} → statement M
 insert-to-full-multiplicity-spec =

@@ -6,6 +6,11 @@ use native.Mathlib.Omega.{arith}
 use Rattle.geometry.proofs.knot_insertion.is_bezier_span.Statement.{statement}
 use Rattle.geometry.proofs.knot_insertion.is_bezier_span.Tie as tie
 
+-- ---- the places
+
+abbrev from-all-are : tie.After-all-are → tie.Start
+from-all-are c = c .before .before .before .before .before
+
 add-m : tie.Need-add-m
 add-m c = search needs
 
@@ -22,7 +27,10 @@ all-are-requires : tie.Need-all-are-requires
 all-are-requires c κs = search needs
 
 returns-2 : tie.Need-returns-2
-returns-2 c = let g = c .before .before .before .before .before .before .args in bezier-not (g .degree) (g .count) (g .knots .now) (omega arith) _ (c .before .all-are .ensures) (c .if2 .taken)
+returns-2 c =
+    let at-all-are = c .before in
+    let k = from-all-are at-all-are in
+    let g = k .args in bezier-not (g .degree) (g .count) (g .knots .now) (omega arith) _ (at-all-are .all-are .ensures) (c .if2 .taken)
 
 mul-all-are : tie.Need-mul-all-are
 mul-all-are c = search needs
@@ -46,7 +54,11 @@ all-are-requires-2 : tie.Need-all-are-requires-2
 all-are-requires-2 c κs = search needs
 
 returns-3 : tie.Need-returns-3
-returns-3 c = let g = c .before .before .before .before .before .before .before .before .before .args in bezier-last (g .degree) (g .count) (g .knots .now) (omega arith) _ _ (c .before .before .before .before .all-are .ensures) (c .before .before .before .if2 .left) (c .all-are2 .ensures)
+returns-3 c =
+    let passed2 = c .before .before .before in
+    let at-all-are = passed2 .before in
+    let k = from-all-are at-all-are in
+    let g = k .args in bezier-last (g .degree) (g .count) (g .knots .now) (omega arith) _ _ (at-all-are .all-are .ensures) (passed2 .if2 .left) (c .all-are2 .ensures)
 
 pub is-bezier-span-spec : {M : Type 1} → statement M
 is-bezier-span-spec =

@@ -38,8 +38,10 @@ loop-less c = omega arith
 
 loop-again : tie.Need-loop-again Inv-loop μ-loop
 loop-again c =
-    let l = c .before .before .before .loop in
-    let g = c .before .before .before .before .args in
+    let at-loop = c .before .before .before in
+    let k = at-loop .before in
+    let l = at-loop .loop in
+    let g = k .args in
     (omega arith, omega arith, count-one (g .knots .now) (g .t) (l .i) (l .n) (omega arith) (omega arith) (c .if1 .taken) (l .inv .2))
 
 loop-less-2 : tie.Need-loop-less-2 Inv-loop μ-loop
@@ -47,8 +49,10 @@ loop-less-2 c = omega arith
 
 loop-again-2 : tie.Need-loop-again-2 Inv-loop μ-loop
 loop-again-2 c =
-    let l = c .before .before .before .loop in
-    let g = c .before .before .before .before .args in
+    let at-loop = c .before .before .before in
+    let k = at-loop .before in
+    let l = at-loop .loop in
+    let g = k .args in
     (omega arith, omega arith, count-same (g .knots .now) (g .t) (l .i) (l .n) (omega arith) (omega arith) (c .if1 .left) (l .inv .2))
 
 returns : tie.Need-returns Inv-loop μ-loop

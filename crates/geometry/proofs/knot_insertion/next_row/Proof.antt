@@ -26,22 +26,25 @@ sub-i c = omega arith
 
 between-point-requires : tie.Need-between-point-requires Inv-loop μ-loop
 between-point-requires c κs =
-    let k = c .before .before .before .before in
-    (inside-of (k .args .s) (k .args .work .now) (c .before .before .loop .work) (k .args .base) (c .before .before .loop .inv .2) (k .pre .0), omega arith)
+    let at-loop = c .before .before in
+    let k = at-loop .before .before in
+    (inside-of (k .args .s) (k .args .work .now) (at-loop .loop .work) (k .args .base) (at-loop .loop .inv .2) (k .pre .0), omega arith)
 
 loop-less : tie.Need-loop-less Inv-loop μ-loop
 loop-less c = omega arith
 
 loop-again : tie.Need-loop-again Inv-loop μ-loop
 loop-again c =
-    let l = c .before .before .before .before .before .loop in
-    let k = c .before .before .before .before .before .before .before in
+    let at-between-point = c .before .before in
+    let at-loop = at-between-point .before .before .before in
+    let k = at-loop .before .before in
+    let l = at-loop .loop in
     let g = k .args in (
       omega arith,
       omega arith,
-      c .before .before .between-point .kept .0 ∙ l .inv .2,
+      at-between-point .between-point .kept .0 ∙ l .inv .2,
       makes-turn (g .s) (g .base) (λ l j. betweenAt (g .s) l (g .base) (g .alpha) j) (between-made (g .s) (g .base) (g .alpha)) (g .work .now) (g .s .degree) (l .i) (l .work) _ (omega arith) (omega arith)
-          (place-within (g .s) (g .work .now) (g .base) (suc (g .s .degree)) (k .pre .0) (omega arith)) (l .inv .3) (c .before .before .between-point .ensures),
+          (place-within (g .s) (g .work .now) (g .base) (suc (g .s .degree)) (k .pre .0) (omega arith)) (l .inv .3) (at-between-point .between-point .ensures),
     )
 
 same-length : tie.Need-same-length Inv-loop μ-loop

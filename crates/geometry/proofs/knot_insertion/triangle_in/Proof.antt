@@ -14,6 +14,15 @@ Inv-loop work₀ base s alpha p end r₀ work r = (p ≡ s .degree) × (end ≡ 
 abbrev μ-loop : tie.MeasureT-loop
 μ-loop work₀ base s alpha p end r₀ work r = p - r
 
+abbrev from-loop : tie.At-loop Inv-loop μ-loop → tie.Start Inv-loop μ-loop
+from-loop c = c .before .before
+
+abbrev to-loop-from-copy-point : tie.After-copy-point Inv-loop μ-loop → tie.At-loop Inv-loop μ-loop
+to-loop-from-copy-point c = c .before .before .before
+
+abbrev to-loop-from-copy-point2 : tie.After-copy-point2 Inv-loop μ-loop → tie.At-loop Inv-loop μ-loop
+to-loop-from-copy-point2 c = c .before .before .before
+
 mul-end : tie.Need-mul-end Inv-loop μ-loop
 mul-end c = omega arith
 
@@ -28,13 +37,16 @@ sub-copy-point c = omega arith
 
 copy-point-requires : tie.Need-copy-point-requires Inv-loop μ-loop
 copy-point-requires c κs =
-    let k = c .before .before .before .before in
-    (inside-of (k .args .s) (k .args .work .now) (c .before .before .loop .work) (k .args .base) (c .before .before .loop .inv .3) (k .pre .0), omega arith, omega arith)
+    let at-loop = c .before .before in
+    let k = from-loop at-loop in
+    (inside-of (k .args .s) (k .args .work .now) (at-loop .loop .work) (k .args .base) (at-loop .loop .inv .3) (k .pre .0), omega arith, omega arith)
 
 next-row-requires : tie.Need-next-row-requires Inv-loop μ-loop
 next-row-requires c κs =
-    let k = c .before .before .before .before .before .before .before .before in
-    (inside-of (k .args .s) (k .args .work .now) _ (k .args .base) (c .before .before .before .copy-point .kept .0 ∙ c .before .before .before .before .before .before .loop .inv .3) (k .pre .0), omega arith, omega arith)
+    let at-copy-point = c .before .before .before in
+    let at-loop = to-loop-from-copy-point at-copy-point in
+    let k = from-loop at-loop in
+    (inside-of (k .args .s) (k .args .work .now) _ (k .args .base) (at-copy-point .copy-point .kept .0 ∙ at-loop .loop .inv .3) (k .pre .0), omega arith, omega arith)
 
 add-r : tie.Need-add-r Inv-loop μ-loop
 add-r c = omega arith
@@ -44,14 +56,17 @@ loop-less c = omega arith
 
 loop-again : tie.Need-loop-again Inv-loop μ-loop
 loop-again c =
-    let k = c .before .before .before .before .before .before .before .before .before .before .before in
+    let at-next-row = c .before .before in
+    let at-copy-point = at-next-row .before .before .before .before in
+    let at-loop = to-loop-from-copy-point at-copy-point in
+    let k = from-loop at-loop in
     let g = k .args in
-    let l = c .before .before .before .before .before .before .before .before .before .loop in (
+    let l = at-loop .loop in (
       refl,
       refl,
       omega arith,
-      c .before .before .next-row .kept .0 ∙ c .before .before .before .before .before .before .copy-point .kept .0 ∙ l .inv .3,
-      triangle-row (g .s) (g .work .now) (g .base) (g .alpha) (k .pre .0) (k .pre .1) (l .r) _ _ (omega arith) (triangle-copy (g .s) (g .work .now) (g .base) (g .alpha) (k .pre .0) (k .pre .1) (l .r) _ _ (omega arith) (l .inv .4) (c .before .before .before .before .before .before .copy-point .ensures)) (c .before .before .next-row .ensures),
+      at-next-row .next-row .kept .0 ∙ at-copy-point .copy-point .kept .0 ∙ l .inv .3,
+      triangle-row (g .s) (g .work .now) (g .base) (g .alpha) (k .pre .0) (k .pre .1) (l .r) _ _ (omega arith) (triangle-copy (g .s) (g .work .now) (g .base) (g .alpha) (k .pre .0) (k .pre .1) (l .r) _ _ (omega arith) (l .inv .4) (at-copy-point .copy-point .ensures)) (at-next-row .next-row .ensures),
     )
 
 sub-copy-point-2 : tie.Need-sub-copy-point-2 Inv-loop μ-loop
@@ -59,18 +74,24 @@ sub-copy-point-2 c = omega arith
 
 copy-point-requires-2 : tie.Need-copy-point-requires-2 Inv-loop μ-loop
 copy-point-requires-2 c κs =
-    let k = c .before .before .before .before in
-    (inside-of (k .args .s) (k .args .work .now) (c .before .before .loop .work) (k .args .base) (c .before .before .loop .inv .3) (k .pre .0), omega arith, omega arith)
+    let at-loop = c .before .before in
+    let k = from-loop at-loop in
+    (inside-of (k .args .s) (k .args .work .now) (at-loop .loop .work) (k .args .base) (at-loop .loop .inv .3) (k .pre .0), omega arith, omega arith)
 
 same-length : tie.Need-same-length Inv-loop μ-loop
-same-length c = c .before .before .copy-point2 .kept .0 ∙ c .before .before .before .before .before .loop .inv .3
+same-length c =
+    let at-copy-point2 = c .before .before in
+    let at-loop = to-loop-from-copy-point2 at-copy-point2 in
+    at-copy-point2 .copy-point2 .kept .0 ∙ at-loop .loop .inv .3
 
 returns : tie.Need-returns Inv-loop μ-loop
 returns c =
-    let k = c .before .before .before .before .before .before .before in
+    let at-copy-point2 = c .before .before in
+    let at-loop = to-loop-from-copy-point2 at-copy-point2 in
+    let k = from-loop at-loop in
     let g = k .args in
-    let l = c .before .before .before .before .before .loop in
-    triangle-copy (g .s) (g .work .now) (g .base) (g .alpha) (k .pre .0) (k .pre .1) (l .r) _ _ (omega arith) (l .inv .4) (c .before .before .copy-point2 .ensures)
+    let l = at-loop .loop in
+    triangle-copy (g .s) (g .work .now) (g .base) (g .alpha) (k .pre .0) (k .pre .1) (l .r) _ _ (omega arith) (l .inv .4) (at-copy-point2 .copy-point2 .ensures)
     ∙ triangle-done (g .s) (g .work .now) (g .base) (g .alpha) (k .pre .0) (k .pre .1) (l .r) (omega arith)
 
 pub triangle-in-spec : {M : Type 1} → statement M

@@ -4,8 +4,6 @@ use Rattle.geometry.proofs.slots.Counts.{code-few, code-place}
 use borrow.Author.Needs.{needs}
 use Rattle.geometry.proofs.slots.place_of.Statement.{statement}
 use Rattle.geometry.proofs.slots.place_of.Tie as tie
-use Rattle.geometry.proofs.slots.place_of.Reads as reads
-use Rattle.geometry.proofs.slots.place_of.Lts as lts
 
 mul-result : tie.Need-mul-result
 mul-result c = search needs

@@ -7,6 +7,11 @@ use borrow.Author.Needs.{needs}
 use Rattle.geometry.proofs.split.cut_from.Statement.{statement}
 use Rattle.geometry.proofs.split.cut_from.Tie as tie
 
+-- ---- the places
+
+abbrev from-is-inside : tie.After-is-inside → tie.Start
+from-is-inside c = c .before .before .before
+
 is-inside-requires : tie.Need-is-inside-requires
 is-inside-requires c κs = search needs
 
@@ -14,20 +19,26 @@ same-length : tie.Need-same-length
 same-length c = search needs
 
 returns : tie.Need-returns
-returns c = let g = c .before .before .before .before .args in from-none (g .s) (g .work .now) (g .base) (g .t) (sym (c .before .is-inside .ensures) ∙ not-true _ (c .if1 .taken))
+returns c =
+    let at-is-inside = c .before in
+    let k = from-is-inside at-is-inside in
+    let g = k .args in from-none (g .s) (g .work .now) (g .base) (g .t) (sym (at-is-inside .is-inside .ensures) ∙ not-true _ (c .if1 .taken))
 
 insert-to-full-multiplicity-requires : tie.Need-insert-to-full-multiplicity-requires
 insert-to-full-multiplicity-requires c κs =
-    let k = c .before .before .before .before .before in
+    let k = from-is-inside (c .before .before) in
     let q = whole-count (k .args .s) (k .args .work .now) (k .args .base) (k .pre .0) (k .pre .1) in
     (k .pre .0, q .0, q .1)
 
 copy-right-requires : tie.Need-copy-right-requires
 copy-right-requires c κs =
-    let k = c .before .before .before .before .before .before .before .before .before in
+    let at-insert = c .before .before .before in
+    let passed1 = at-insert .before .before in
+    let at-is-inside = passed1 .before in
+    let k = from-is-inside at-is-inside in
     let g = k .args in
-    let d = sym (c .before .before .before .before .before .before .is-inside .ensures) ∙ not-false _ (c .before .before .before .before .before .if1 .left) in
-    let i = c .before .before .before .insert-to-full-multiplicity .ensures in
+    let d = sym (at-is-inside .is-inside .ensures) ∙ not-false _ (passed1 .if1 .left) in
+    let i = at-insert .insert-to-full-multiplicity .ensures in
     let h = cut-held (g .s) (g .work .now) (g .base) (g .t) (k .pre .0) (k .pre .1) d _ _ i in
     ((h, h .inside, cut-upto (g .s) (g .work .now) (g .base) (g .t) (k .pre .0) (k .pre .1) d _ _ i), inr refl)
 
@@ -36,11 +47,15 @@ same-length-2 c = search needs
 
 returns-2 : tie.Need-returns-2
 returns-2 c =
-    let k = c .before .before .before .before .before .before .before .before .before .before .before .before in
+    let at-copy-right = c .before .before in
+    let at-insert = at-copy-right .before .before .before .before in
+    let passed1 = at-insert .before .before in
+    let at-is-inside = passed1 .before in
+    let k = from-is-inside at-is-inside in
     let g = k .args in
-    let d = sym (c .before .before .before .before .before .before .before .before .before .is-inside .ensures) ∙ not-false _ (c .before .before .before .before .before .before .before .before .if1 .left) in
-    let i = c .before .before .before .before .before .before .insert-to-full-multiplicity .ensures in
-    from-kept (g .s) (g .work .now) (g .base) (g .t) (k .pre .0) (k .pre .1) d _ _ i _ _ (c .before .before .copy-right .ensures) refl
+    let d = sym (at-is-inside .is-inside .ensures) ∙ not-false _ (passed1 .if1 .left) in
+    let i = at-insert .insert-to-full-multiplicity .ensures in
+    from-kept (g .s) (g .work .now) (g .base) (g .t) (k .pre .0) (k .pre .1) d _ _ i _ _ (at-copy-right .copy-right .ensures) refl
 
 pub cut-from-spec : {M : Type 1} → statement M
 cut-from-spec =

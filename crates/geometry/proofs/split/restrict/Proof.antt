@@ -11,6 +11,17 @@ use native.Mathlib.Omega.{arith}
 use Rattle.geometry.proofs.split.restrict.Statement.{statement}
 use Rattle.geometry.proofs.split.restrict.Tie as tie
 
+-- ---- the places
+
+abbrev from-copy-right : tie.After-copy-right → tie.Start
+from-copy-right c = c .before .before .before
+
+abbrev to-copy-right : tie.After-cut-from → tie.After-copy-right
+to-copy-right c = c .before .before .before .before
+
+abbrev to-cut-from : tie.After-cut-up-to → tie.After-cut-from
+to-cut-from c = c .before .before .before .before
+
 -- after the first cut the piece can be cut again, since lo is a double
 once : (c : tie.Start) → Whole (c .args .s) (fromBy geop (c .args .s .degree) (c .args .lo) (pieceAt (c .args .s) (c .args .work .now) (c .args .src)) (within (c .args .s .degree) (pieceAt (c .args .s) (c .args .work .now) (c .args .src)) (c .args .lo)) .piece)
 once c = c .pre .1 .again (c .pre .4) (c .args .lo) (subst T (sym (c .good .1 .1 .1 .1 .0 .1)) tt)
@@ -20,25 +31,31 @@ copy-right-requires c κs = let k = c .before .before in ((k .pre .0, k .pre .2,
 
 cut-from-requires : tie.Need-cut-from-requires
 cut-from-requires c κs =
-    let k = c .before .before .before .before .before .before in
+    let at-copy-right = c .before .before .before in
+    let k = from-copy-right at-copy-right in
     let g = k .args in (
-      copied (g .s) (g .work .now) (g .src) (g .to) (g .lo) (g .hi) (k .pre .0) (k .pre .1 .whole) (k .pre .2) (once k) _ (c .before .before .before .copy-right .ensures) .held,
-      copied-whole (g .s) (g .work .now) (g .src) (g .to) (g .lo) (g .hi) (k .pre .0) (k .pre .1 .whole) (k .pre .2) (once k) _ (c .before .before .before .copy-right .ensures),
+      copied (g .s) (g .work .now) (g .src) (g .to) (g .lo) (g .hi) (k .pre .0) (k .pre .1 .whole) (k .pre .2) (once k) _ (at-copy-right .copy-right .ensures) .held,
+      copied-whole (g .s) (g .work .now) (g .src) (g .to) (g .lo) (g .hi) (k .pre .0) (k .pre .1 .whole) (k .pre .2) (once k) _ (at-copy-right .copy-right .ensures),
     )
 
 cut-up-to-requires : tie.Need-cut-up-to-requires
 cut-up-to-requires c κs =
-    let k = c .before .before .before .before .before .before .before .before .before .before in
+    let at-cut-from = c .before .before .before in
+    let at-copy-right = to-copy-right at-cut-from in
+    let k = from-copy-right at-copy-right in
     let g = k .args in (
-      cut-down (g .s) (g .work .now) (g .src) (g .to) (g .lo) (g .hi) (k .pre .0) (k .pre .1 .whole) (k .pre .2) (once k) _ (c .before .before .before .before .before .before .before .copy-right .ensures) _ _ (c .before .before .before .cut-from .ensures) .held,
-      cut-down-whole (g .s) (g .work .now) (g .src) (g .to) (g .lo) (g .hi) (k .pre .0) (k .pre .1 .whole) (k .pre .2) (once k) _ (c .before .before .before .before .before .before .before .copy-right .ensures) _ _ (c .before .before .before .cut-from .ensures),
+      cut-down (g .s) (g .work .now) (g .src) (g .to) (g .lo) (g .hi) (k .pre .0) (k .pre .1 .whole) (k .pre .2) (once k) _ (at-copy-right .copy-right .ensures) _ _ (at-cut-from .cut-from .ensures) .held,
+      cut-down-whole (g .s) (g .work .now) (g .src) (g .to) (g .lo) (g .hi) (k .pre .0) (k .pre .1 .whole) (k .pre .2) (once k) _ (at-copy-right .copy-right .ensures) _ _ (at-cut-from .cut-from .ensures),
     )
 
 add-result : tie.Need-add-result
 add-result c =
-    let g = c .before .before .before .before .before .before .before .before .before .before .before .before .before .args in
-    let a = from-few (g .s .degree) _ (g .lo) _ _ (c .before .before .before .before .before .before .cut-from .ensures .cuts) in
-    let b = upto-few (g .s .degree) _ (g .hi) _ _ (c .before .before .cut-up-to .ensures .cuts) in
+    let at-cut-up-to = c .before .before in
+    let at-cut-from = to-cut-from at-cut-up-to in
+    let k = from-copy-right (at-cut-from .before .before .before .before) in
+    let g = k .args in
+    let a = from-few (g .s .degree) _ (g .lo) _ _ (at-cut-from .cut-from .ensures .cuts) in
+    let b = upto-few (g .s .degree) _ (g .hi) _ _ (at-cut-up-to .cut-up-to .ensures .cuts) in
     omega (arith, a, b)
 
 same-length : tie.Need-same-length
@@ -46,9 +63,12 @@ same-length c = search needs
 
 returns : tie.Need-returns
 returns c =
-    let k = c .before .before .before .before .before .before .before .before .before .before .before .before .before in
+    let at-cut-up-to = c .before .before in
+    let at-cut-from = to-cut-from at-cut-up-to in
+    let at-copy-right = to-copy-right at-cut-from in
+    let k = from-copy-right at-copy-right in
     let g = k .args in
-    restricted (g .s) (g .work .now) (g .src) (g .to) (g .lo) (g .hi) (k .pre .0) (k .pre .1 .whole) (k .pre .2) (once k) _ (c .before .before .before .before .before .before .before .before .before .before .copy-right .ensures) _ _ (c .before .before .before .before .before .before .cut-from .ensures) _ _ (c .before .before .cut-up-to .ensures)
+    restricted (g .s) (g .work .now) (g .src) (g .to) (g .lo) (g .hi) (k .pre .0) (k .pre .1 .whole) (k .pre .2) (once k) _ (at-copy-right .copy-right .ensures) _ _ (at-cut-from .cut-from .ensures) _ _ (at-cut-up-to .cut-up-to .ensures)
 
 pub restrict-spec : {M : Type 1} → statement M
 restrict-spec =

@@ -22,7 +22,7 @@ fraction-requires c κs = search needs
 
 loop-holds : tie.Need-loop-holds Inv-loop μ-loop
 unfolding flat
-loop-holds c = (omega arith, (refl, sym (put-nil (c .before .before .args .words .now) (c .before .before .args .c))))
+loop-holds c = let k = c .before .before in (omega arith, (refl, sym (put-nil (k .args .words .now) (k .args .c))))
 
 mul-scalar-from : tie.Need-mul-scalar-from Inv-loop μ-loop
 mul-scalar-from c = omega arith
@@ -62,14 +62,18 @@ loop-less c = omega arith
 
 loop-again : tie.Need-loop-again Inv-loop μ-loop
 loop-again c =
-    let n = c .before .before .before .before .before .before .before .before .before in
-    let l = n .before .loop in
-    let u = n .before .before in
-    let s = u .before .before in
-    let g = s .args in
-    let t = n .loop-test .taken in
-    let z = c .before .before .before .before in
-    (omega (arith, t), (c .before .before .set-scalar .kept .0 ∙ l .inv .1 .0, turn (g .words .now) (g .a) (g .b) (g .c) (g .d) (u .fraction .result .alpha) (s .pre .1 .0) (s .pre .1 .1) (s .pre .0 .2) (l .k) _ _ _ _ _ (omega (arith, t)) (l .inv .1 .1) (c .before .before .before .before .before .before .before .scalar-from .ensures) (c .before .before .before .before .before .scalar-from2 .ensures) (z .between .ensures ∙ between-own _ _ _ _ (u .fraction .ensures)) (c .before .before .set-scalar .ensures)))
+    let at-set-scalar = c .before .before in
+    let at-between = at-set-scalar .before .before in
+    let at-scalar-from2 = at-between .before in
+    let at-scalar-from = at-scalar-from2 .before .before in
+    let in-loop = at-scalar-from .before .before in
+    let at-loop = in-loop .before in
+    let at-fraction = at-loop .before in
+    let k = at-fraction .before .before in
+    let l = at-loop .loop in
+    let g = k .args in
+    let t = in-loop .loop-test .taken in
+    (omega (arith, t), (at-set-scalar .set-scalar .kept .0 ∙ l .inv .1 .0, turn (g .words .now) (g .a) (g .b) (g .c) (g .d) (at-fraction .fraction .result .alpha) (k .pre .1 .0) (k .pre .1 .1) (k .pre .0 .2) (l .k) _ _ _ _ _ (omega (arith, t)) (l .inv .1 .1) (at-scalar-from .scalar-from .ensures) (at-scalar-from2 .scalar-from2 .ensures) (at-between .between .ensures ∙ between-own _ _ _ _ (at-fraction .fraction .ensures)) (at-set-scalar .set-scalar .ensures)))
 
 same-length : tie.Need-same-length Inv-loop μ-loop
 same-length c = c .before .loop .inv .1 .0

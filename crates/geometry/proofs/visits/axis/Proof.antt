@@ -21,6 +21,12 @@ Inv-loop points dim count k e d₀ last₀ i₀ d last i = (i ≤ count) × ((le
 abbrev μ-loop : tie.MeasureT-loop
 μ-loop points dim count k e d₀ last₀ i₀ d last i = count - i
 
+abbrev from-loop : tie.At-loop Inv-loop μ-loop → tie.Start Inv-loop μ-loop
+from-loop c = c .before .before .before .before .before
+
+abbrev to-in-loop : tie.After-sub Inv-loop μ-loop → tie.In-loop Inv-loop μ-loop
+to-in-loop c = c .before .before .before .before .before
+
 coordinate-requires : tie.Need-coordinate-requires Inv-loop μ-loop
 coordinate-requires c κs =
     let s = c .before .before in
@@ -31,13 +37,15 @@ times-requires : tie.Need-times-requires Inv-loop μ-loop
 times-requires c κs = search needs
 
 loop-holds : tie.Need-loop-holds Inv-loop μ-loop
-loop-holds c = let a = c .before .before .before .before .args in (omega arith, (refl, (flat-none (axisAt (a .points .now) (a .dim) (a .k) (a .e)) _, c .times .ensures)))
+loop-holds c =
+    let k = c .before .before .before .before in
+    let a = k .args in (omega arith, (refl, (flat-none (axisAt (a .points .now) (a .dim) (a .k) (a .e)) _, c .times .ensures)))
 
 coordinate-requires-2 : tie.Need-coordinate-requires-2 Inv-loop μ-loop
 coordinate-requires-2 c κs =
-    let l = c .before in
-    let s = l .before .before .before .before .before in
-    let h : suc (s .args .dim) * suc (l .loop .i) ≤ suc (s .args .dim) * s .args .count = mul-le-mul-left (suc (s .args .dim)) (c .loop-test .taken) in
+    let at-loop = c .before in
+    let k = from-loop at-loop in
+    let h : suc (k .args .dim) * suc (at-loop .loop .i) ≤ suc (k .args .dim) * k .args .count = mul-le-mul-left (suc (k .args .dim)) (c .loop-test .taken) in
     (omega arith, omega arith)
 
 times-weight-requires : tie.Need-times-weight-requires Inv-loop μ-loop
@@ -45,54 +53,61 @@ times-weight-requires c κs = c .before .before .loop .inv .1 .1 .1
 
 coordinate-requires-3 : tie.Need-coordinate-requires-3 Inv-loop μ-loop
 coordinate-requires-3 c κs =
-    let l = c .before .before .before .before in
-    let s = l .before .before .before .before .before in
-    let h : suc (s .args .dim) * suc (l .loop .i) ≤ suc (s .args .dim) * s .args .count = mul-le-mul-left (suc (s .args .dim)) (c .before .before .before .loop-test .taken) in
+    let in-loop = c .before .before .before in
+    let at-loop = in-loop .before in
+    let k = from-loop at-loop in
+    let h : suc (k .args .dim) * suc (at-loop .loop .i) ≤ suc (k .args .dim) * k .args .count = mul-le-mul-left (suc (k .args .dim)) (in-loop .loop-test .taken) in
     (omega arith, omega arith)
 
 sub-requires : tie.Need-sub-requires Inv-loop μ-loop
 sub-requires c κs = search needs
 
 mul-d : tie.Need-mul-d Inv-loop μ-loop
-mul-d c = let s = c .before .before .before .before .before .before .before .before .before .before .before in let l = c .before .before .before .before .before .before in omega (arith, c .before .before .before .before .before .loop-test .taken)
+mul-d c = let in-loop = to-in-loop c in let at-loop = in-loop .before in let k = from-loop at-loop in omega (arith, in-loop .loop-test .taken)
 
 mul-d-2 : tie.Need-mul-d-2 Inv-loop μ-loop
-mul-d-2 c = let s = c .before .before .before .before .before .before .before .before .before .before .before in let l = c .before .before .before .before .before .before in omega (arith, c .before .before .before .before .before .loop-test .taken)
+mul-d-2 c = let in-loop = to-in-loop c in let at-loop = in-loop .before in let k = from-loop at-loop in omega (arith, in-loop .loop-test .taken)
 
 slice-write-d : tie.Need-slice-write-d Inv-loop μ-loop
-slice-write-d c = let s = c .before .before .before .before .before .before .before .before .before .before .before in let l = c .before .before .before .before .before .before in omega (arith, c .before .before .before .before .before .loop-test .taken)
+slice-write-d c = let in-loop = to-in-loop c in let at-loop = in-loop .before in let k = from-loop at-loop in omega (arith, in-loop .loop-test .taken)
 
 mul-d-3 : tie.Need-mul-d-3 Inv-loop μ-loop
-mul-d-3 c = let s = c .before .before .before .before .before .before .before .before .before .before .before in let l = c .before .before .before .before .before .before in omega (arith, c .before .before .before .before .before .loop-test .taken)
+mul-d-3 c = let in-loop = to-in-loop c in let at-loop = in-loop .before in let k = from-loop at-loop in omega (arith, in-loop .loop-test .taken)
 
 add-d : tie.Need-add-d Inv-loop μ-loop
-add-d c = let s = c .before .before .before .before .before .before .before .before .before .before .before in let l = c .before .before .before .before .before .before in omega (arith, c .before .before .before .before .before .loop-test .taken)
+add-d c = let in-loop = to-in-loop c in let at-loop = in-loop .before in let k = from-loop at-loop in omega (arith, in-loop .loop-test .taken)
 
 mul-d-4 : tie.Need-mul-d-4 Inv-loop μ-loop
-mul-d-4 c = let s = c .before .before .before .before .before .before .before .before .before .before .before in let l = c .before .before .before .before .before .before in omega (arith, c .before .before .before .before .before .loop-test .taken)
+mul-d-4 c = let in-loop = to-in-loop c in let at-loop = in-loop .before in let k = from-loop at-loop in omega (arith, in-loop .loop-test .taken)
 
 slice-write-d-2 : tie.Need-slice-write-d-2 Inv-loop μ-loop
-slice-write-d-2 c = let s = c .before .before .before .before .before .before .before .before .before .before .before in let l = c .before .before .before .before .before .before in simp length-set (omega (arith, c .before .before .before .before .before .loop-test .taken))
+slice-write-d-2 c =
+    let in-loop = to-in-loop c in
+    let at-loop = in-loop .before in
+    let k = from-loop at-loop in
+    simp length-set (omega (arith, in-loop .loop-test .taken))
 
 add-i : tie.Need-add-i Inv-loop μ-loop
-add-i c = let s = c .before .before .before .before .before .before .before .before .before .before .before in let l = c .before .before .before .before .before .before in omega (arith, c .before .before .before .before .before .loop-test .taken)
+add-i c = let in-loop = to-in-loop c in let at-loop = in-loop .before in let k = from-loop at-loop in omega (arith, in-loop .loop-test .taken)
 
 loop-less : tie.Need-loop-less Inv-loop μ-loop
 loop-less c = search needs
 
 loop-again : tie.Need-loop-again Inv-loop μ-loop
 loop-again c =
-    let t = c .before .before .before in
-    let l = t .before .before .before in
-    let s = l .before .before .before .before .before in
-    let a = s .args in
-    let w = t .times-weight .ensures in (
+    let at-coordinate3 = c .before in
+    let at-weight = at-coordinate3 .before .before in
+    let at-coordinate2 = at-weight .before in
+    let at-loop = at-coordinate2 .before .before in
+    let k = from-loop at-loop in
+    let a = k .args in
+    let w = at-weight .times-weight .ensures in (
       omega arith,
       (
-        simp length-set (l .loop .inv .1 .0),
+        simp length-set (at-loop .loop .inv .1 .0),
         (
-          flat-next (axisAt (a .points .now) (a .dim) (a .k) (a .e)) _ (l .loop .d) (l .loop .i) (c .sub .result) (omega arith) (l .loop .inv .1 .1 .0)
-              (axis-at (a .points .now) (a .dim) (a .k) (l .loop .i) (a .e) _ _ _ _ (c .before .coordinate3 .ensures ∙ coordinate-is (a .dim) (l .loop .i) (a .k) (a .points .now) (omega arith)) (t .before .coordinate2 .ensures ∙ coordinate-is (a .dim) (l .loop .i) (a .dim) (a .points .now) (omega arith)) (w .1) (c .sub .ensures)),
+          flat-next (axisAt (a .points .now) (a .dim) (a .k) (a .e)) _ (at-loop .loop .d) (at-loop .loop .i) (c .sub .result) (omega arith) (at-loop .loop .inv .1 .1 .0)
+              (axis-at (a .points .now) (a .dim) (a .k) (at-loop .loop .i) (a .e) _ _ _ _ (at-coordinate3 .coordinate3 .ensures ∙ coordinate-is (a .dim) (at-loop .loop .i) (a .k) (a .points .now) (omega arith)) (at-coordinate2 .coordinate2 .ensures ∙ coordinate-is (a .dim) (at-loop .loop .i) (a .dim) (a .points .now) (omega arith)) (w .1) (c .sub .ensures)),
           w .1 ∙ ap (λ (v : Scalar). mulS (a .e) v) (sym (w .0)),
         ),
       ),
@@ -103,10 +118,10 @@ same-length c = search needs
 
 returns : tie.Need-returns Inv-loop μ-loop
 returns c =
-    let l = c .before in
-    let s = l .before .before .before .before .before in
-    let a = s .args in
-    axis-done (a .points .now) (a .d .now) (l .loop .d) (a .dim) (a .count) (l .loop .i) (a .k) (a .e) (s .pre .0 .1) (omega arith) (l .loop .inv .1 .1 .0)
+    let at-loop = c .before in
+    let k = from-loop at-loop in
+    let a = k .args in
+    axis-done (a .points .now) (a .d .now) (at-loop .loop .d) (a .dim) (a .count) (at-loop .loop .i) (a .k) (a .e) (k .pre .0 .1) (omega arith) (at-loop .loop .inv .1 .1 .0)
 
 pub axis-spec : {M : Type 1} → statement M
 axis-spec =

@@ -10,6 +10,14 @@ use borrow.Author.Needs.{needs}
 use Rattle.geometry.proofs.visits.plan_clip.Statement.{statement}
 use Rattle.geometry.proofs.visits.plan_clip.Tie as tie
 
+-- ---- the places
+
+abbrev from-greville-abscissae : tie.After-greville-abscissae → tie.Start
+from-greville-abscissae c = c .before .before .before .before .before .before
+
+abbrev to-enum-told : tie.After-clip → tie.After-enum-told
+to-enum-told c = c .before .before .before
+
 mul-a : tie.Need-mul-a
 mul-a c = search needs
 
@@ -36,18 +44,21 @@ domain-requires c κs = search needs
 
 returns : tie.Need-returns
 returns c =
-    let g = c .before .before .before in
-    let a = g .before .before .before .before .before .before .args in
-    clip-report (a .dim) (a .degree) (a .count) (scalarsOf (a .dim) (a .point-box .now)) (a .resolution) (a .knots .now) (a .points .now) _ (none-degree geop (a .degree) (a .count) (a .knots .now) (g .greville-abscissae .result) (g .greville-abscissae .ensures) (c .before .enum-told2 .given .1)) (c .domain .ensures)
+    let at-enum-told2 = c .before in
+    let at-greville-abscissae = at-enum-told2 .before .before in
+    let k = from-greville-abscissae at-greville-abscissae in
+    let a = k .args in
+    clip-report (a .dim) (a .degree) (a .count) (scalarsOf (a .dim) (a .point-box .now)) (a .resolution) (a .knots .now) (a .points .now) _ (none-degree geop (a .degree) (a .count) (a .knots .now) (at-greville-abscissae .greville-abscissae .result) (at-greville-abscissae .greville-abscissae .ensures) (at-enum-told2 .enum-told2 .given .1)) (c .domain .ensures)
 
 slice-aggregate-clip : tie.Need-slice-aggregate-clip
 slice-aggregate-clip c = search needs
 
 clip-requires : tie.Need-clip-requires
 clip-requires c κs =
-    let g = c .before .before .before .before in
-    let a = g .before .before .before .before .before .before .args in
-    let l : length (g .greville-abscissae .result .at) ≡ 64 = held-long geop (a .degree) (a .count) (a .knots .now) (g .greville-abscissae .result) (omega arith) (g .greville-abscissae .ensures) in
+    let at-greville-abscissae = c .before .before .before .before in
+    let k = from-greville-abscissae at-greville-abscissae in
+    let a = k .args in
+    let l : length (at-greville-abscissae .greville-abscissae .result .at) ≡ 64 = held-long geop (a .degree) (a .count) (a .knots .now) (at-greville-abscissae .greville-abscissae .result) (omega arith) (at-greville-abscissae .greville-abscissae .ensures) in
     ((omega arith, omega arith), (omega (arith, l), (omega arith, omega arith)))
 
 enum-known-hat : tie.Need-enum-known-hat
@@ -58,21 +69,25 @@ enum-told-3 c = search needs
 
 returns-2 : tie.Need-returns-2
 returns-2 c =
-    let k = c .before .before in
-    let g = k .before .before .before .before .before in
-    let a = g .before .before .before .before .before .before .args in
-    clip-skip (a .dim) (a .degree) (a .count) (scalarsOf (a .dim) (a .point-box .now)) (a .resolution) (a .knots .now) (a .points .now) (g .greville-abscissae .result) (k .clip .result) (some-degree geop (a .degree) (a .count) (a .knots .now) (g .greville-abscissae .result) (g .greville-abscissae .ensures) (k .before .before .before .enum-told .given .1)) (g .greville-abscissae .ensures) (k .clip .ensures) (c .enum-told3 .given .1)
+    let at-clip = c .before .before in
+    let at-enum-told = to-enum-told at-clip in
+    let at-greville-abscissae = at-enum-told .before .before in
+    let k = from-greville-abscissae at-greville-abscissae in
+    let a = k .args in
+    clip-skip (a .dim) (a .degree) (a .count) (scalarsOf (a .dim) (a .point-box .now)) (a .resolution) (a .knots .now) (a .points .now) (at-greville-abscissae .greville-abscissae .result) (at-clip .clip .result) (some-degree geop (a .degree) (a .count) (a .knots .now) (at-greville-abscissae .greville-abscissae .result) (at-greville-abscissae .greville-abscissae .ensures) (at-enum-told .enum-told .given .1)) (at-greville-abscissae .greville-abscissae .ensures) (at-clip .clip .ensures) (c .enum-told3 .given .1)
 
 plan-hat-requires : tie.Need-plan-hat-requires
 plan-hat-requires c κs = search needs
 
 returns-3 : tie.Need-returns-3
 returns-3 c =
-    let h = c .before .before in
-    let k = h .before .before in
-    let g = k .before .before .before .before .before in
-    let a = g .before .before .before .before .before .before .args in
-    clip-go (a .dim) (a .degree) (a .count) (scalarsOf (a .dim) (a .point-box .now)) (a .resolution) (a .knots .now) (a .points .now) (g .greville-abscissae .result) (k .clip .result) (some-degree geop (a .degree) (a .count) (a .knots .now) (g .greville-abscissae .result) (g .greville-abscissae .ensures) (k .before .before .before .enum-told .given .1)) (g .greville-abscissae .ensures) (k .clip .ensures) _ _ (h .hat .given .1) (c .plan-hat .ensures)
+    let at-hat = c .before .before in
+    let at-clip = at-hat .before .before in
+    let at-enum-told = to-enum-told at-clip in
+    let at-greville-abscissae = at-enum-told .before .before in
+    let k = from-greville-abscissae at-greville-abscissae in
+    let a = k .args in
+    clip-go (a .dim) (a .degree) (a .count) (scalarsOf (a .dim) (a .point-box .now)) (a .resolution) (a .knots .now) (a .points .now) (at-greville-abscissae .greville-abscissae .result) (at-clip .clip .result) (some-degree geop (a .degree) (a .count) (a .knots .now) (at-greville-abscissae .greville-abscissae .result) (at-greville-abscissae .greville-abscissae .ensures) (at-enum-told .enum-told .given .1)) (at-greville-abscissae .greville-abscissae .ensures) (at-clip .clip .ensures) _ _ (at-hat .hat .given .1) (c .plan-hat .ensures)
 
 pub plan-clip-spec : {M : Type 1} → statement M
 plan-clip-spec =
