@@ -8,17 +8,16 @@ use lib.Ieee.{Float}
 use Rattle.lists.specs.Lists.{part, tab}
 use Rattle.lists.specs.Ring.{wrapped}
 use Rattle.model.specs.NurbCurve.{Piece}
-use Rattle.model.specs.Layout.{slotWords}
-use Rattle.geometry.specs.Slots.{pieceAt, Sized, Held}
+use Rattle.geometry.specs.Slots.{wordsOf, pieceAt, Sized, Held}
 use Rattle.geometry.specs.declared.slots.Shape.{Shape}
 
 -- Where slot number j begins.
 abbrev pub baseOf : Shape → ℕ → ℕ
-baseOf s j = j * slotWords (s .dim) (s .degree) (s .count)
+baseOf s j = j * wordsOf s
 
 -- Where the slot at place j from slot h on begins, in a ring of so many slots.
 abbrev pub ringBase : Shape → ℕ → ℕ → ℕ → ℕ
-ringBase s slots h j = wrapped slots (h + j) * slotWords (s .dim) (s .degree) (s .count)
+ringBase s slots h j = wrapped slots (h + j) * wordsOf s
 
 -- The n pieces that wait in a ring of so many slots, from slot h on.
 unfoldable pub waiting : Shape → List Float → ℕ → ℕ → ℕ → List Piece
@@ -27,14 +26,14 @@ waiting s l slots h n = tab n (λ j. pieceAt s l (ringBase s slots h j))
 -- The ring lies inside the memory, and each slot that waits holds a piece.
 pub record Ring (s : Shape) (l : List Float) (slots h n : ℕ) : Type 0 where
   pub sized : Sized s
-  pub fits : slots * slotWords (s .dim) (s .degree) (s .count) ≤ length l
+  pub fits : slots * wordsOf s ≤ length l
   pub start : h < slots
   pub full : n ≤ slots
   pub held : (j : ℕ) → j < n → Held s l (ringBase s slots h j)
 
 -- The w words from x on lie outside the slot at a.
 abbrev pub Outside : Shape → ℕ → ℕ → ℕ → Type 0
-Outside s a x w = (x + w ≤ a) ⊎ (a + slotWords (s .dim) (s .degree) (s .count) ≤ x)
+Outside s a x w = (x + w ≤ a) ⊎ (a + wordsOf s ≤ x)
 
 -- The memory m is as long as l, and differs from it at most in the slots at a and b.
 pub record Beside (s : Shape) (a b : ℕ) (l m : List Float) : Type 0 where

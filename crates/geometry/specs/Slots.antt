@@ -24,6 +24,10 @@ use Rattle.geometry.specs.declared.slots.Shape.{Shape}
 abbrev pub pointWords : Shape → ℕ
 pointWords s = 2 * suc (s .dim)
 
+-- The words of a slot.
+abbrev pub wordsOf : Shape → ℕ
+wordsOf s = slotWords (s .dim) (s .degree) (s .count)
+
 -- Where the knots of the slot at base begin: behind the count.
 abbrev pub knotsFrom : ℕ → ℕ
 knotsFrom base = base + 1
@@ -111,7 +115,7 @@ pub record Fits (s : Shape) (c : Piece) : Type 0 where
 -- The slot at base lies inside the memory.
 pub record Inside (s : Shape) (l : List Float) (base : ℕ) : Type 0 where
   pub sized : Sized s
-  pub within : base + slotWords (s .dim) (s .degree) (s .count) ≤ length l
+  pub within : base + wordsOf s ≤ length l
 
 -- The slot at base lies inside the memory, and holds a count that it has room for.
 pub record Held (s : Shape) (l : List Float) (base : ℕ) : Type 0 where
@@ -121,7 +125,7 @@ pub record Held (s : Shape) (l : List Float) (base : ℕ) : Type 0 where
 
 -- Two slots that share no word.
 abbrev pub Apart : Shape → ℕ → ℕ → Type 0
-Apart s a b = (a + slotWords (s .dim) (s .degree) (s .count) ≤ b) ⊎ (b + slotWords (s .dim) (s .degree) (s .count) ≤ a)
+Apart s a b = (a + wordsOf s ≤ b) ⊎ (b + wordsOf s ≤ a)
 
 -- ---- what can be cut
 
@@ -145,7 +149,7 @@ pub record Fit (s : Shape) (c : Piece) : Type 0 where
 
 -- The memory m differs from l in the slot at a alone.
 abbrev pub OnlyAt : Shape → List Float → List Float → ℕ → Type 0
-OnlyAt s l m a = (i w : ℕ) → (i + w ≤ a) ⊎ (a + slotWords (s .dim) (s .degree) (s .count) ≤ i) → part m i w ≡ part l i w
+OnlyAt s l m a = (i w : ℕ) → (i + w ≤ a) ⊎ (a + wordsOf s ≤ i) → part m i w ≡ part l i w
 
 -- The cut k is written into the slot at base, and r is the number of the point at which it separates.
 pub record CutAt (s : Shape) (l m : List Float) (base : ℕ) (k : Cut) (r : ℕ) : Type 0 where
@@ -156,7 +160,7 @@ pub record CutAt (s : Shape) (l m : List Float) (base : ℕ) (k : Cut) (r : ℕ)
 -- The memory m differs from l in the slots at a and b alone.
 abbrev pub OnlyAtBoth : Shape → List Float → List Float → ℕ → ℕ → Type 0
 OnlyAtBoth s l m a b =
-    (i w : ℕ) → (i + w ≤ a) ⊎ (a + slotWords (s .dim) (s .degree) (s .count) ≤ i) → (i + w ≤ b) ⊎ (b + slotWords (s .dim) (s .degree) (s .count) ≤ i) → part m i w ≡ part l i w
+    (i w : ℕ) → (i + w ≤ a) ⊎ (a + wordsOf s ≤ i) → (i + w ≤ b) ⊎ (b + wordsOf s ≤ i) → part m i w ≡ part l i w
 
 -- The slot at base holds the piece c in the memory m.
 pub record Holding (s : Shape) (m : List Float) (base : ℕ) (c : Piece) : Type 0 where

@@ -13,10 +13,10 @@ use Rattle.math.specs.Scalars.{geop}
 use Rattle.model.specs.NurbCurve.{Piece}
 use Rattle.model.specs.Subdivide.{Question, Visit, dropped, reported, restricted, halved, badWeight, State, Step, going, over, joined, advance, answered}
 use Rattle.model.specs.Contains.{visit, begun}
-use Rattle.model.specs.Layout.{scalarsOf, slotWords}
+use Rattle.model.specs.Layout.{scalarsOf}
 use Rattle.model.specs.declared.contains.Found.{Found}
 use Rattle.model.specs.Enclosure.{Every}
-use Rattle.geometry.specs.Slots.{pieceAt, Held, Fit}
+use Rattle.geometry.specs.Slots.{wordsOf, pieceAt, Held, Fit}
 use Rattle.geometry.specs.Ring.{waiting, Ring, Beside}
 use Rattle.geometry.specs.declared.slots.Shape.{Shape}
 use Rattle.geometry.specs.declared.subdivide.Outcome.{Outcome}
@@ -78,14 +78,18 @@ hasBadWeight BadWeight = true
 unfoldable pub stateOf : Shape → List Float → ℕ → Search → State
 stateOf s l slots x = record { queue = waiting s l slots (x .head) (x .pending); visited = x .visited; found = foundOf (x .found) }
 
--- The search from l₀ stands at x, in the memory l.
+-- The search that began in the memory l₀, with the piece in slot 0, stands at x, in the memory l. What a visit makes of a piece is `see`.
 pub record Going (see : Piece → Visit) (nodes : ℕ) (s : Shape) (l₀ l : List Float) (x : Search) : Type 0 where
+  -- The pieces that wait stand in the ring,
   pub ring : Ring s l (nodes + 3) (x .head) (x .pending)
+  -- and at most one more than were visited, so that there is room for what a visit hands on.
   pub low : x .pending ≤ x .visited + 1
   pub within : x .visited ≤ nodes
   pub long : length l ≡ length l₀
+  -- What is left to search from here is what was to search from the start.
   pub same : (k : ℕ) → advance see nodes (x .visited + k) (begun (pieceAt s l₀ 0)) ≡ advance see nodes k (stateOf s l (nodes + 3) x)
-  pub rest : drop ((nodes + 3) * slotWords (s .dim) (s .degree) (s .count)) l ≡ drop ((nodes + 3) * slotWords (s .dim) (s .degree) (s .count)) l₀
+  -- Behind the ring nothing has changed.
+  pub rest : drop ((nodes + 3) * wordsOf s) l ≡ drop ((nodes + 3) * wordsOf s) l₀
 
 -- Where the search stands after a visit that came out as o.
 pub record Next (slots : ℕ) (x : Search) (o : Outcome) (y : Search) : Type 0 where
@@ -115,4 +119,4 @@ pub record Begins (s : Shape) (q : Question) (l : List Float) : Type 0 where
 -- The search of the piece in slot 0, in the memory l, has left the memory m and has the answer r; what is behind the ring is as it was.
 pub record RingSearched (s : Shape) (q : Question) (l m : List Float) (r : Found) : Type 0 where
   pub found : r ≡ answered (advance (visit geop q) (q .nodes) (q .nodes) (begun (pieceAt s l 0)))
-  pub rest : drop ((q .nodes + 3) * slotWords (s .dim) (s .degree) (s .count)) m ≡ drop ((q .nodes + 3) * slotWords (s .dim) (s .degree) (s .count)) l
+  pub rest : drop ((q .nodes + 3) * wordsOf s) m ≡ drop ((q .nodes + 3) * wordsOf s) l

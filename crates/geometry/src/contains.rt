@@ -21,14 +21,13 @@ ghost use mathlib.Core.Path.{_≡_};
 ghost use Prim.Native.Nat.{_+_, _*_, _≤_, _<_};
 ghost use lib.ListN.{length};
 ghost use Rattle.math.specs.Scalars.{geop};
-ghost use Rattle.model.specs.Layout.{slotWords};
 ghost use Rattle.model.specs.Contains.{visit};
 ghost use Rattle.model.specs.Subdivide.{positiveZero, complete};
 ghost use Rattle.model.specs.Call.{lent};
 ghost use Rattle.model.specs.Enclosure.{Doubles, Accepted};
 ghost use Rattle.model.specs.Promise.{Answers};
 ghost use Rattle.geometry.specs.Call.{Searches};
-ghost use Rattle.geometry.specs.Slots.{pieceAt, Fit};
+ghost use Rattle.geometry.specs.Slots.{wordsOf, pieceAt, Fit};
 ghost use Rattle.geometry.specs.Ring.{baseOf, ringBase, Ring};
 ghost use Rattle.geometry.specs.State.{foundOf, askedOf, Visited, Begins, RingSearched};
 
@@ -65,7 +64,7 @@ fn visit_next(
     w: usize,
 ) -> Outcome
     requires { ⌜ Ring s (now work) slots (q .head) (q .pending) × (1 ≤ q .pending) × (q .pending + 1 < slots) ⌝ }
-    requires { ⌜ (slots ≤ 0x1000_0000) × (w ≡ slotWords (s .dim) (s .degree) (s .count)) ⌝ }
+    requires { ⌜ (slots ≤ 0x1000_0000) × (w ≡ wordsOf s) ⌝ }
     requires { ⌜ Fit s (pieceAt s (now work) (baseOf s (q .head))) × (2 * s .dim ≤ length (now «point_box»)) ⌝ }
     ensures { λ r.
         let l = now (work .entry) in

@@ -23,7 +23,7 @@ use Rattle.model.specs.Enclosure.{Doubles, Accepted, HitsEnclosed, BoundsInDoma
 use Rattle.model.specs.Paper.{paper}
 use Rattle.model.specs.Promise.{Answers}
 use Rattle.geometry.specs.Call.{Searches}
-use Rattle.geometry.specs.Slots.{pointWords, pieceAt, placed, Fits, Inside, Held}
+use Rattle.geometry.specs.Slots.{wordsOf, pointWords, pieceAt, placed, Fits, Inside, Held}
 use Rattle.geometry.specs.Ring.{ringBase, Ring, Beside}
 use Rattle.geometry.specs.State.{AllFit, Begins}
 use Rattle.model.specs.declared.contains.Found.{Found}
@@ -31,7 +31,7 @@ use Rattle.model.specs.declared.contains.Found.the-variants.{Nothing, Refused}
 use Rattle.model.proofs.Checks.{stated-is}
 use Rattle.model.proofs.Sound.Accepted.{Sizes, sizes}
 use Rattle.geometry.proofs.Lists.Numbers.{length-points, wide-points}
-use Rattle.geometry.proofs.slots.Piece.{wordsOf, length-placed, piece-placed, held-placed}
+use Rattle.geometry.proofs.slots.Piece.{length-placed, piece-placed, held-placed}
 use Rattle.geometry.proofs.slots.Ring.{beside-placed, beside-behind}
 use Rattle.model.proofs.Enclosure.{geop-enclosure}
 use Rattle.model.proofs.Debug.Call.{debug-says}

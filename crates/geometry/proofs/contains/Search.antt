@@ -13,11 +13,11 @@ use Rattle.lists.specs.Ring.{wrapped}
 use Rattle.math.specs.declared.scalars.Scalar.{Scalar}
 use Rattle.math.specs.Scalars.{geop}
 use Rattle.model.specs.NurbCurve.{Piece}
-use Rattle.model.specs.Layout.{scalarsOf, slotWords}
+use Rattle.model.specs.Layout.{scalarsOf}
 use Rattle.model.specs.Subdivide.{Question, Visit, State, Step, going, over, complete, ended, step, advance, answered}
 use Rattle.model.specs.Contains.{visit, begun}
 use Rattle.model.specs.Enclosure.{Every}
-use Rattle.geometry.specs.Slots.{pieceAt, Held, countAt, Fit}
+use Rattle.geometry.specs.Slots.{wordsOf, pieceAt, Held, countAt, Fit}
 use Rattle.geometry.specs.Ring.{baseOf, ringBase, waiting, Ring}
 use Rattle.geometry.specs.State.{foundOf, stateOf, hasBadWeight, Next, Visited, AllFit, askedOf, Going}
 use Rattle.model.specs.declared.contains.Found.{Found}
@@ -73,7 +73,7 @@ module _ (see : Piece → Visit) (nodes : ℕ) (s : Shape) (l₀ : List Float) w
       first : waiting s l₀ (nodes + 3) 0 1 ≡ pieceAt s l₀ 0 ∷ []
       first =
           waiting-pop s l₀ (nodes + 3) 0 0 r
-          ∙ (λ i. pieceAt s l₀ (zero-mul (slotWords (s .dim) (s .degree) (s .count)) i) ∷ waiting-none s l₀ (nodes + 3) (wrapped (nodes + 3) (0 + 1)) i)
+          ∙ (λ i. pieceAt s l₀ (zero-mul (wordsOf s) i) ∷ waiting-none s l₀ (nodes + 3) (wrapped (nodes + 3) (0 + 1)) i)
 
       state : stateOf s l₀ (nodes + 3) origin ≡ begun (pieceAt s l₀ 0)
       state = unfold stateOf foundOf in (λ i. record { queue = first i; visited = 0; found = none })
@@ -137,7 +137,7 @@ module _ (see : Piece → Visit) (nodes : ℕ) (s : Shape) (l₀ : List Float) w
         module _ (m : List Float) (o : Outcome) (kept : length m ≡ length l)
             (w : Visited (see (pieceAt s l (baseOf s (x .head)))) s (ringBase s (nodes + 3) (x .head) (x .pending)) (ringBase s (nodes + 3) (x .head) (x .pending + 1)) l m o) where
           -- what is behind the ring is as it was
-          pub going-rest : drop ((nodes + 3) * slotWords (s .dim) (s .degree) (s .count)) m ≡ drop ((nodes + 3) * slotWords (s .dim) (s .degree) (s .count)) l₀
+          pub going-rest : drop ((nodes + 3) * wordsOf s) m ≡ drop ((nodes + 3) * wordsOf s) l₀
           going-rest = turn-behind see s l m (nodes + 3) x o (g .ring) some-wait going-room w ∙ g .rest
 
           -- a weight is not above zero

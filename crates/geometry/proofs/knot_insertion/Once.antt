@@ -16,8 +16,8 @@ use Rattle.math.specs.Scalars.{geop}
 use Rattle.model.specs.Vector.{Vector}
 use Rattle.model.specs.NurbCurve.{Piece, point}
 use Rattle.model.specs.KnotInsertion.{alpha, blend, knotsWith, pointsWith, insertOnce}
-use Rattle.model.specs.Layout.{pointsOf, slotWords}
-use Rattle.geometry.specs.Slots.{pointWords, pointsFrom, placeOf, word, countAt, vectorAt, knotsAt, blendAt, numbers, pieceAt, placed, Wide, Fits, Inside, Held}
+use Rattle.model.specs.Layout.{pointsOf}
+use Rattle.geometry.specs.Slots.{wordsOf, pointWords, pointsFrom, placeOf, word, countAt, vectorAt, knotsAt, blendAt, numbers, pieceAt, placed, Wide, Fits, Inside, Held}
 use Rattle.geometry.specs.declared.slots.Shape.{Shape}
 use Rattle.model.proofs.Sound.Insert.{length-knots, length-points}
 use Rattle.geometry.proofs.Lists.Copies.{put-front, put-wider}
@@ -101,7 +101,7 @@ module _ (s : Shape) (l : List Float) (base k : ℕ) (t : Float) (held : Held s 
   tail-fits : placeOf s base (suc k) + length tail ≤ length l
   tail-fits =
       let a : placeOf s base k ≤ placeOf s base n = place-le s base k n (omega arith) in
-      let b : placeOf s base (suc n) ≤ base + slotWords (s .dim) (s .degree) (s .count) = place-room s base (suc n) (omega arith) in
+      let b : placeOf s base (suc n) ≤ base + wordsOf s = place-room s base (suc n) (omega arith) in
       let e : length tail ≡ placeOf s base n - placeOf s base k = length-part l (placeOf s base k) (placeOf s base n - placeOf s base k) (omega (arith, place-next s base n, held .inside .within)) in
       omega (arith, place-next s base k, place-next s base n, held .inside .within)
 

@@ -13,17 +13,17 @@ use Rattle.lists.proofs.Part.{length-part, getD-part, part-part}
 use Rattle.lists.proofs.Read.{part-put-other}
 use Rattle.model.specs.NurbCurve.{Piece}
 use Rattle.model.specs.Layout.{pointsOf, slotWords}
-use Rattle.geometry.specs.Slots.{pointWords, pointsFrom, word, countAt, vectorAt, pieceAt, placed, Fits, Inside, Held, Apart}
+use Rattle.geometry.specs.Slots.{wordsOf, pointWords, pointsFrom, word, countAt, vectorAt, pieceAt, placed, Fits, Inside, Held, Apart}
 use Rattle.geometry.specs.declared.slots.Shape.{Shape}
 use Rattle.geometry.proofs.Lists.Numbers.{points-tab, vector-part}
-use Rattle.geometry.proofs.slots.Piece.{wordsOf, room, pieceOf, length-placed, placed-local}
+use Rattle.geometry.proofs.slots.Piece.{room, pieceOf, length-placed, placed-local}
 
 -- ---- one slot by itself
 
 module _ (s : Shape) (l : List Float) (base : ℕ) where
   -- The words of the slot.
   abbrev pub slot : List Float
-  slot = part l base (slotWords (s .dim) (s .degree) (s .count))
+  slot = part l base (wordsOf s)
 
   pub slot-long : Inside s l base → length slot ≡ wordsOf s
   slot-long i = length-part l base (wordsOf s) (i .within)
@@ -81,7 +81,7 @@ other s a b (inl h) = inr h
 other s a b (inr h) = inl h
 
 -- two lists with the same words in a slot hold the same there
-module _ (s : Shape) (l m : List Float) (b : ℕ) (e : part l b (slotWords (s .dim) (s .degree) (s .count)) ≡ part m b (slotWords (s .dim) (s .degree) (s .count))) where
+module _ (s : Shape) (l m : List Float) (b : ℕ) (e : part l b (wordsOf s) ≡ part m b (wordsOf s)) where
   pub held-same : Inside s m b → Held s l b → Held s m b
   held-same i h = held-global s m b i (subst (λ (k : List Float). Held s k 0) e (held-local s l b h))
 
@@ -89,11 +89,11 @@ module _ (s : Shape) (l m : List Float) (b : ℕ) (e : part l b (slotWords (s .d
   piece-same i h = sym (piece-local s m b (held-same i h .room)) ∙ ap (λ (k : List Float). pieceAt s k 0) (sym e) ∙ piece-local s l b (h .room)
 
 module _ (s : Shape) (l : List Float) (a b : ℕ) (c : Piece) (i : Inside s l a) (f : Fits s c) where
-  local-long : length (placed s (part l a (slotWords (s .dim) (s .degree) (s .count))) 0 c) ≡ wordsOf s
+  local-long : length (placed s (part l a (wordsOf s)) 0 c) ≡ wordsOf s
   local-long = length-placed s (slot s l a) 0 (record { sized = i .sized; within = omega (arith, slot-long s l a i) }) c f ∙ slot-long s l a i
 
   -- any stretch beside the slot is as it was
-  pub part-beside : (w : ℕ) → (b + w ≤ a) ⊎ (a + slotWords (s .dim) (s .degree) (s .count) ≤ b) → part (placed s l a c) b w ≡ part l b w
+  pub part-beside : (w : ℕ) → (b + w ≤ a) ⊎ (a + wordsOf s ≤ b) → part (placed s l a c) b w ≡ part l b w
   part-beside w d =
       ap (λ (k : List Float). part k b w) (placed-local s l a c i f)
       ∙ part-put-other l a (placed s (slot s l a) 0 c) b w (omega (arith, local-long, i .within)) (beside d)
@@ -103,7 +103,7 @@ module _ (s : Shape) (l : List Float) (a b : ℕ) (c : Piece) (i : Inside s l a)
       beside (inr h) = inr (omega (arith, local-long))
 
   module _ (d : Apart s a b) where
-    slot-apart : part (placed s l a c) b (slotWords (s .dim) (s .degree) (s .count)) ≡ part l b (slotWords (s .dim) (s .degree) (s .count))
+    slot-apart : part (placed s l a c) b (wordsOf s) ≡ part l b (wordsOf s)
     slot-apart = part-beside (wordsOf s) (other s a b d)
 
     pub inside-apart : Inside s l b → Inside s (placed s l a c) b

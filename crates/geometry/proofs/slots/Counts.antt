@@ -11,7 +11,7 @@ use lib.IntN.{pos}
 use lib.Ieee.{Float, nan, inFloat, inUnsigned, toUnsigned, ofInt, binary64}
 use lib.Ieee.Back.{unsigned-back}
 use Rattle.model.specs.Layout.{slotWords}
-use Rattle.geometry.specs.Slots.{word, countAt, placeOf, pointsFrom, pointWords, Sized, Inside, Held}
+use Rattle.geometry.specs.Slots.{wordsOf, word, countAt, placeOf, pointsFrom, pointWords, Sized, Inside, Held}
 use Rattle.geometry.specs.declared.slots.Shape.{Shape}
 
 -- ---- the count
@@ -71,12 +71,12 @@ module _ (s : Shape) (base : ℕ) where
   place-le i j h = let e : pointWords s * i ≤ pointWords s * j = mul-le-mul-left (pointWords s) h in omega arith
 
   -- the place behind the last point for which there is room
-  pub place-room : (i : ℕ) → i ≤ s .count + s .degree + 1 → placeOf s base i ≤ base + slotWords (s .dim) (s .degree) (s .count)
+  pub place-room : (i : ℕ) → i ≤ s .count + s .degree + 1 → placeOf s base i ≤ base + wordsOf s
   unfolding placeOf slotWords
   place-room i h = let e : pointWords s * i ≤ pointWords s * (s .count + s .degree + 1) = mul-le-mul-left (pointWords s) h in omega arith
 
   -- the knots lie in front of the points, and all of them in the slot
-  pub from-room : pointsFrom s base ≤ base + slotWords (s .dim) (s .degree) (s .count)
+  pub from-room : pointsFrom s base ≤ base + wordsOf s
   unfolding slotWords
   from-room = omega arith
 

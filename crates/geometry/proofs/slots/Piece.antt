@@ -16,15 +16,11 @@ use Rattle.lists.proofs.Read.{part-put-in, part-put-other, getD-put, getD-put-b
 use Rattle.model.specs.Vector.{Vector}
 use Rattle.model.specs.NurbCurve.{Piece}
 use Rattle.model.specs.Layout.{pointsOf, slotWords}
-use Rattle.geometry.specs.Slots.{pointWords, pointsFrom, word, countAt, knotsAt, numbers, pieceAt, placed, Wide, Sized, Fits, Inside, Held}
+use Rattle.geometry.specs.Slots.{wordsOf, pointWords, pointsFrom, word, countAt, knotsAt, numbers, pieceAt, placed, Wide, Sized, Fits, Inside, Held}
 use Rattle.geometry.specs.declared.slots.Shape.{Shape}
 use Rattle.geometry.proofs.Lists.Copies.{put-cover, drop-written}
 use Rattle.geometry.proofs.slots.Counts.{count-back}
 use Rattle.geometry.proofs.Lists.Numbers.{length-numbers, length-points, wide-points, numbers-points, points-numbers}
-
--- The words of a slot.
-abbrev pub wordsOf : Shape → ℕ
-wordsOf s = slotWords (s .dim) (s .degree) (s .count)
 
 -- n points for which there is room, and their knots, lie in the slot
 pub room : (s : Shape) (n : ℕ) → n ≤ s .count + s .degree + 1 → s .count + 2 * s .degree + 3 + pointWords s * n ≤ wordsOf s

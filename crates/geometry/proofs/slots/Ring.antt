@@ -14,11 +14,10 @@ use Rattle.lists.specs.Ring.{wrapped}
 use Rattle.lists.proofs.Tab.{length-tab, tab-ext, tab-cons}
 use Rattle.lists.proofs.Ring.{apart, slot-in, wrapped-in, wrapped-head, wrapped-ne, wrapped-next, wrapped-free}
 use Rattle.model.specs.NurbCurve.{Piece}
-use Rattle.model.specs.Layout.{slotWords}
-use Rattle.geometry.specs.Slots.{pieceAt, placed, Fits, Inside, Held, Apart}
+use Rattle.geometry.specs.Slots.{wordsOf, pieceAt, placed, Fits, Inside, Held, Apart}
 use Rattle.geometry.specs.Ring.{baseOf, ringBase, waiting, Ring, Outside, Beside}
 use Rattle.geometry.specs.declared.slots.Shape.{Shape}
-use Rattle.geometry.proofs.slots.Piece.{wordsOf, length-placed}
+use Rattle.geometry.proofs.slots.Piece.{length-placed}
 use Rattle.geometry.proofs.slots.Apart.{held-same, piece-same, part-beside}
 
 -- ---- memories that differ in a slot or two
@@ -32,7 +31,7 @@ beside-placed s a l c i f = record { long = length-placed s l a i c f; same = λ
 
 module _ (s : Shape) (a b : ℕ) (l m : List Float) (d : Beside s a b l m) where
   -- what is behind both slots is as it was
-  pub beside-behind : (n : ℕ) → a + slotWords (s .dim) (s .degree) (s .count) ≤ n → b + slotWords (s .dim) (s .degree) (s .count) ≤ n → drop n m ≡ drop n l
+  pub beside-behind : (n : ℕ) → a + wordsOf s ≤ n → b + wordsOf s ≤ n → drop n m ≡ drop n l
   beside-behind n f g =
       let k : ℕ = length l - n in
       sym (take-all k (drop n m) (simp length-drop (omega (arith, d .long))))
@@ -44,11 +43,11 @@ module _ (s : Shape) (a b : ℕ) (l m : List Float) (d : Beside s a b l m) where
 
   -- a slot that is neither of the two
   module _ (x : ℕ) (f : Apart s a x) (g : Apart s b x) where
-    outside : (a : ℕ) → Apart s a x → Outside s a x (slotWords (s .dim) (s .degree) (s .count))
+    outside : (a : ℕ) → Apart s a x → Outside s a x (wordsOf s)
     outside a (inl h) = inr h
     outside a (inr h) = inl h
 
-    words : part l x (slotWords (s .dim) (s .degree) (s .count)) ≡ part m x (slotWords (s .dim) (s .degree) (s .count))
+    words : part l x (wordsOf s) ≡ part m x (wordsOf s)
     words = sym (d .same x (wordsOf s) (outside a f) (outside b g))
 
     pub beside-held : Held s l x → Held s m x
@@ -68,7 +67,7 @@ module _ (s : Shape) where
     ring-inside j k = record { sized = r .sized; within = slot-in (wrapped slots (h + j)) slots (wordsOf s) (length l) (wrapped-in slots h j (r .start) k) (r .fits) }
 
     -- the slot of any place ends where the ring does or before
-    pub ring-within : (j : ℕ) → j ≤ slots → ringBase s slots h j + slotWords (s .dim) (s .degree) (s .count) ≤ slots * slotWords (s .dim) (s .degree) (s .count)
+    pub ring-within : (j : ℕ) → j ≤ slots → ringBase s slots h j + wordsOf s ≤ slots * wordsOf s
     ring-within j k = slot-in (wrapped slots (h + j)) slots (wordsOf s) (slots * wordsOf s) (wrapped-in slots h j (r .start) k) (omega arith)
 
     pub ring-apart : (i j : ℕ) → i < j → j < slots → Apart s (ringBase s slots h j) (ringBase s slots h i)
@@ -143,7 +142,7 @@ module _ (s : Shape) where
     }
 
     -- and so is what is behind the ring
-    pub behind-ring : drop (slots * slotWords (s .dim) (s .degree) (s .count)) m ≡ drop (slots * slotWords (s .dim) (s .degree) (s .count)) l
+    pub behind-ring : drop (slots * wordsOf s) m ≡ drop (slots * wordsOf s) l
     behind-ring =
         beside-behind s (ringBase s slots h i) (ringBase s slots h j) l m d (slots * wordsOf s)
         (ring-within l slots h n r i (omega arith)) (ring-within l slots h n r j (omega arith))
@@ -172,7 +171,7 @@ module _ (s : Shape) where
     pub ring-none : Ring s m slots h n
     ring-none = there
 
-    pub push-behind : drop (slots * slotWords (s .dim) (s .degree) (s .count)) m ≡ drop (slots * slotWords (s .dim) (s .degree) (s .count)) l
+    pub push-behind : drop (slots * wordsOf s) m ≡ drop (slots * wordsOf s) l
     push-behind = behind-ring l m slots h n n (n + 1) r (omega arith) (omega arith) (omega arith) nc d
 
     -- one is added

@@ -14,9 +14,8 @@ use Rattle.lists.specs.Ring.{wrapped}
 use Rattle.math.specs.declared.scalars.Scalar.{Scalar}
 use Rattle.math.proofs.Bools.{yes, no, pick-yes, pick-no}
 use Rattle.model.specs.NurbCurve.{Piece}
-use Rattle.model.specs.Layout.{slotWords}
 use Rattle.model.specs.Subdivide.{Visit, State, going, over, after, step}
-use Rattle.geometry.specs.Slots.{pieceAt, Inside, Held, Apart, Fit}
+use Rattle.geometry.specs.Slots.{wordsOf, pieceAt, Inside, Held, Apart, Fit}
 use Rattle.geometry.specs.Ring.{baseOf, ringBase, waiting, Ring, Beside}
 use Rattle.geometry.specs.State.{foundOf, outcomeOf, HandedOn, Visited, children, withReport, hasBadWeight, stateOf, Next}
 use Rattle.model.specs.declared.contains.Found.the-variants.{Refused}
@@ -118,7 +117,7 @@ module _ (see : Piece → Visit) (s : Shape) (l m : List Float) (slots h n : ℕ
   ring-turn : Ring s m slots (wrapped slots (h + 1)) (n + children o)
   ring-turn = ring-after s l m slots g n rest (omega arith) (moved .beside) o (moved .holding)
 
-  behind-turn : drop (slots * slotWords (s .dim) (s .degree) (s .count)) m ≡ drop (slots * slotWords (s .dim) (s .degree) (s .count)) l
+  behind-turn : drop (slots * wordsOf s) m ≡ drop (slots * wordsOf s) l
   behind-turn = push-behind s l m slots g n rest (omega arith) (moved .beside)
 
   goes : (v : ℕ) (f : Option Scalar) → hasBadWeight o ≡ false → step see (waiting s l slots h (suc n)) v f ≡ going (left s l m slots g n rest (omega arith) (moved .beside) (suc v) f o)
@@ -152,7 +151,7 @@ module _ (see : Piece → Visit) (s : Shape) (l m : List Float) (slots : ℕ) (x
     seen′ : Visited (see (pieceAt s l (baseOf s (x .head)))) s (ringBase s slots (x .head) (suc (x .pending - 1))) (ringBase s slots (x .head) (suc (x .pending - 1) + 1)) l m o
     seen′ = subst (λ (k : ℕ). Visited (see (pieceAt s l (baseOf s (x .head)))) s (ringBase s slots (x .head) k) (ringBase s slots (x .head) (k + 1)) l m o) prev w
 
-    pub turn-behind : drop (slots * slotWords (s .dim) (s .degree) (s .count)) m ≡ drop (slots * slotWords (s .dim) (s .degree) (s .count)) l
+    pub turn-behind : drop (slots * wordsOf s) m ≡ drop (slots * wordsOf s) l
     turn-behind = behind-turn see s l m slots (x .head) (x .pending - 1) o ring′ (omega arith) seen′
 
     pub turn-bad : hasBadWeight o ≡ true → step see (waiting s l slots (x .head) (x .pending)) (x .visited) (foundOf (x .found)) ≡ over (Refused 11 (suc (x .visited)))
@@ -177,7 +176,7 @@ module _ (see : Piece → Visit) (s : Shape) (l m : List Float) (slots : ℕ) (x
 
 -- ---- what a turn asks of its visit
 
-module _ (s : Shape) (l : List Float) (slots h n w : ℕ) (r : Ring s l slots h n) (some : 1 ≤ n) (room : n + 1 < slots) (W : w ≡ slotWords (s .dim) (s .degree) (s .count)) where
+module _ (s : Shape) (l : List Float) (slots h n w : ℕ) (r : Ring s l slots h n) (some : 1 ≤ n) (room : n + 1 < slots) (W : w ≡ wordsOf s) where
   -- the places of the code: slot i of slots of w words
   pub slot-is : (j i x : ℕ) → i ≡ wrapped slots (h + j) → x ≡ 0 + i * w → x ≡ ringBase s slots h j
   slot-is j i x I X = X ∙ zero-add (i * w) ∙ (λ k. I k * W k)
