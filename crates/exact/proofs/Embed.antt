@@ -8,8 +8,8 @@ use native.Mathlib.Decide.{decLe}
 use native.Mathlib.Omega.{arith}
 use lib.Dec.{T}
 use lib.IntN.{ℤ, pos, negsuc, negℤ, _+ℤ_, _*ℤ_, +ℤ-negℤ-cancel, +ℤ-assoc, +ℤ-idl, +ℤ-invr, negℤ-+ℤ}
-use Rattle.ring.proofs.Integer.{negℤ-*ℤ}
-use Rattle.ring.proofs.Ring.{by-rep, by-eq, read}
+use Rattle.solver.proofs.Integer.{negℤ-*ℤ}
+use Rattle.solver.proofs.Ring.{by-rep, by-eq, read}
 use Rattle.exact.specs.Fraction.{frac, isPos, addF, negF, mulD}
 use Rattle.exact.specs.Rational.{ℚ, mk, same, _+ℚ_, _*ℚ_, -ℚ_, _-ℚ_, 0ℚ, 1ℚ, invℚ, _÷_, signed, Nn, _≤ℚ_, _<ℚ_, nn-of, not-le→lt, lt→not-le}
 use Rattle.exact.proofs.Field.{ℚring, add-mk, mul-mk, neg-mk, Nn-mk, Nn-mk⁻¹, one-mk, zero-mk}

@@ -9,8 +9,8 @@ use native.Mathlib.Omega.{arith}
 use lib.Dec.{T}
 use lib.IntN.{ℤ, pos, negsuc, negℤ, _+ℤ_, _*ℤ_, +ℤ-idr, zero-*ℤ}
 use std.Quotient.{/-set, /-rec, /-map, /-elim-prop, /-elim-prop₂, /-elim-prop₃}
-use Rattle.ring.proofs.Integer.{*ℤ-unit, *ℤ-assoc}
-use Rattle.ring.proofs.Ring.{CRing, ℤring, by-rep, by-eq, read}
+use Rattle.solver.proofs.Integer.{*ℤ-unit, *ℤ-assoc}
+use Rattle.solver.proofs.Ring.{CRing, ℤring, by-rep, by-eq, read}
 use Rattle.exact.specs.Fraction.{Frac, dn, _~_, mulD, dn-mul, frac, addF, addF-comm, mulF, mulF-comm, negF, isPos, invN}
 use Rattle.exact.specs.Rational.{ℚ, mk, same, lift₂, _+ℚ_, _*ℚ_, -ℚ_, _-ℚ_, 0ℚ, 1ℚ, invℚ, nonneg, Nn, Nn-prop, nn-in, nn-out}
 

@@ -3,7 +3,7 @@
 use mathlib.Core.Path.{_≡_, sym, subst}
 use mathlib.Core.List.{[], _∷_}
 use mathlib.Core.Logic.{_⊎_, inl, inr}
-use Rattle.ring.proofs.Ring.{by-rep, by-eq, read}
+use Rattle.solver.proofs.Ring.{by-rep, by-eq, read}
 use Rattle.exact.specs.Rational.{ℚ, _+ℚ_, _*ℚ_, -ℚ_, _-ℚ_, 0ℚ, 1ℚ, invℚ, lerp, ratio, Nn, _≤ℚ_, _<ℚ_, le-in, nn-of, not-le→lt, lt→not-le}
 use Rattle.exact.proofs.Field.{ℚring, Nn-dec, nn-add, nn-mul, nn-neg, nn-zero, nn-0, nn-1, not-nn-1, nn-inv, *ℚ-inv, *ℚ-comm}
 

@@ -7,7 +7,7 @@ use Prim.Native.Nat.{ℕ, zero, suc, _+_, _*_, _<_}
 use native.Mathlib.Omega.{arith}
 use lib.Dec.{T}
 use lib.IntN.{ℤ, pos, negsuc, negℤ, natAbs, _+ℤ_, _*ℤ_, +ℤ-comm, *ℤ-comm}
-use Rattle.ring.proofs.Ring.{ℤring, by-rep, by-eq, read}
+use Rattle.solver.proofs.Ring.{ℤring, by-rep, by-eq, read}
 
 -- ---- fractions: a numerator, and the denominator less one
 abbrev pub Frac : Type 0

@@ -12,7 +12,7 @@ use lib.Ieee.{Float}
 use lib.Ieee.Bits.{is-true}
 use Rattle.math.proofs.Bools.{and-l, and-r, or-split}
 use Rattle.model.specs.Call.{Curve, Call, curveOf, dimFits, degreeFits, countFits, lengthsFit, numbersUsable, boundsOrdered, weightsFit, knotsFit, nodesFit, stated, areaFits, firstFailed, orElse, sizesRefusal, curveRefusal, refusal, statedWords}
-use Rattle.model.specs.Layout.{slotWords}
+use Rattle.model.specs.Layout.{slotWords, areaWords}
 use Rattle.model.specs.Enclosure.{Every}
 
 -- ---- checks in a row
@@ -150,20 +150,20 @@ sizes-accepted sides box resolution v e = else-none _ _ e .0
 -- ---- the stated words
 
 -- Of sizes that 1, 2, 3 and 9 let through, `statedWords` gives the stated words of document 01,
-pub stated-words : (d p n k : ℕ) → sizesRefusal d p n ≡ 0 → nodesFit k ≡ true → statedWords d p n k ≡ (k + 3) * slotWords d p n
+pub stated-words : (d p n k : ℕ) → sizesRefusal d p n ≡ 0 → nodesFit k ≡ true → statedWords d p n k ≡ areaWords d p n k
 unfolding statedWords
-stated-words d p n k e f = ap (λ (t : Bool). cond t ((k + 3) * slotWords d p n) 0) (λ i. eq-eqb _ _ e i && f i)
+stated-words d p n k e f = ap (λ (t : Bool). cond t (areaWords d p n k) 0) (λ i. eq-eqb _ _ e i && f i)
 
 -- and 0 of any other.
 pub no-sizes : (d p n k : ℕ) → (sizesRefusal d p n ≡ 0 → ⊥) → statedWords d p n k ≡ 0
 unfolding statedWords
-no-sizes d p n k h = ap (λ (t : Bool). cond (t && nodesFit k) ((k + 3) * slotWords d p n) 0) (ne-eqb _ _ h)
+no-sizes d p n k h = ap (λ (t : Bool). cond (t && nodesFit k) (areaWords d p n k) 0) (ne-eqb _ _ h)
 
 pub no-nodes : (d p n k : ℕ) → nodesFit k ≡ false → statedWords d p n k ≡ 0
 unfolding statedWords
-no-nodes d p n k e = ap (λ (t : Bool). cond (eqb (sizesRefusal d p n) 0 && t) ((k + 3) * slotWords d p n) 0) e ∙ both-no (eqb (sizesRefusal d p n) 0)
+no-nodes d p n k e = ap (λ (t : Bool). cond (eqb (sizesRefusal d p n) 0 && t) (areaWords d p n k) 0) e ∙ both-no (eqb (sizesRefusal d p n) 0)
   where
-    both-no : (t : Bool) → cond (t && false) ((k + 3) * slotWords d p n) 0 ≡ 0
+    both-no : (t : Bool) → cond (t && false) (areaWords d p n k) 0 ≡ 0
     both-no true = refl
     both-no false = refl
 

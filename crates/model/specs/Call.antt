@@ -12,7 +12,7 @@ use Rattle.math.specs.Encloses.{isModerate}
 use Rattle.model.specs.NurbCurve.{Piece, weightsPositive}
 use Rattle.model.specs.Subdivide.{Question}
 use Rattle.model.specs.Contains.{couldContain}
-use Rattle.model.specs.Layout.{scalarsOf, pointsOf, slotWords}
+use Rattle.model.specs.Layout.{scalarsOf, pointsOf, areaWords}
 use Rattle.model.specs.declared.contains.Found.{Found}
 use Rattle.model.specs.declared.contains.Found.the-variants.{Refused}
 
@@ -73,7 +73,8 @@ degreeFits v = leb (v .degree) 7
 unfoldable pub countFits : Curve → Bool
 countFits v = leb (v .degree + 1) (v .count) && leb (v .count) 32
 
--- ---- the numbers of a curve, with what is lent beside it: `sides` intervals, of which `box` has the lo and the hi (for the search, one for each axis), and a resolution
+-- ---- the numbers of a curve, with what is lent beside it: `sides` intervals, of which `box` has the lo and the hi
+-- (for the search, one for each axis), and a resolution
 
 -- 4: each slice has its length.
 unfoldable pub lengthsFit : ℕ → List Float → Curve → Bool
@@ -138,7 +139,7 @@ nodesFit nodes = leb nodes 4096
 
 -- Document 01: how many are the stated words of the work area.
 unfoldable pub stated : Call → ℕ
-stated c = (c .nodes + 3) * slotWords (c .curve .dim) (c .curve .degree) (c .curve .count)
+stated c = areaWords (c .curve .dim) (c .curve .degree) (c .curve .count) (c .nodes)
 
 -- 10: the work area is not shorter than its stated words.
 unfoldable pub areaFits : Call → Bool
@@ -175,7 +176,7 @@ refusal c =
 -- The words that a caller has to lend: the stated words, and 0 for sizes that 1, 2, 3 or 9 refuse.
 unfoldable pub statedWords : ℕ → ℕ → ℕ → ℕ → ℕ
 statedWords dim degree count nodes =
-    cond (eqb (sizesRefusal dim degree count) 0 && nodesFit nodes) ((nodes + 3) * slotWords dim degree count) 0
+    cond (eqb (sizesRefusal dim degree count) 0 && nodesFit nodes) (areaWords dim degree count nodes) 0
 
 -- ---- what a call gives, and the work area that it leaves
 

@@ -5,7 +5,7 @@ use Prim.Native.Nat.{ℕ, zero, suc, _+_, _-_, _≤_, _<_}
 use native.Mathlib.Nat.{lt-of-not-le}
 use native.Mathlib.Decide.{decLe}
 use native.Mathlib.Omega.{arith}
-use Rattle.ring.proofs.Ring.{by-rep, read}
+use Rattle.solver.proofs.Ring.{by-rep, read}
 use Rattle.exact.specs.Rational.{ℚ, lerp, ratio, _≤ℚ_, _<ℚ_, lt→not-le}
 use Rattle.exact.specs.Spline.{round, boor, curve, shut, Shut, Fit, On}
 use Rattle.exact.specs.Cut.{Good}

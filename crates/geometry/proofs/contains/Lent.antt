@@ -14,7 +14,7 @@ use Rattle.lists.proofs.Ring.{wrapped-head}
 use Rattle.math.specs.Scalars.{geop, zeroF}
 use Rattle.math.proofs.Bools.{pick-yes, pick-no}
 use Rattle.model.specs.NurbCurve.{Piece}
-use Rattle.model.specs.Layout.{pointsOf, pointAt, slotWords}
+use Rattle.model.specs.Layout.{pointsOf, pointAt, areaWords}
 use Rattle.model.specs.Aabb.{couldMeet}
 use Rattle.model.specs.Subdivide.{advance, answered}
 use Rattle.model.specs.Contains.{visit, begun, couldContain}
@@ -85,7 +85,7 @@ module _ (c : Call) (acc : Accepted c) (area : List Float) (long : length area �
     pub words-in : (m : List Float) → length m ≡ length area → w ≤ length m
     words-in m e = omega (arith, words-are, z .area, long, e)
 
-  ring-in : (c .nodes + 3) * slotWords (c .curve .dim) (c .curve .degree) (c .curve .count) ≤ length area
+  ring-in : areaWords (c .curve .dim) (c .curve .degree) (c .curve .count) (c .nodes) ≤ length area
   ring-in = unfold stated in omega (arith, z .area, long)
 
   pub first-slot : Inside (record { dim = c .curve .dim; degree = c .curve .degree; count = c .curve .count }) area 0
@@ -106,7 +106,7 @@ module _ (c : Call) (acc : Accepted c) (area : List Float) (long : length area �
 
   module _ (w : ℕ) (W : w ≡ statedWords (c .curve .dim) (c .curve .degree) (c .curve .count) (c .nodes)) where
     -- the stated words are cleared, where the words behind them are as they were
-    pub area-left : (l m : List Float) → drop ((c .nodes + 3) * slotWords (c .curve .dim) (c .curve .degree) (c .curve .count)) l ≡ drop ((c .nodes + 3) * slotWords (c .curve .dim) (c .curve .degree) (c .curve .count)) area
+    pub area-left : (l m : List Float) → drop (areaWords (c .curve .dim) (c .curve .degree) (c .curve .count) (c .nodes)) l ≡ drop (areaWords (c .curve .dim) (c .curve .degree) (c .curve .count) (c .nodes)) area
         → m ≡ put l 0 (replicate w zeroF) → m ≡ areaAfter c area
     unfolding areaAfter areaBy
     area-left l m e M =
@@ -155,10 +155,10 @@ module _ (c : Call) (acc : Accepted c) (area : List Float) (long : length area �
       begins = record { ring = ring; few = z .nodes; fits = λ k. subst (λ (p : Piece). AllFit (shapeOf c d acc) (advance (visit geop (question c)) (c .nodes) k (begun p))) (sym piece) (all-fit c d acc k) }
 
       -- what is behind the stated words is as it was
-      pub placed-behind : drop ((c .nodes + 3) * slotWords (c .curve .dim) (c .curve .degree) (c .curve .count)) l ≡ drop ((c .nodes + 3) * slotWords (c .curve .dim) (c .curve .degree) (c .curve .count)) area
+      pub placed-behind : drop (areaWords (c .curve .dim) (c .curve .degree) (c .curve .count) (c .nodes)) l ≡ drop (areaWords (c .curve .dim) (c .curve .degree) (c .curve .count) (c .nodes)) area
       placed-behind =
-          ap (drop ((c .nodes + 3) * slotWords (c .curve .dim) (c .curve .degree) (c .curve .count))) L
-          ∙ beside-behind (shapeOf c d acc) 0 0 area _ (beside-placed (shapeOf c d acc) 0 area (asPiece (c .curve)) first-slot fits) ((c .nodes + 3) * slotWords (c .curve .dim) (c .curve .degree) (c .curve .count)) (omega arith) (omega arith)
+          ap (drop (areaWords (c .curve .dim) (c .curve .degree) (c .curve .count) (c .nodes))) L
+          ∙ beside-behind (shapeOf c d acc) 0 0 area _ (beside-placed (shapeOf c d acc) 0 area (asPiece (c .curve)) first-slot fits) (areaWords (c .curve .dim) (c .curve .degree) (c .curve .count) (c .nodes)) (omega arith) (omega arith)
 
       pub answers : (b : Bool) (r : Found) → b ≡ couldMeet geop (c .curve .dim) (c .curve .degree) (asPiece (c .curve) .points) (boxOf c) → b ≡ true
           → r ≡ answered (advance (visit geop (question c)) (c .nodes) (c .nodes) (begun (pieceAt (shapeOf c d acc) l 0))) → r ≡ searched geop c

@@ -6,7 +6,7 @@ use Prim.Native.Nat.{ℕ, _*_}
 use lib.IntN.{ℤ, pos}
 use lib.Dec.{T}
 use lib.Ieee.{Float, nan, inf, fin, binary64, up, down, fits, isNan, add, mul, le}
-use Rattle.ring.proofs.Ring.{by-rep, read}
+use Rattle.solver.proofs.Ring.{by-rep, read}
 use Rattle.exact.specs.Rational.{ℚ, _+ℚ_, 0ℚ, _≤ℚ_, nn-of}
 use Rattle.exact.proofs.Field.{ℚring}
 use Rattle.exact.proofs.Order.{le-by}

@@ -9,7 +9,7 @@ use lib.IntN.{ℤ}
 use lib.Dec.{T, ltb, eqb, ltb→lt, nltb→le, eqb·suc-zero}
 use lib.Ieee.{Float, nan, inf, fin, binary64, up, down, unlike, round, sum, add, mul, div}
 use lib.Ieee.Fits.{up-pos, down-pos}
-use Rattle.ring.proofs.Ring.{by-rep, by-eq, read}
+use Rattle.solver.proofs.Ring.{by-rep, by-eq, read}
 use Rattle.exact.specs.Rational.{ℚ, _+ℚ_, _*ℚ_, -ℚ_, _-ℚ_, 1ℚ, invℚ, _÷_, signed}
 use Rattle.exact.proofs.Field.{ℚring}
 use Rattle.exact.proofs.Embed.{÷-wide, ÷-add, ÷-sub, ÷-mul, ÷-eq, ÷-one, signed-mul, signed-inv}

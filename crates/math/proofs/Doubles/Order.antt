@@ -6,7 +6,7 @@ use mathlib.Core.Logic.{inl, inr}
 use mathlib.Core.Bool.{Bool, true, false, not}
 use lib.Dec.{T}
 use lib.Ieee.{Float, nan, inf, fin, neg, lt, le, eq, isNan}
-use Rattle.ring.proofs.Ring.{by-rep, read}
+use Rattle.solver.proofs.Ring.{by-rep, read}
 use Rattle.exact.specs.Rational.{ℚ, -ℚ_, _-ℚ_, 0ℚ, 1ℚ, _≤ℚ_, nn-of, lt→not-le}
 use Rattle.exact.proofs.Field.{ℚring}
 use Rattle.exact.proofs.Order.{le-by, le-refl, le-trans as ≤-trans, le-or-lt, 0<1, neg-mono}

@@ -11,7 +11,7 @@ use lib.Dec.{T, eqb, ltb→lt, lt→ltb, eqb→eq}
 use lib.Ieee.{Float, nan, inf, fin, up, down, neg, lt, le, eq, below, level}
 use lib.Ieee.Fits.{up-pos, down-pos}
 use lib.Ieee.Exact.{HasValue}
-use Rattle.ring.proofs.Ring.{by-rep, by-eq, read}
+use Rattle.solver.proofs.Ring.{by-rep, by-eq, read}
 use Rattle.exact.specs.Rational.{ℚ, _+ℚ_, -ℚ_, _-ℚ_, 0ℚ, 1ℚ, _÷_, signed, _≤ℚ_, _<ℚ_, nn-of, not-le→lt, lt→not-le}
 use Rattle.exact.proofs.Field.{ℚring, nn-0}
 use Rattle.exact.proofs.Order.{le-by, nn-le, le-refl, le-trans, le-antisym, lt→le, le-or-lt, neg-mono, neg-lt, neg-0}

@@ -10,7 +10,7 @@ use lib.Dec.{T}
 use lib.Pow.{pow-pos}
 use lib.Ieee.{Float, nan, inf, fin, binary64, low, fits, lt, le, eq, sub}
 use lib.Ieee.Fits.{sub-fits}
-use Rattle.ring.proofs.Ring.{by-rep, by-eq, read}
+use Rattle.solver.proofs.Ring.{by-rep, by-eq, read}
 use Rattle.exact.specs.Rational.{ℚ, _+ℚ_, _*ℚ_, -ℚ_, _-ℚ_, 0ℚ, 1ℚ, invℚ, _÷_, signed, _≤ℚ_, _<ℚ_, nn-of, lt→not-le}
 use Rattle.exact.proofs.Field.{ℚring, nn-add}
 use Rattle.exact.proofs.Order.{le-by, le-refl as ≤-refl, lt-le-trans}

@@ -8,7 +8,7 @@ use Prim.Native.Nat.{ℕ, zero, suc, _*_}
 use lib.IntN.{ℤ, pos}
 use lib.Dec.{T, eqb, eqb·suc-zero}
 use lib.Ieee.{Float, nan, inf, fin, binary64, up, down, round, unlike, mul, neg, eq}
-use Rattle.ring.proofs.Ring.{by-rep, by-eq, read}
+use Rattle.solver.proofs.Ring.{by-rep, by-eq, read}
 use Rattle.exact.specs.Rational.{ℚ, _+ℚ_, _*ℚ_, -ℚ_, _-ℚ_, 0ℚ, 1ℚ, _≤ℚ_, _<ℚ_, lt→not-le}
 use Rattle.exact.proofs.Field.{ℚring, nn-mul}
 use Rattle.exact.proofs.Order.{le-by, le-nn, nn-le, le-refl, le-trans, le-antisym, le-or-lt, lt→le, neg-0, neg-lt, cone}

@@ -8,7 +8,7 @@ use lib.IntN.{pos}
 use lib.Dec.{T}
 use lib.Ieee.{Float, nan, inf, fin, binary64, sub, div, neg, le, eq, ofInt}
 use lib.Ieee.Bits.{is-true}
-use Rattle.ring.proofs.Ring.{by-rep, by-eq, read}
+use Rattle.solver.proofs.Ring.{by-rep, by-eq, read}
 use Rattle.exact.specs.Rational.{ℚ, _+ℚ_, _*ℚ_, -ℚ_, _-ℚ_, 0ℚ, 1ℚ, invℚ, _÷_, _≤ℚ_, lt→not-le}
 use Rattle.exact.proofs.Order.{0<1, le-refl, le-antisym}
 use Rattle.exact.proofs.Field.{ℚring}

@@ -5,7 +5,7 @@ use mathlib.Core.Bool.{true, false}
 use lib.IntN.{pos}
 use lib.Dec.{T}
 use lib.Ieee.{Float, nan, inf, fin, le}
-use Rattle.ring.proofs.Ring.{by-rep, read}
+use Rattle.solver.proofs.Ring.{by-rep, read}
 use Rattle.exact.specs.Rational.{ℚ, _+ℚ_, _*ℚ_, -ℚ_, _-ℚ_, 0ℚ, 1ℚ, lerp, _≤ℚ_}
 use Rattle.exact.proofs.Field.{ℚring}
 use Rattle.exact.proofs.Order.{lerp-ge, lerp-le}

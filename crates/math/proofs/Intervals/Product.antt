@@ -6,7 +6,7 @@ use mathlib.Core.Logic.{inl, inr}
 use lib.Dec.{T}
 use lib.Ieee.{Float, binary64, mul, neg, le, fits}
 use lib.Ieee.Fits.{mul-fits, neg-fits}
-use Rattle.ring.proofs.Ring.{by-rep, read}
+use Rattle.solver.proofs.Ring.{by-rep, read}
 use Rattle.exact.specs.Rational.{ℚ, _*ℚ_, -ℚ_}
 use Rattle.exact.proofs.Field.{ℚring}
 use Rattle.math.specs.Neighbours.{nextUp, nextDown}

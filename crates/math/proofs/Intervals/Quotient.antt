@@ -9,7 +9,7 @@ use lib.IntN.{ℤ, pos}
 use lib.Dec.{T, eqb}
 use lib.Ieee.{Float, nan, inf, fin, binary64, up, down, round, div, neg, lt, le, fits}
 use lib.Ieee.Fits.{div-fits}
-use Rattle.ring.proofs.Ring.{by-rep, by-eq, read}
+use Rattle.solver.proofs.Ring.{by-rep, by-eq, read}
 use Rattle.exact.specs.Rational.{ℚ, _*ℚ_, -ℚ_, 0ℚ, 1ℚ, invℚ, _≤ℚ_, _<ℚ_, lt→not-le}
 use Rattle.exact.proofs.Field.{ℚring, nn-inv, *ℚ-comm, *ℚ-1}
 use Rattle.exact.proofs.Order.{le-nn, nn-le, le-refl, le-trans as ≤-trans, lt→le, le-or-lt, lt-le-trans, neg-neg, neg-0, neg-lt, 0<1, pos-inv, inv-anti}

@@ -11,7 +11,7 @@ use lib.Dec.{T, eqb·suc-zero}
 use lib.Pow.{pow-pos}
 use lib.Ieee.{Float, nan, inf, fin, binary64, low, fits, neg, lt, le, eq, sub, mul, isNan}
 use lib.Ieee.Fits.{sub-fits, mul-fits}
-use Rattle.ring.proofs.Ring.{by-rep, by-eq, read}
+use Rattle.solver.proofs.Ring.{by-rep, by-eq, read}
 use Rattle.exact.specs.Rational.{ℚ, _+ℚ_, _*ℚ_, -ℚ_, _-ℚ_, 0ℚ, 1ℚ, _÷_, signed, _≤ℚ_, _<ℚ_, nn-of, lt→not-le}
 use Rattle.exact.proofs.Field.{ℚring, nn-add}
 use Rattle.exact.proofs.Order.{le-by, cone}

@@ -9,7 +9,7 @@ use lib.IntN.{ℤ, pos}
 use lib.Dec.{T}
 use lib.Ieee.{Float, nan, inf, fin, binary64, fits, isNan, mul, lt, le, neg}
 use lib.Ieee.Fits.{nan-fits}
-use Rattle.ring.proofs.Ring.{by-rep, read}
+use Rattle.solver.proofs.Ring.{by-rep, read}
 use Rattle.exact.specs.Rational.{ℚ, _*ℚ_, 0ℚ, _≤ℚ_, lt→not-le}
 use Rattle.exact.proofs.Field.{ℚring}
 use Rattle.exact.proofs.Order.{le-trans as ≤ℚ-trans, mul-mono}

@@ -6,7 +6,7 @@ use Prim.Native.Nat.{ℕ, _+_}
 use lib.IntN.{pos}
 use lib.Dec.{T}
 use lib.Ieee.{Float, eq}
-use Rattle.ring.proofs.Ring.{by-rep, by-eq, read}
+use Rattle.solver.proofs.Ring.{by-rep, by-eq, read}
 use Rattle.exact.specs.Rational.{ℚ, -ℚ_, _-ℚ_, 0ℚ, 1ℚ, lerp, ratio, _≤ℚ_, _<ℚ_, lt→not-le, not-le→lt}
 use Rattle.exact.proofs.Field.{ℚring}
 use Rattle.exact.proofs.Order.{le-refl, le-antisym}

@@ -12,7 +12,7 @@ use lib.ListN.{length, getD}
 use lib.Ieee.{Float, nan, inf, fin, binary64, prec, ofInt, round}
 use lib.Ieee.Exact.{HasValue}
 use lib.Ieee.Back.{round-whole}
-use Rattle.ring.proofs.Ring.{by-rep, read}
+use Rattle.solver.proofs.Ring.{by-rep, read}
 use Rattle.exact.specs.Rational.{ℚ, _+ℚ_, _*ℚ_, 0ℚ, invℚ, whole, _<ℚ_, lt→not-le}
 use Rattle.exact.specs.Hull.{sum, ξ}
 use Rattle.exact.proofs.Field.{ℚring}

@@ -9,7 +9,7 @@ use lib.Dec.{T}
 use lib.IntN.{pos}
 use lib.ListN.{length}
 use lib.Ieee.{Float, nan, inf, fin, binary64, neg, add, sub, lt, le, fits}
-use Rattle.ring.proofs.Ring.{by-rep, read}
+use Rattle.solver.proofs.Ring.{by-rep, read}
 use Rattle.exact.specs.Rational.{ℚ, -ℚ_, _-ℚ_, 0ℚ, _≤ℚ_, _<ℚ_, nn-of}
 use Rattle.exact.proofs.Field.{ℚring}
 use Rattle.exact.proofs.Order.{le-by, lt→le}

@@ -6,7 +6,7 @@ use mathlib.Core.Bool.{Bool, true, false, _&&_}
 use Prim.Native.Nat.{ℕ, zero, suc, compare, Ordering, Ordering·lt, Ordering·eq, Ordering·gt}
 use lib.Dec.{T, eqb, eqb→eq, isEq}
 use lib.IntN.{ℤ, pos, negsuc, sucℤ, predℤ, negℤ, _+ℤ_, _*ℤ_, suc-pred, +ℤ-idl, +ℤ-idr, +ℤ-assoc, +ℤ-comm, +ℤ-invl, +ℤ-invr, sucℤ-+ℤ, predℤ-+ℤ, sucℤ-*ℤ, predℤ-*ℤ, zero-*ℤ, *ℤ-comm}
-use Rattle.ring.proofs.Integer.{ℤ-step, *ℤ-unit, *ℤ-ldist, *ℤ-assoc}
+use Rattle.solver.proofs.Integer.{ℤ-step, *ℤ-unit, *ℤ-ldist, *ℤ-assoc}
 
 pub record CRing (A : Type 0) : Type 0 where
   pub add : A → A → A
