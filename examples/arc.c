@@ -28,6 +28,10 @@ int main(void)
     static const double box[2 * DIM] = {1.9, 2.1, 1.9, 2.1};
     static const char *const words[] = {"none", "enclosed", "spent"};
 
+    if (!puhlwazo_environment_ok()) {
+        fputs("arc: the floating-point environment is not the one that the library needs (was this linked with -ffast-math?)\n", stderr);
+        return 1;
+    }
     size_t words_needed = puhlwazo_work_words(DIM, DEGREE, COUNT, NODES);
     double *work = malloc(words_needed * sizeof *work);
     uint64_t counts[3];

@@ -25,6 +25,15 @@ mod puhlwazo {
         ) -> u64;
     }
 
+    /// Whether the calling thread's floating-point environment is the one that the library needs: rounding to nearest, subnormal numbers kept, exceptions
+    /// masked. As `puhlwazo_environment_ok` of the header, which is inline and so not in the library.
+    pub fn environment_ok() -> bool {
+        let mut csr = 0u32;
+        // SAFETY: the instruction writes the register MXCSR to these four bytes.
+        unsafe { std::arch::asm!("stmxcsr [{}]", in(reg) &mut csr, options(nostack, preserves_flags)) };
+        csr & 0xffc0 == 0x1f80
+    }
+
     /// A path: control points as lo and hi of each coordinate and of the weight.
     pub struct Curve<'a> {
         pub dim: usize,
@@ -86,9 +95,13 @@ mod puhlwazo {
     }
 }
 
-use puhlwazo::{Curve, Found, curve_could_contain, work_words};
+use puhlwazo::{Curve, Found, curve_could_contain, environment_ok, work_words};
 
 fn main() {
+    if !environment_ok() {
+        eprintln!("arc: the floating-point environment is not the one that the library needs");
+        std::process::exit(1);
+    }
     let curve = Curve {
         dim: 2,
         degree: 2,

@@ -1,48 +1,82 @@
-/* The search of libpuhlwazo.a, for C and C++: does a taught path pass through a box, and between which two parameters?
+/* The search of libpuhlwazo.a, for C and C++ on x86-64: does a taught path pass through a box, and between which two parameters?
  *
- * Build the library with `rt staticlib puhlwazo`; it is then target/staticlib/libpuhlwazo.a, for x86-64. It calls nothing but memcpy and memset, takes no
- * memory of its own, and keeps nothing between two calls, so that several threads may call it at once, each with its own work area and answer.
+ * docs/LINKING.md leads through it. The library calls nothing but memcpy and memset, takes no memory of its own and keeps nothing between two calls: several
+ * threads may call it at once, each with its own work area and answer. A call takes less than 4 KB of stack; where the dynamic linker binds memset in the
+ * first call, 6 KB were seen.
  *
  * What the pointers must be, in every call:
  *   - each points to as many numbers as the length behind it says (counts to 3, bounds to 2), and is aligned for them; none is NULL, also where a length is 0;
  *   - work, counts and bounds overlap neither each other nor anything that is only read;
  *   - nothing else writes to any of it during the call.
+ *
+ * What the floating-point environment of the calling thread must be: rounding to nearest, subnormal numbers kept (neither flush-to-zero nor
+ * denormals-are-zero), all exceptions masked. A program starts so, unless gcc or clang links it with -ffast-math or -Ofast: that flushes subnormal numbers
+ * to zero in the whole program, and so does a shared library that was linked so, as it is loaded. In another environment an answer can be wrong (a box that
+ * the path meets is said to be met nowhere) or the call can die. puhlwazo_environment_ok() tells: ask it in every thread, before the first question.
+ *
  * Nothing more is asked: with any numbers and any lengths a call comes to an end with an answer. What is promised of it stands above the function of the
  * same name in crates/puhlwazo/src/lib.rt, and is proved. */
 #ifndef PUHLWAZO_H
 #define PUHLWAZO_H
 
+#if !defined(__x86_64__) && !defined(_M_X64)
+#error "libpuhlwazo.a is for x86-64"
+#endif
+
 #include <stddef.h>
 #include <stdint.h>
+#include <xmmintrin.h>
 
 #ifdef __cplusplus
 extern "C" {
 #endif
 
-/* The kinds of an answer, in counts[0]. */
+/* Counted up when a declaration below changes its meaning or its form. */
+#define PUHLWAZO_VERSION 1
+
+/* Whether the calling thread's floating-point environment is the one above: 1, or 0. The register MXCSR has it: bit 6 denormals-are-zero, bits 7 to 12 the
+ * masks, bits 13 and 14 the rounding, bit 15 flush-to-zero. */
+static inline int puhlwazo_environment_ok(void)
+{
+    return (_mm_getcsr() & 0xffc0u) == 0x1f80u;
+}
+
+/* The kinds of an answer, in counts[0]. A parameter is a fraction t of the domain: from knots[degree] to knots[count], counted from 0, both included. */
 enum {
-    PUHLWAZO_NONE = 0,     /* the path meets the box nowhere: at no parameter from knots[degree] to knots[count], both included */
-    PUHLWAZO_ENCLOSED = 1, /* every parameter at which it does lies between bounds[0] and bounds[1], these included */
+    PUHLWAZO_NONE = 0,     /* the exact path is in the box at no parameter */
+    PUHLWAZO_ENCLOSED = 1, /* every parameter at which it is lies between bounds[0] and bounds[1], these included; there may be none */
     PUHLWAZO_SPENT = 2,    /* the nodes were used up with counts[2] pieces left: nothing is known */
-    PUHLWAZO_REFUSED = 3   /* the call is refused: by the number that the function gives */
+    PUHLWAZO_REFUSED = 3   /* the call is refused, by the number that the function gives */
 };
 
 /* dim         coordinates: 2 or 3
  * degree      at most 7
  * count       control points: from degree + 1 to 32
  * knots       count + degree + 1 numbers that never fall
- * points      2 * (dim + 1) * count numbers: for each point lo and hi of each coordinate, then lo and hi of its weight; the coordinates are multiplied by the weight
+ * points      2 * (dim + 1) * count numbers: for each point lo and hi of each coordinate, then lo and hi of its weight; the coordinates are multiplied by the
+ *             weight
  * point_box   2 * dim numbers: lo and hi of the box on each axis
- * resolution  pieces of the path that are no larger are not cut
+ * resolution  a piece of the path is not halved where its size, or its part of the domain, is no larger. Cutting a piece down to what the box leaves of it does
+ *             not look at the resolution: with any of them a piece can still be cut
  * nodes       at most so many pieces are visited: at most 4,096
- * work        lent memory: at least puhlwazo_work_words(dim, degree, count, nodes) numbers, with any contents. A refusal by 1 to 10 leaves it as it was; any other
- *             call leaves 0 in the first so many numbers and the rest as it was
+ * work        lent memory: at least puhlwazo_work_words(dim, degree, count, nodes) numbers, with any contents. A refusal by 1 to 10 leaves it as it was; any
+ *             other call leaves 0 in the first so many numbers and the rest as it was
  * counts      gets the kind of the answer, how many pieces were visited, and how many were left (0 unless spent)
- * bounds      gets lo and hi: both finite, and lo at most hi (0 and 0 unless enclosed)
+ * bounds      gets lo and hi: both finite, in the domain, and lo at most hi (0 and 0 unless enclosed)
  *
- * Gives 0, or the number of the refusal:
- *   1 dim   2 degree   3 count   4 a length   5 a number that is not finite or beyond 2^100, or a resolution below 0   6 a lo above its hi
- *   7 a weight not above 0   8 the knots   9 nodes   10 work is too short   11 a weight that reaches 0 in a piece of the path */
+ * Gives 0, or the number of the refusal; of several the least:
+ *    1  dim is not 2 or 3
+ *    2  degree is above 7
+ *    3  count is below degree + 1 or above 32
+ *    4  a length is not the one above
+ *    5  a number is a NaN, infinite or above 2^100 in size, or the resolution is below 0
+ *    6  a lo is above its hi
+ *    7  the lo of a weight is not above 0
+ *    8  the knots fall somewhere; or knots[degree] is not below knots[count]; or a value strictly between these two occurs more than max(degree, 1) times, or
+ *       one of these two values more than degree + 1 times
+ *    9  nodes is above 4,096
+ *   10  work is too short
+ *   11  in a piece that the search cut, the lo of a weight is not above 0 any more: counts[1] tells after how many visits. The curve itself is at fault */
 uint64_t puhlwazo_curve_could_contain(
     size_t dim, size_t degree, size_t count,
     const double *knots, size_t knots_length,
