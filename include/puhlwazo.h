@@ -11,8 +11,8 @@
  *
  * What the floating-point environment of the calling thread must be: rounding to nearest, subnormal numbers kept (neither flush-to-zero nor
  * denormals-are-zero), all exceptions masked. A program starts so, unless gcc or clang links it with -ffast-math or -Ofast: that flushes subnormal numbers
- * to zero in the whole program, and so does a shared library that was linked so, as it is loaded. In another environment an answer can be wrong (a box that
- * the path meets is said to be met nowhere) or the call can die. puhlwazo_environment_ok() tells: ask it in every thread, before the first question.
+ * to zero in the whole program, and so does a shared library that was linked so, as it is loaded. In another environment an answer can be wrong (none, though
+ * the path passes through the box) or the call can die. puhlwazo_environment_ok() tells: ask it in every thread, before the first question.
  *
  * Nothing more is asked: with any numbers and any lengths a call comes to an end with an answer. What is promised of it stands above the function of the
  * same name in crates/puhlwazo/src/lib.rt, and is proved. */

@@ -11,7 +11,7 @@ use Rattle.model.specs.Promise.{Answers}
 use Rattle.model.specs.declared.contains.Found.{Found}
 use Rattle.model.specs.declared.contains.Found.the-variants.{Nothing, Enclosed, Spent, Refused}
 
--- Only a completed search that reported nothing shows that the curve meets the box nowhere.
+-- Only a completed search that reported nothing shows that the curve meets the box at no parameter.
 unfoldable pub isClear : Found → Bool
 isClear (Nothing v) = true
 isClear (Enclosed lo hi v) = false
@@ -24,5 +24,5 @@ pub record Clears (c : Call) (before after : List Float) (r : Bool) : Type 0 whe
   pub result : r ≡ isClear (searched geop c)
   -- The search keeps its promises; of these, the work area's is about what is seen here.
   pub answers : Answers c before after (searched geop c)
-  -- A curve that is clear meets the box nowhere in its domain.
+  -- A curve that is clear meets the box at no parameter t of its domain, both ends included.
   pub clear : r ≡ true → (t : ℚ) → HitAt c t → ⊥

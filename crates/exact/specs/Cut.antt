@@ -1,4 +1,4 @@
--- Which knots are accepted, by document 01's refusal 8 and in the form that the proofs use, and the cut: a value x strictly inside the domain is inserted until
+-- Which knots are accepted, by the scope's refusal 8 and in the form that the proofs use, and the cut: a value x strictly inside the domain is inserted until
 -- it occurs degree + 1 times, and the curve is parted at the first of these knots.
 use mathlib.Core.Path.{_≡_}
 use mathlib.Core.Bool.{Bool, true, false, _&&_}

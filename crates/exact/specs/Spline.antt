@@ -1,10 +1,10 @@
--- Splines over the rationals, one coordinate at a time: de Boor's rounds, first as document 01 draws them and then with the index shifted, and what it means
+-- Splines over the rationals, one coordinate at a time: de Boor's rounds, first as the scope draws them and then with the index shifted, and what it means
 -- that a curve passes a point. p is the degree, n the number of control values c 0, c 1, ..; the knots u 0, u 1, .. count up to number n + p.
 use mathlib.Core.Path.{_≡_}
 use Prim.Native.Nat.{ℕ, zero, suc, pred, _+_, _-_, _≤_, _<_}
 use Rattle.exact.specs.Rational.{ℚ, _≤ℚ_, _<ℚ_, lerp, ratio}
 
--- ---- the curve on paper, in document 01's words and indices
+-- ---- the curve on paper, in the scope's words and indices
 
 -- Point number i after rounds 1 to r at the parameter t. Round r makes of point i the value (1 - a) times point i - 1 plus a times point i, which is `lerp a`,
 -- with a = (t - knot i) / (knot (i + p + 1 - r) - knot i), which is `ratio`.
@@ -33,7 +33,7 @@ pub record Closing (p n : ℕ) (u : ℕ → ℚ) (t : ℚ) (k : ℕ) : Type 0 wh
   pub here : t ≡ u n
 
 -- The span of t is number k. "The end of the domain now belongs to it" (the curve on paper), "with the last span that isn't empty closed as in The NURBS Book,
--- for degree 0 too." (document 02, E3)
+-- for degree 0 too." (request E3)
 pub data Span (p n : ℕ) (u : ℕ → ℚ) (t : ℚ) (k : ℕ) : Type 0 where
   before : HalfOpen p n u t k → Span p n u t k
   closing : Closing p n u t k → Span p n u t k

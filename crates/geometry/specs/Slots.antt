@@ -100,7 +100,7 @@ withSides s l base α =
 abbrev pub Wide : ℕ → List Vector → Type 0
 Wide D points = (i : ℕ) → i < length points → length (point points i) ≡ D
 
--- The sizes of document 01.
+-- The sizes of the scope.
 pub record Sized (s : Shape) : Type 0 where
   pub dim : s .dim ≤ 3
   pub degree : s .degree ≤ 7
@@ -143,7 +143,7 @@ pub record Fit (s : Shape) (c : Piece) : Type 0 where
   pub whole : Whole s c
   pub again : 1 ≤ s .degree → (t : Float) → T (fits binary64 t) → Whole s (fromBy geop (s .degree) t c (within (s .degree) c t) .piece)
 
--- ---- what a cut leaves in the memory (document 02, E6)
+-- ---- what a cut leaves in the memory (request E6)
 -- `memory` is one equation for every word of it, those included that nobody reads again. `others` draws from it that nothing has changed but the slots that were written;
 -- where the piece stands in a slot apart from these, it stands there as before.
 

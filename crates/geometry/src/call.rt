@@ -1,4 +1,4 @@
-// What a call may lend: the checks 1 to 10 of document 01, each equal to its definition. 1 to 3 look at the sizes, 1 to 8 at a curve, 9 and 10 at the nodes and the work area.
+// What a call may lend: the checks 1 to 10 of the scope, each equal to its definition. 1 to 3 look at the sizes, 1 to 8 at a curve, 9 and 10 at the nodes and the work area.
 use crate::nurb_curve::weights_positive;
 ghost use mathlib.Core.Path.{_≡_};
 ghost use Prim.Native.Nat.{suc, max, _+_, _*_, _≤_, _<_};

@@ -154,8 +154,12 @@ fn search_lent(
 //
 // The curve has `count` control points, of `dim` coordinates and a weight, and `degree`. `points` holds lo and hi of each coordinate and, last, of the
 // weight, one point behind the other; each coordinate is multiplied by the weight. `knots` are count + degree + 1 numbers. `point_box` holds lo and hi of
-// the box on each axis. Pieces of the curve are cut down or halved until they are no larger than `resolution`, by at most `nodes` visits. `work` is lent
-// memory, of at least `stated_words` numbers. What it holds at the start changes nothing.
+// the box on each axis. A piece is not halved where its size, or its part of the domain, is no larger than `resolution`; cutting it down to what the box leaves
+// of it (its hat) does not look at that. At most `nodes` pieces are visited. `work` is lent memory, of at least `stated_words` numbers. What it holds at the
+// start changes nothing.
+//
+// `Nothing` says that no parameter of the domain is an exact hit, `Enclosed` that every one lies between lo and hi. A parameter is a fraction t, from the knot
+// numbered `degree` to the knot numbered `count`, counted from 0, both included.
 //
 // Nothing is asked of the caller: every input comes to a result. Each promise is a field of `Answers` (crates/model/specs/Promise.antt), under a sentence:
 // result, paper, memory, encloses, within, zeros, order, debug.

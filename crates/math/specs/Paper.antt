@@ -1,4 +1,4 @@
--- Document 01's values for each case of an answer that is an enum: of a division. Definitions only.
+-- The scope's values for each case of an answer that is an enum: of a division. Definitions only.
 use Prim.Native.Nat.{ℕ}
 use mathlib.Core.Path.{_≡_}
 use mathlib.Core.Option.{Option, none, some}

@@ -149,7 +149,7 @@ sizes-accepted sides box resolution v e = else-none _ _ e .0
 
 -- ---- the stated words
 
--- Of sizes that 1, 2, 3 and 9 let through, `statedWords` gives the stated words of document 01,
+-- Of sizes that 1, 2, 3 and 9 let through, `statedWords` gives the stated words of the scope,
 pub stated-words : (d p n k : ℕ) → sizesRefusal d p n ≡ 0 → nodesFit k ≡ true → statedWords d p n k ≡ areaWords d p n k
 unfolding statedWords
 stated-words d p n k e f = ap (λ (t : Bool). cond t (areaWords d p n k) 0) (λ i. eq-eqb _ _ e i && f i)

@@ -1,4 +1,4 @@
--- Document 01's cases by computation, and laws of the search.
+-- The scope's cases by computation, and laws of the search.
 pub mod Rows
 pub mod Table
 pub mod Spans

@@ -1,4 +1,4 @@
--- What a row of the table of document 01's cases says, and the test that it is right. Doubles are given by their bits, as in the texts.
+-- What a row of the table of the scope's cases says, and the test that it is right. Doubles are given by their bits, as in the texts.
 use Prim.Native.Nat.{ℕ, _+_}
 use mathlib.Core.Bool.{Bool, true, false, _&&_}
 use mathlib.Core.List.{List, [], _∷_, map, zipWith}

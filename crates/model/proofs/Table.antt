@@ -1,4 +1,4 @@
--- Document 01's cases P1 to P10: one table, and one proposition for all its rows, by computation. A row reads as Rows.antt says: `prints` is a text and what it prints, where the first
+-- The scope's cases P1 to P10: one table, and one proposition for all its rows, by computation. A row reads as Rows.antt says: `prints` is a text and what it prints, where the first
 -- of the five values is 1 for enclosed, 2 for spent and 0 for none; the other rows are an operation, its operands and its result. Doubles are their bits.
 use Prim.Native.Nat.{ℕ}
 use mathlib.Core.Path.{_≡_, refl}

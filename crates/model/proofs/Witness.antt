@@ -1,4 +1,4 @@
--- Exact hits there are, at 1/2 and at the domain's end: the call of document 01's case P1, a curve of degree 0, is hit wherever it has a span. Assumes nothing.
+-- Exact hits there are, at 1/2 and at the domain's end: the call of the scope's case P1, a curve of degree 0, is hit wherever it has a span. Assumes nothing.
 use Prim.Native.Nat.{ℕ, zero, suc, _+_, _*_, _<_}
 use mathlib.Core.Path.{_≡_, refl, sym, ap, _∙_, subst}
 use native.Mathlib.Omega.{arith}

@@ -28,7 +28,7 @@ pub record Curve : Type 0 where
 abbrev pub curveOf : ℕ → ℕ → ℕ → List Float → List Float → Curve
 curveOf dim degree count knots points = record { dim = dim; degree = degree; count = count; knots = knots; points = points }
 
--- What the caller lends (document 01). Of the work area it is the length alone, so that what it held cannot matter.
+-- What the caller lends (the scope). Of the work area it is the length alone, so that what it held cannot matter.
 pub record Call : Type 0 where
   pub curve : Curve
   pub box : List Float
@@ -137,7 +137,7 @@ knotsFit v = knotsValid (v .degree) (v .count) (v .knots)
 abbrev pub nodesFit : ℕ → Bool
 nodesFit nodes = leb nodes 4096
 
--- Document 01: how many are the stated words of the work area.
+-- The scope: how many are the stated words of the work area.
 unfoldable pub stated : Call → ℕ
 stated c = areaWords (c .curve .dim) (c .curve .degree) (c .curve .count) (c .nodes)
 

@@ -42,11 +42,11 @@ clip ar dim points ξ hat k (e ∷ es) =
 unfoldable pub carried : ℕ → List Scalar → List Vector → Float
 carried dim box points = maxF (carriedWidth dim points) (widest (map (λ e. toF64 (widthS e)) box))
 
--- A piece that was cut down is handed on. Its weights are tested when both cuts are done (document 01: refusal 11).
+-- A piece that was cut down is handed on. Its weights are tested when both cuts are done (the scope: refusal 11).
 unfoldable pub handOn : ℕ → Restricted → Visit
 handOn dim r = cond (weightsPositive dim (r .piece .points)) (restricted (r .cuts) (r .piece)) badWeight
 
--- Two halves are handed on, with the weights of both tested. Where there was no cut the hat is reported: a failed halving is no error (document 01).
+-- Two halves are handed on, with the weights of both tested. Where there was no cut the hat is reported: a failed halving is no error (the scope).
 unfoldable pub handBoth : ℕ → Scalar → Halves → Visit
 handBoth dim hat uncut = reported hat
 handBoth dim hat (both l r) = cond (weightsPositive dim (l .points) && weightsPositive dim (r .points)) (halved l r) badWeight
@@ -62,7 +62,7 @@ shrink ar q c (Over hat) =
     (handOn (q .dim) (restrict ar p (hat .lo) (hat .hi) c))
     (cond (halves (start p c) (end c) size w (q .resolution)) (handBoth (q .dim) hat (splitMid ar p c)) (reported hat))
 
--- With abscissae the piece is clipped, from its whole domain on; degree 0 has none and reports its domain uncut (document 01).
+-- With abscissae the piece is clipped, from its whole domain on; degree 0 has none and reports its domain uncut (the scope).
 unfoldable pub clipped : Arithmetic → Question → Piece → Option (List Scalar) → Visit
 clipped ar q c none = reported (domain (start (q .degree) c) (end c))
 clipped ar q c (some ξ) = shrink ar q c (clip ar (q .dim) (c .points) ξ (domain (start (q .degree) c) (end c)) 0 (q .box))
@@ -80,7 +80,7 @@ visit ar q c =
 abbrev pub begun : Piece → State
 begun c = record { queue = c ∷ []; visited = 0; found = none }
 
--- curve_could_contain: a box that misses gives nothing, even with nodes 0 (document 01); else the search takes at most all its nodes.
+-- curve_could_contain: a box that misses gives nothing, even with nodes 0 (the scope); else the search takes at most all its nodes.
 unfoldable pub couldContain : Arithmetic → Question → Piece → Found
 couldContain ar q c =
     cond (couldMeet ar (q .dim) (q .degree) (c .points) (q .box))

@@ -1,4 +1,4 @@
--- The search as the Rust's debug build has it, and the law that it says the same (document 02, E14). Definitions only.
+-- The search as the Rust's debug build has it, and the law that it says the same (request E14). Definitions only.
 -- The definitions of Vector to Call again, under the same names, with every interval made by an operation of Tested; where the Rust branches before it forms one, so does this.
 -- Other files call this one `debug`: `debug.visit` is `visit` with the tests. It forms the Rust's intervals, and these besides: those that are lent, first of all; a value that
 -- the Rust already holds as an interval of that one value, as a knot, again where it is used (`tested.sharp`); and the box of a piece, which the Rust keeps, again in its visit.
@@ -400,7 +400,7 @@ searchedBy c (suc n) = fine (Refused (suc n) 0)
 unfoldable pub searched : Call → Tested Found
 searched c = searchedBy c (refusal c)
 
--- ---- document 02, E14
+-- ---- request E14
 
 -- With the tests the call comes to the answer r: no test has fired.
 abbrev pub DebugSays : Call → Found → Type 0

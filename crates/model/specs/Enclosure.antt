@@ -1,4 +1,4 @@
--- Demand 3, over document 01's words: what an exact hit is, and where the bounds of a result lie. Definitions only.
+-- Demand 3, over the scope's words: what an exact hit is, and where the bounds of a result lie. Definitions only.
 use Prim.Native.Nat.{ℕ, suc, _+_, _*_, _≤_, _<_}
 use mathlib.Core.Path.{_≡_}
 use mathlib.Core.Bool.{true, false, _&&_}

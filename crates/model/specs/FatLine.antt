@@ -67,7 +67,7 @@ fatLineZeros ar ξ d =
 unfoldable pub cartesian : ℕ → Vector → List Float
 cartesian dim q = tab dim (λ k. div binary64 (middle (coordinate q k)) (middle (coordinate q dim)))
 
--- powi(2) is one multiplication (document 01).
+-- powi(2) is one multiplication (the scope).
 abbrev pub square : Float → Float
 square x = mul binary64 x x
 

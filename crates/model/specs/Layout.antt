@@ -28,10 +28,10 @@ pointAt D l i = tab D (λ k. scalarAt l (D * i + k))
 unfoldable pub pointsOf : ℕ → ℕ → List Float → List Vector
 pointsOf D n l = tab n (λ i. pointAt D l i)
 
--- Document 01: W, the words of a slot, for a curve of n points of degree p.
+-- The scope: W, the words of a slot, for a curve of n points of degree p.
 unfoldable pub slotWords : ℕ → ℕ → ℕ → ℕ
 slotWords dim p n = 2 * suc dim * (n + p + 1) + 2 * (n + 2 * p + 2)
 
--- Document 01: the stated words of the work area, for so many nodes.
+-- The scope: the stated words of the work area, for so many nodes.
 abbrev pub areaWords : ℕ → ℕ → ℕ → ℕ → ℕ
 areaWords dim p n nodes = (nodes + 3) * slotWords dim p n

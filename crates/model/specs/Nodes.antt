@@ -1,4 +1,4 @@
--- More nodes than a search needs change nothing (document 02, E14). Definitions only.
+-- More nodes than a search needs change nothing (request E14). Definitions only.
 use Prim.Native.Nat.{ℕ, _≤_}
 use mathlib.Core.Path.{_≡_}
 use mathlib.Core.List.{List}

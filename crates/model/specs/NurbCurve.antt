@@ -22,7 +22,7 @@ knot knots i = getD knots i nan
 abbrev pub point : List Vector → ℕ → Vector
 point points i = getD points i []
 
--- Document 01: the domain's two ends. The start is the knot numbered degree.
+-- The scope: the domain's two ends. The start is the knot numbered degree.
 abbrev pub start : ℕ → Piece → Float
 start p c = knot (c .knots) p
 
@@ -44,6 +44,6 @@ inDomain a b t = definitelyGreater (sharp t) (sharp a) && definitelyLess (sharp 
 unfoldable pub midParameter : Arithmetic → Float → Float → Float
 midParameter ar a b = middle (valueOr (ar .div (ar .add (sharp a) (sharp b)) TWO) ENTIRE)
 
--- Every weight's lo is above 0. Where this fails for a piece that a cut hands on, the refusal is 11 (document 01).
+-- Every weight's lo is above 0. Where this fails for a piece that a cut hands on, the refusal is 11 (the scope).
 unfoldable pub weightsPositive : ℕ → List Vector → Bool
 weightsPositive dim points = all (λ q. definitelyGreater (coordinate q dim) ZERO) points

@@ -1,4 +1,4 @@
--- Document 01's word, number and values for each case of an answer that is an enum: of the search, and of a clip. (Of a division: crates/math/specs/Paper.antt.) Definitions only.
+-- The scope's word, number and values for each case of an answer that is an enum: of the search, and of a clip. (Of a division: crates/math/specs/Paper.antt.) Definitions only.
 use Prim.Native.Nat.{ℕ}
 use mathlib.Core.Option.{Option, none, some}
 use Rattle.math.specs.declared.scalars.Scalar.{Scalar}
@@ -12,7 +12,7 @@ pub data Result : Type 0 where
   none-found enclosed spent : Result
   refused : ℕ → Result
 
--- What document 01 says of an answer: the five values that the program prints.
+-- What the scope says of an answer: the five values that the program prints.
 pub record Paper : Type 0 where
   pub result : Result
   pub visited : ℕ

@@ -13,7 +13,7 @@ use Rattle.model.specs.declared.contains.Found.{Found}
 pub record Answers (c : Call) (before after : List Float) (r : Found) : Type 0 where
   -- Demand 2: the answer is that of the definition, bounds and counts included.
   pub result : r ≡ searched geop c
-  -- Demand 2: so are the word, the number and the values that document 01 gives for it.
+  -- Demand 2: so are the word, the number and the values that the scope gives for it.
   pub paper : paper r ≡ paper (searched geop c)
   -- Demand 1: a call that 1 to 10 refuse leaves the work area as it was; any other leaves its stated words 0, and the
   -- rest as it was.
@@ -23,9 +23,9 @@ pub record Answers (c : Call) (before after : List Float) (r : Found) : Type 0 w
   pub encloses : HitsEnclosed c r
   -- Demand 3: no bound lies outside the domain.
   pub within : BoundsInDomain (c .curve) r
-  -- Document 01: no bound is a negative zero.
+  -- The scope: no bound is a negative zero.
   pub zeros : BoundsPositiveZero r
-  -- Beside document 02, E14: lo is at most hi, and both are finite.
+  -- Beside request E14: lo is at most hi, and both are finite.
   pub order : BoundsInOrder r
-  -- Document 02, E14: with the tests of the Rust's debug build the search comes to the same answer: no test fires.
+  -- Request E14: with the tests of the Rust's debug build the search comes to the same answer: no test fires.
   pub debug : DebugSays c r

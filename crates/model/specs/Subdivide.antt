@@ -36,7 +36,7 @@ pub data Visit : Type 0 where
 
 -- ---- the state between two visits
 
--- The pieces that wait, the first in front; document 01: visited; and the union of what was reported so far.
+-- The pieces that wait, the first in front; the scope: visited; and the union of what was reported so far.
 pub record State : Type 0 where
   pub queue : List Piece
   pub visited : ℕ
@@ -47,11 +47,11 @@ pub data Step : Type 0 where
   going : State → Step
   over : Found → Step
 
--- A bound as it is given out, with no negative zero (document 01).
+-- A bound as it is given out, with no negative zero (the scope).
 unfoldable pub positiveZero : Float → Float
 positiveZero x = cond (eq x zeroF) zeroF x
 
--- Reports are joined by union (document 01).
+-- Reports are joined by union (the scope).
 unfoldable pub joined : Option Scalar → Scalar → Scalar
 joined none t = t
 joined (some s) t = unionS s t
@@ -69,7 +69,7 @@ after cs v f (restricted n c) = going (record { queue = cs ++ (c ∷ []); visite
 after cs v f (halved l r) = going (record { queue = cs ++ (l ∷ r ∷ []); visited = v; found = f })
 after cs v f badWeight = over (Refused 11 v)
 
--- Whether the search is over before its next visit: no piece waits, or no visit is left for the first of them. Document 01: pending counts that piece and those behind it.
+-- Whether the search is over before its next visit: no piece waits, or no visit is left for the first of them. The scope: pending counts that piece and those behind it.
 unfoldable pub ended : ℕ → List Piece → ℕ → Option Scalar → Option Found
 ended nodes [] v f = some (complete f v)
 ended nodes (c ∷ cs) v f = cond (ltb v nodes) none (some (Spent (suc (length cs)) v))

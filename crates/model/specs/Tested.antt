@@ -63,7 +63,7 @@ fold f b (x ∷ xs) = do fold f (← f b x) xs
 unfoldable pub formed : Float → Float → Tested Scalar
 formed lo hi = cond (le lo hi) (fine (record { lo = lo; hi = hi })) fired
 
--- from_f64, from_i64, lower, upper, midpoint. The Rust has no test there; but document 02 (E14) speaks of every interval with a NaN bound, so here it has one. (ZERO, ONE, TWO and
+-- from_f64, from_i64, lower, upper, midpoint. The Rust has no test there; but request E14 speaks of every interval with a NaN bound, so here it has one. (ZERO, ONE, TWO and
 -- ENTIRE are constants and need none.)
 unfoldable pub sharp : Float → Tested Scalar
 sharp v = formed v v

@@ -1,4 +1,4 @@
--- Refusal 11 and the Rust's panic: document 01 refuses by 11 where a piece that a cut hands on has a weight whose lo is not
+-- Refusal 11 and the Rust's panic: the scope refuses by 11 where a piece that a cut hands on has a weight whose lo is not
 -- above 0, and the Rust panics where a weight could be zero. On the pieces that the search of an accepted call makes this is
 -- one test. Definitions only.
 use Prim.Native.Nat.{ℕ, _≤_}

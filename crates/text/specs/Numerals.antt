@@ -1,4 +1,4 @@
--- Document 01: "Small numbers are decimal without leading zeros;
+-- The scope: "Small numbers are decimal without leading zeros;
 -- doubles are the 16 hexadecimal digits of their bits, either case."
 -- How they are read, and how they are written. Definitions only.
 use Prim.Native.Nat.{ℕ, zero, suc, _+_, _-_, _*_, _/_, _%_}

@@ -1,4 +1,4 @@
--- The text of a question (document 01, 'The program gripcheck'): its lines, and when it is refused by 1, 2, 3 or 12.
+-- The text of a question (the scope, 'The program gripcheck'): its lines, and when it is refused by 1, 2, 3 or 12.
 -- Definitions only.
 use Prim.Native.Nat.{ℕ, zero, suc, _+_, _*_}
 use mathlib.Core.Bool.{cond, _&&_}

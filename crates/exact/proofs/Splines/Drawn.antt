@@ -1,4 +1,4 @@
--- The curve as document 01 draws it and the rounds with the index shifted are the same. Each parameter of the domain, its end too, has exactly one span, no other
+-- The curve as the scope draws it and the rounds with the index shifted are the same. Each parameter of the domain, its end too, has exactly one span, no other
 -- has any, and so the curve has exactly one value at each.
 use mathlib.Core.Path.{_≡_, refl, sym, _∙_, ap, subst}
 use mathlib.Core.Logic.{⊎-elim}

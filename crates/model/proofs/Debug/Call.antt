@@ -1,4 +1,4 @@
--- DOCUMENT 02, E14: no test fires in the search of any call (`never-fires`). Assumes nothing.
+-- REQUEST E14: no test fires in the search of any call (`never-fires`). Assumes nothing.
 use mathlib.Core.Path.{_≡_, refl, sym, ap, _∙_, subst}
 use mathlib.Core.Bool.{Bool, true, false, cond}
 use Prim.Native.Nat.{ℕ, zero, suc, _*_}
