@@ -10,8 +10,8 @@
  *   - nothing else writes to any of it during the call.
  *
  * What the floating-point environment of the calling thread must be: rounding to nearest, subnormal numbers kept (neither flush-to-zero nor
- * denormals-are-zero), all exceptions masked. A program starts so, unless gcc or clang links it with -ffast-math or -Ofast: that flushes subnormal numbers
- * to zero in the whole program, and so does a shared library that was linked so, as it is loaded. In another environment an answer can be wrong (none, though
+ * denormals-are-zero), all exceptions masked. A program starts so, unless gcc or clang links it with -ffast-math, -Ofast or -funsafe-math-optimizations:
+ * that flushes subnormal numbers to zero in the whole program, and so does a shared library that was linked so, as it is loaded. In another environment an answer can be wrong (none, though
  * the path passes through the box) or the call can die. puhlwazo_environment_ok() tells: ask it in every thread, before the first question.
  *
  * Nothing more is asked: with any numbers and any lengths a call comes to an end with an answer. What is promised of it stands above the function of the
@@ -41,7 +41,8 @@ static inline int puhlwazo_environment_ok(void)
     return (_mm_getcsr() & 0xffc0u) == 0x1f80u;
 }
 
-/* The kinds of an answer, in counts[0]. A parameter is a fraction t of the domain: from knots[degree] to knots[count], counted from 0, both included. */
+/* The kinds of an answer, in counts[0]. A parameter t is a rational number on the axis of the knots, from knots[degree] to knots[count] (counted from 0), both
+ * included: this is the domain, and of no other numbers anything is said. */
 enum {
     PUHLWAZO_NONE = 0,     /* the exact path is in the box at no parameter */
     PUHLWAZO_ENCLOSED = 1, /* every parameter at which it is lies between bounds[0] and bounds[1], these included; there may be none */
@@ -86,7 +87,8 @@ uint64_t puhlwazo_curve_could_contain(
     double *work, size_t work_length,
     uint64_t *counts, double *bounds);
 
-/* How many numbers of work area a call with these sizes needs; 0 exactly for sizes that are refused by 1, 2, 3 or 9, whatever else is lent. */
+/* How many numbers of work area a call with these sizes needs; 0 exactly for sizes that are refused by 1, 2, 3 or 9, whatever else is lent: there is nothing to
+ * ask then. */
 size_t puhlwazo_work_words(size_t dim, size_t degree, size_t count, size_t nodes);
 
 #ifdef __cplusplus

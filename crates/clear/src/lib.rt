@@ -5,7 +5,7 @@ ghost use lib.ListN.{length};
 ghost use Rattle.model.specs.Call.{lent};
 ghost use Rattle.clear.specs.Clear.{Clears};
 
-// The search has shown that the curve meets the box at no parameter of its domain, a fraction t, both ends included. A search that was refused or spent has shown nothing.
+// The search has shown that the curve meets the box at no parameter t of its domain, a rational number, both ends included. A search that was refused or spent has shown nothing.
 pub fn is_clear(
     dim: usize,
     degree: usize,

@@ -158,8 +158,8 @@ fn search_lent(
 // of it (its hat) does not look at that. At most `nodes` pieces are visited. `work` is lent memory, of at least `stated_words` numbers. What it holds at the
 // start changes nothing.
 //
-// `Nothing` says that no parameter of the domain is an exact hit, `Enclosed` that every one lies between lo and hi. A parameter is a fraction t, from the knot
-// numbered `degree` to the knot numbered `count`, counted from 0, both included.
+// `Nothing` says that no parameter is an exact hit, `Enclosed` that every exact hit lies between lo and hi. A parameter t is a rational number on the axis of
+// the knots, from the knot numbered `degree` to the knot numbered `count`, counted from 0, both included.
 //
 // Nothing is asked of the caller: every input comes to a result. Each promise is a field of `Answers` (crates/model/specs/Promise.antt), under a sentence:
 // result, paper, memory, encloses, within, zeros, order, debug.
