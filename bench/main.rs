@@ -6,6 +6,8 @@ use geop_core_math::{geop_error::GeopResult, scalars::Scalar, vector::Vector};
 use std::hint::black_box;
 use std::process::exit;
 
+#[path = "../oracle/rust/random.rs"]
+mod random;
 mod workloads;
 use workloads::{Ask, Path, Workload, slot_words, workload};
 

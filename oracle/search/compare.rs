@@ -1,10 +1,13 @@
 //! Asks the search of crates/geometry and the Rust's `curve_could_contain` the same questions, and compares the answers bit for bit.
-//! What the Rust has no answer for, refusals 1 to 10 and the work area, is held to the words of document 01.
+//! What the Rust has no answer for, refusals 1 to 10 and the work area, is held to the words of the scope.
 #[path = "../rust/answers.rs"]
 mod answers;
 mod questions;
+#[path = "../rust/random.rs"]
+mod random;
 use answers::{Answer, expected, hush, refusal};
-use questions::{Question, Rng, extreme, question, stated};
+use questions::{Question, extreme, question, stated};
+use random::Rng;
 
 unsafe extern "C" {
     fn s_search(
@@ -15,7 +18,7 @@ unsafe extern "C" {
 
 // ---- what the port does
 
-/// The port's answer with a work area full of garbage, and whether it left that area as document 01 says.
+/// The port's answer with a work area full of garbage, and whether it left that area as the scope says.
 fn ask_port(r: &mut Rng, q: &Question) -> (Answer, bool) {
     let mut work: Vec<f64> = (0..q.room).map(|_| f64::from_bits(r.next())).collect();
     let before = work.clone();
@@ -54,7 +57,7 @@ fn row_name(i: usize) -> String {
         n => format!("refused {}", n - 2),
     }
 }
-/// Document 02, E14: a search that completes gives the same answer with any number of nodes from its visits on, and is spent with one less.
+/// Request E14: a search that completes gives the same answer with any number of nodes from its visits on, and is spent with one less.
 /// Both are asked: with exactly as many nodes as visits, with more (how many more is taken from the answer's bits), and with one less.
 fn more_nodes_change_nothing(r: &mut Rng, q: &mut Question, answer: Answer) -> bool {
     let visited = answer[2] as usize;
@@ -107,7 +110,7 @@ fn main() {
     let mut words = words.map(|w| w.parse::<u64>().expect("[--extreme] QUESTIONS [SEED]"));
     let (total, seed) = (words.next().unwrap_or(200_000), words.next().unwrap_or(1));
     hush();
-    let mut r = Rng(seed.wrapping_mul(0x9e37_79b9_7f4a_7c15) | 1);
+    let mut r = Rng::of_seed(seed);
     let mut rows = [Row::default(); 15];
     let mut completed = 0;
     for _ in 0..total {
