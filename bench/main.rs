@@ -225,7 +225,7 @@ fn measure(s: &mut Sides, number: usize) {
 }
 
 fn main() {
-    // With either of these the Rust records a backtrace in each of its errors, and most searches make some: it would take twice the time.
+    // With either of these the Rust records a backtrace in each of its errors, and most searches make some.
     for name in ["RUST_BACKTRACE", "RUST_LIB_BACKTRACE"] {
         unsafe { std::env::remove_var(name) };
     }
