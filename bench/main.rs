@@ -6,6 +6,8 @@ use geop_core_math::{geop_error::GeopResult, scalars::Scalar, vector::Vector};
 use std::hint::black_box;
 use std::process::exit;
 
+#[path = "../oracle/rust/random.rs"]
+mod random;
 mod workloads;
 use workloads::{Ask, Path, Workload, slot_words, workload};
 
@@ -223,7 +225,7 @@ fn measure(s: &mut Sides, number: usize) {
 }
 
 fn main() {
-    // With either of these the Rust records a backtrace in each of its errors, and most searches make some: it would take twice the time.
+    // With either of these the Rust records a backtrace in each of its errors, and most searches make some.
     for name in ["RUST_BACKTRACE", "RUST_LIB_BACKTRACE"] {
         unsafe { std::env::remove_var(name) };
     }

@@ -1,25 +1,6 @@
 //! The questions of the benchmark: made with a fixed seed, the same in every run.
+use crate::random::Rng;
 use std::f64::consts::TAU;
-
-struct Rng(u64);
-impl Rng {
-    fn next(&mut self) -> u64 {
-        self.0 ^= self.0 << 13;
-        self.0 ^= self.0 >> 7;
-        self.0 ^= self.0 << 17;
-        self.0.wrapping_mul(0x2545_f491_4f6c_dd1d)
-    }
-    fn below(&mut self, n: usize) -> usize {
-        (self.next() >> 33) as usize % n
-    }
-    fn of<T: Copy>(&mut self, l: &[T]) -> T {
-        l[self.below(l.len())]
-    }
-    /// A number from a to b.
-    fn from(&mut self, a: f64, b: f64) -> f64 {
-        a + (b - a) * ((self.next() >> 11) as f64 / (1u64 << 53) as f64)
-    }
-}
 
 /// A curve as the port takes it: for each point lo and hi of each coordinate times the weight, and of the weight.
 pub struct Path {
@@ -160,7 +141,7 @@ fn beside(r: &mut Rng, c: &Path, place: Place) -> Vec<f64> {
 
 // ---- the workloads
 
-/// The visits that the realistic questions are given: twice what the longest of them takes.
+/// The nodes that the realistic questions are given: about twice what the longest of them takes.
 const NODES: usize = 64;
 
 /// Cubic paths of 8 to 32 points, each asked for boxes on it, near it and off it, with four resolutions.

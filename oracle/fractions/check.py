@@ -1,15 +1,14 @@
 #!/usr/bin/env python3
-"""Demand 3 tried from outside, with exact fractions: see README.md.
+"""Enclosure tried from outside, with exact fractions: see README.md.
 
 Usage: oracle/fractions/check.py [--library FILE | --program FILE] [--break HOW] [QUESTIONS [SEED]]
-Exit status: 0 nothing is wrong; 1 something is; 2 it could not be built.
+Exit status: 0 nothing is wrong; 1 something is; 2 the library could not be built.
 """
 import argparse
 import ctypes
 import math
 import os
 import random
-import shutil
 import struct
 import subprocess
 import sys
@@ -128,7 +127,7 @@ class Question:
 
 
 def acceptable(knots, degree, count):
-    """Whether refusal 8 of document 01 passes over these knots."""
+    """Whether refusal 8 of the scope passes over these knots."""
     a, b = knots[degree], knots[count]
     if not a < b or any(x > y for x, y in zip(knots, knots[1:])) or max(abs(knots[0]), abs(knots[-1])) > MOST:
         return False
@@ -272,7 +271,7 @@ def some_resolution(r):
 
 
 def words(q):
-    """W of document 01."""
+    """W of the scope."""
     return 2 * (q.dim + 1) * (q.count + q.degree + 1) + 2 * (q.count + 2 * q.degree + 2)
 
 
@@ -318,38 +317,27 @@ def text(q):
 # ---- the search
 
 def build():
-    """A library from a copy of the crates, with the exported function as one more module of geometry."""
-    copy, log = os.path.join(WORK, "rattle"), os.path.join(WORK, "staticlib.log")
-    shutil.rmtree(os.path.join(copy, "crates"), ignore_errors=True)
-    os.makedirs(copy, exist_ok=True)
-    shutil.copytree(os.path.join(ROOT, "crates"), os.path.join(copy, "crates"))
-    shutil.copy(os.path.join(ROOT, "crates.txt"), copy)
-    source = os.path.join(copy, "crates", "geometry", "src")
-    shutil.copy(os.path.join(ROOT, "oracle", "search", "exports.txt"), os.path.join(source, "exports.rt"))
-    with open(os.path.join(source, "lib.rt"), "a") as f:
-        f.write("pub mod exports;\n")
-    library = os.path.join(WORK, "libsearch.so")
+    """The C library of crates/puhlwazo, as a shared one."""
+    os.makedirs(WORK, exist_ok=True)
+    log, library = os.path.join(WORK, "library.log"), os.path.join(WORK, "libpuhlwazo.so")
+    archive = os.path.join(ROOT, "target", "staticlib", "libpuhlwazo.a")
+    commands = (["rt", "staticlib", "puhlwazo"], ["gcc", "-shared", "-o", library, "-Wl,--whole-archive", archive, "-Wl,--no-whole-archive"])
     with open(log, "w") as f:
-        made = subprocess.run(["rt", "staticlib", "geometry"], cwd=copy, stdout=f, stderr=f).returncode == 0 and link(copy, library, f)
+        made = all(subprocess.run(words, cwd=ROOT, stdout=f, stderr=f).returncode == 0 for words in commands)
     if not made:
         sys.stderr.write("".join(open(log).readlines()[-40:]) + "oracle/fractions/check.py: the library could not be built\n")
         sys.exit(2)
     return library
 
 
-def link(copy, library, log):
-    archive = os.path.join(copy, "target", "staticlib", "libgeometry.a")
-    return subprocess.run(["gcc", "-shared", "-o", library, "-Wl,--whole-archive", archive, "-Wl,--no-whole-archive"], stdout=log, stderr=log).returncode == 0
-
-
 class Library:
     def __init__(self, path):
-        self.search = ctypes.CDLL(os.path.abspath(path)).s_search
+        self.search = ctypes.CDLL(os.path.abspath(path)).puhlwazo_curve_could_contain
         size, at = ctypes.c_size_t, ctypes.c_void_p
-        self.search.argtypes = [at, size, at, size, at, size, at, size, size, size, size, ctypes.c_double, size, at, at]
-        self.search.restype = None
+        self.search.argtypes = [size, size, size, at, size, at, size, at, size, ctypes.c_double, size, at, size, at, at]
+        self.search.restype = ctypes.c_uint64
         self.work = (ctypes.c_double * (4099 * 416))()
-        self.counts, self.bounds = (ctypes.c_uint64 * 4)(), (ctypes.c_double * 2)()
+        self.counts, self.bounds = (ctypes.c_uint64 * 3)(), (ctypes.c_double * 2)()
         self.junk = random.Random(0).randbytes(8 * 64)
 
     def ask(self, q):
@@ -359,9 +347,9 @@ class Library:
         box = [x for pair in q.box for x in pair]
         box = (ctypes.c_double * len(box))(*box)
         ctypes.memmove(self.work, self.junk, len(self.junk))
-        self.search(knots, len(knots), points, len(points), box, len(box), self.work, (q.nodes + 3) * words(q),
-                    q.dim, q.degree, q.count, q.resolution, q.nodes, self.counts, self.bounds)
-        kind, _, visited, number = self.counts
+        number = self.search(q.dim, q.degree, q.count, knots, len(knots), points, len(points), box, len(box), q.resolution, q.nodes,
+                             self.work, (q.nodes + 3) * words(q), self.counts, self.bounds)
+        kind, visited, _ = self.counts
         return kind, visited, number, self.bounds[0], self.bounds[1]
 
 
@@ -402,7 +390,16 @@ def wrong(q, answer):
     return ""
 
 
-BREAKS = ("lo", "hi", "step", "short", "beyond", "zero", "none", "box")
+BREAKS = {
+    "lo": "lo moved up by 1/64 of the enclosure",
+    "hi": "hi moved down by 1/64 of the enclosure",
+    "step": "lo or hi moved inward by one double",
+    "short": "a hi at the domain's end moved inward by one double",
+    "beyond": "a hi at the domain's end moved past it",
+    "zero": "a bound of 0 made a negative zero",
+    "none": "none instead of enclosed",
+    "box": "the box moved off the point by 1 percent",
+}
 
 
 def broken(r, q, answer, how):
@@ -483,12 +480,13 @@ def show(q, answer, fault):
 
 
 def main():
-    p = argparse.ArgumentParser()
-    p.add_argument("questions", nargs="?", type=int, default=150000)
-    p.add_argument("seed", nargs="?", type=int, default=1)
-    p.add_argument("--library", help="a library that is already built")
-    p.add_argument("--program", help="ask gripcheck, one process for each question")
-    p.add_argument("--break", dest="how", choices=BREAKS, help="make the answers wrong, to see that it is noticed")
+    p = argparse.ArgumentParser(description=__doc__, formatter_class=argparse.RawDescriptionHelpFormatter)
+    p.add_argument("questions", nargs="?", type=int, default=150000, help="how many; 150,000 if not given")
+    p.add_argument("seed", nargs="?", type=int, default=1, help="another one gives other questions; 1 if not given")
+    p.add_argument("--library", metavar="FILE", help="a shared library that is already built")
+    p.add_argument("--program", metavar="FILE", help="ask this gripcheck, one process for each question")
+    p.add_argument("--break", dest="how", metavar="HOW", choices=BREAKS, help="make right answers wrong, to see that it is noticed: "
+                   + "; ".join("%s, %s" % kind for kind in BREAKS.items()))
     o = p.parse_args()
     search = Program(o.program) if o.program else Library(o.library or build())
     r, other = random.Random(o.seed), random.Random(0)

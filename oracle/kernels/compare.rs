@@ -1,7 +1,10 @@
 //! Runs the kernels of crates/geometry and the Rust's functions of the same names on the same random and edge inputs, and compares every bit of the
 //! results but the sign of a zero and the bits of a NaN.
+#[path = "../rust/random.rs"]
+mod random;
 use geop_core_geometry::{aabb, contains::curve, fat_line, knot_insertion, nurb_curve::NurbCurve};
 use geop_core_math::{scalars::Scalar, vector::Vector};
+use random::Rng;
 
 unsafe extern "C" {
     fn k_greville(knots: *const f64, n: usize, degree: usize, count: usize, out: *mut f64, m: usize) -> bool;
@@ -23,25 +26,7 @@ unsafe extern "C" {
     fn k_restrict(work: *mut f64, n: usize, dim: usize, degree: usize, count: usize, to: usize, lo: f64, hi: f64) -> usize;
 }
 
-// ---- random numbers
-struct Rng(u64);
-impl Rng {
-    fn next(&mut self) -> u64 {
-        self.0 ^= self.0 << 13;
-        self.0 ^= self.0 >> 7;
-        self.0 ^= self.0 << 17;
-        self.0.wrapping_mul(0x2545_f491_4f6c_dd1d)
-    }
-    fn below(&mut self, n: usize) -> usize {
-        (self.next() >> 33) as usize % n
-    }
-    fn unit(&mut self) -> f64 {
-        (self.next() >> 11) as f64 / (1u64 << 53) as f64
-    }
-    fn one_in(&mut self, n: usize) -> bool {
-        self.below(n) == 0
-    }
-}
+// ---- numbers
 const EDGES: [f64; 12] = [0.0, -0.0, 1.0, -1.0, 0.5, 2.0, 5e-324, -5e-324, 1e-300, 1.2676506002282294e30, -1.2676506002282294e30, 3.0];
 
 /// A number of one of several kinds, the same kind for a whole question.
@@ -51,7 +36,7 @@ fn number(r: &mut Rng, kind: usize) -> f64 {
         1 => r.unit() * 20.0 - 10.0,
         2 => (r.below(64) as f64 - 32.0) / 8.0,
         3 => (r.unit() - 0.5) * 2f64.powi(r.below(190) as i32 - 95),
-        4 => EDGES[r.below(EDGES.len())],
+        4 => r.of(&EDGES),
         _ => {
             let k = r.below(5);
             number(r, k)
@@ -268,7 +253,7 @@ fn cuts<const D: usize>(t: &mut Tally, r: &mut Rng, c: &Case, points: &[Vector<D
     let (dim, p, n) = (c.dim, c.degree, c.count);
     let (a, b) = (c.knots[p], c.knots[n]);
     let inner: Vec<f64> = c.knots.iter().copied().filter(|&u| a < u && u < b).collect();
-    let x = if !inner.is_empty() && r.one_in(3) { inner[r.below(inner.len())] } else { a + (b - a) * r.unit() };
+    let x = if !inner.is_empty() && r.one_in(3) { r.of(&inner) } else { a + (b - a) * r.unit() };
     let y = a + (b - a) * r.unit();
     let show = || format!("t {x} dim {dim} degree {p} count {n} knots {:?} points {:?}", c.knots, c.points);
     let s = Scalar::from_f64(x);

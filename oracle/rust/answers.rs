@@ -1,4 +1,4 @@
-//! What a question is to be answered with: the refusals 1 to 10 of document 01, and else what the Rust's `curve_could_contain` says.
+//! What a question is to be answered with: the refusals 1 to 10 of the scope, and else what the Rust's `curve_could_contain` says.
 //! The comparisons of the search and of whole texts share it; `questions` is a module of theirs.
 use crate::questions::{MOST, Question, stated};
 use geop_core_geometry::contains::curve::curve_could_contain;
@@ -10,7 +10,7 @@ use std::sync::atomic::{AtomicBool, Ordering::Relaxed};
 /// An answer: its kind (0 nothing, 1 enclosed, 2 spent, 3 refused), pending, visited, the number of the refusal, and the bits of lo and hi.
 pub type Answer = [u64; 6];
 
-/// The number from 1 to 10 by which document 01 refuses a question, or 0.
+/// The number from 1 to 10 by which the scope refuses a question, or 0.
 pub fn refusal(q: &Question) -> u64 {
     let mut numbers = q.knots.iter().chain(&q.points).chain(&q.cell).chain([&q.resolution]);
     let mut intervals = q.points.chunks(2).chain(q.cell.chunks(2));
@@ -87,7 +87,7 @@ fn pending(said: &str) -> Option<u64> {
     let (before, _) = said.split_once(" segments pending")?;
     before.rsplit(' ').next()?.parse().ok()
 }
-/// The Rust's answer; or what it said that is no answer of document 01.
+/// The Rust's answer; or what it said that is no answer of the scope.
 fn ask_rust<const D: usize, const C: usize>(q: &Question) -> Result<Answer, String>
 where
     NurbCurve<D>: ParameterRefinable<C>,
@@ -105,7 +105,7 @@ where
 pub fn refused(number: u64) -> Answer {
     [3, 0, 0, number, 0, 0]
 }
-/// Document 01's refusal, or else the Rust's answer.
+/// The scope's refusal, or else the Rust's answer.
 pub fn expected(q: &Question) -> Result<Answer, String> {
     match refusal(q) {
         0 if q.dim == 2 => ask_rust::<3, 2>(q),

@@ -1,7 +1,7 @@
 //! The two sides, function by function: `ours_*` from the library that is built of exports.txt, and `rust_*` over the
 //! Rust. Both are `extern "C"`, and both are called through a pointer, so that neither is inlined.
 
-use crate::scalars::{self, Scalar};
+use geop_core_math::scalars::{self, Scalar};
 
 /// Where a function puts an interval's bounds.
 pub type Out = [f64; 2];

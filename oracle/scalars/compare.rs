@@ -1,20 +1,13 @@
 //! Runs each operation of the crate math and of the Rust on the same operands, and compares what they give.
-//! Usage: compare COUNT [--time]. The script `run` builds it.
-#![allow(dead_code)]
-
-// The Rust as it stands: `run` makes the link target/oracle/scalars/rust to its folder.
-#[path = "../../target/oracle/scalars/rust/geop_error.rs"]
-mod geop_error;
-#[path = "../../target/oracle/scalars/rust/scalars/mod.rs"]
-mod scalars;
-
+//! Usage: compare COUNT. The script `run` builds it.
 mod calls;
 mod operands;
+#[path = "../rust/random.rs"]
+mod random;
 
 use calls::{Answer, Call, *};
 use operands::{Operands, Takes};
 use std::hint::black_box;
-use std::time::Instant;
 
 const SEED: u64 = 0x9e0b_2024_0517_c0de;
 
@@ -191,51 +184,10 @@ fn zeros() {
     line("  on constants", 0f64.min(-0.0), (-0f64).min(0.0), 0f64.max(-0.0), (-0f64).max(0.0));
 }
 
-/// Nanoseconds for a call, the least of some rounds over the same operands.
-fn nanoseconds(call: Call, operands: &[[f64; 6]]) -> f64 {
-    let call = black_box(call);
-    let rounds = (0..60).map(|_| {
-        let start = Instant::now();
-        for v in operands {
-            black_box(call.on(v));
-        }
-        start.elapsed().as_nanos() as f64 / operands.len() as f64
-    });
-    rounds.fold(f64::INFINITY, f64::min)
-}
-
-fn time(list: &[Operation]) {
-    println!("nanoseconds for a call, through a pointer to an extern \"C\" function on both sides; the least of 60 rounds");
-    println!("{:<20} {:>8} {:>8} {:>8}", "operation", "ours", "Rust", "ratio");
-    let mut operands = Operands::new(SEED);
-    // Ordered intervals of moderate numbers above zero, so that no division fails; alphas from 0 to 1.
-    let tuples: Vec<[f64; 6]> = (0..20_000)
-        .map(|_| {
-            let mut v = [0.0; 6];
-            for x in &mut v {
-                *x = (1 + operands.random.below(1 << 53)) as f64 / (1u64 << 53) as f64;
-            }
-            let mut w = [v[0] * 8.0, v[0] * 8.0 + v[1], v[2] * 8.0, v[2] * 8.0 + v[3], v[4], v[5]];
-            if w[4] > w[5] {
-                w.swap(4, 5);
-            }
-            w
-        })
-        .collect();
-    // The first does nothing but copy: what a call and the loop around it cost.
-    for name in ["lower", "add", "mul", "div", "interpolate", "sqrt"] {
-        let o = list.iter().find(|o| o.name == name).unwrap();
-        let (ours, rust) = (nanoseconds(o.ours, &tuples), nanoseconds(o.rust, &tuples));
-        println!("{name:<20} {ours:>8.2} {rust:>8.2} {:>8.2}", ours / rust);
-    }
-}
-
 fn main() {
-    let words: Vec<String> = std::env::args().skip(1).collect();
-    let count: u64 = words[0].parse().expect("a count");
+    let count: u64 = std::env::args().nth(1).and_then(|w| w.parse().ok()).expect("a count");
     let mut list = operations();
     println!("seed {SEED:016x}, {} random operands beside the edges", grouped(count));
-    let start = Instant::now();
     for takes in Takes::ALL {
         let from = list.iter().position(|o| o.takes == takes).unwrap();
         let to = list.iter().rposition(|o| o.takes == takes).unwrap();
@@ -248,11 +200,7 @@ fn main() {
             println!("{line}");
         }
     }
-    println!("{:.0} seconds", start.elapsed().as_secs_f64());
     zeros();
-    if words.iter().any(|w| w == "--time") {
-        time(&list);
-    }
     let same: Vec<_> = list.iter().filter(|o| o.differ == 0).map(|o| o.name).collect();
     if same.is_empty() {
         println!("every operation differs somewhere");

@@ -1,25 +1,5 @@
 //! The operands: all tuples of a list of edges, and random ones.
-
-/// Splitmix64.
-pub struct Random(pub u64);
-
-impl Random {
-    pub fn next(&mut self) -> u64 {
-        self.0 = self.0.wrapping_add(0x9e37_79b9_7f4a_7c15);
-        let z = (self.0 ^ (self.0 >> 30)).wrapping_mul(0xbf58_476d_1ce4_e5b9);
-        let z = (z ^ (z >> 27)).wrapping_mul(0x94d0_49bb_1331_11eb);
-        z ^ (z >> 31)
-    }
-
-    /// A number below n.
-    pub fn below(&mut self, n: u64) -> u64 {
-        ((self.next() as u128 * n as u128) >> 64) as u64
-    }
-
-    fn of<T: Copy>(&mut self, list: &[T]) -> T {
-        list[self.below(list.len() as u64) as usize]
-    }
-}
+use crate::random::Rng;
 
 /// What an operation takes.
 #[derive(Clone, Copy, PartialEq, Debug)]
@@ -110,23 +90,23 @@ const ALPHAS: [u64; 12] =
     [0, 1 << 63, 1, 1 << 63 | 1, ONE - 1, ONE, ONE + 1, 0x3fe0 << 48, 0x3fd0 << 48, 0x3fe8 << 48, 0x4000 << 48, 0xbff0 << 48];
 
 pub struct Operands {
-    pub random: Random,
+    random: Rng,
     edges: Vec<f64>,
 }
 
 impl Operands {
     pub fn new(seed: u64) -> Self {
-        Operands { random: Random(seed), edges: edges() }
+        Operands { random: Rng(seed), edges: edges() }
     }
 
     /// The exponent between two bounds, the rest any bits.
-    fn scaled(&mut self, least: u64, greatest: u64) -> f64 {
+    fn scaled(&mut self, least: usize, greatest: usize) -> f64 {
         let r = self.random.next();
         let e = least + self.random.below(greatest - least + 1);
-        f64::from_bits(r & !INF | e << 52)
+        f64::from_bits(r & !INF | (e as u64) << 52)
     }
 
-    fn number(&mut self, kind: u64) -> f64 {
+    fn number(&mut self, kind: usize) -> f64 {
         match kind {
             0 => f64::from_bits(self.random.next()),
             1 => self.scaled(1023 - 32, 1023 + 32),
@@ -142,8 +122,8 @@ impl Operands {
 
     /// A number a few steps from x, at times of the other sign.
     fn near(&mut self, x: f64) -> f64 {
-        let b = x.to_bits().wrapping_add(self.random.below(7)).wrapping_sub(3);
-        f64::from_bits(if self.random.below(8) == 0 { b ^ 1 << 63 } else { b })
+        let b = x.to_bits().wrapping_add(self.random.below(7) as u64).wrapping_sub(3);
+        f64::from_bits(if self.random.one_in(8) { b ^ 1 << 63 } else { b })
     }
 
     /// Numbers of one kind, of mixed kinds, or near each other.
@@ -188,7 +168,7 @@ impl Operands {
             *x = match self.random.below(4) {
                 0 => f64::from_bits(self.random.of(&ALPHAS)),
                 1 => self.random.below(9) as f64 / 8.0,
-                _ => (self.random.next() >> 11) as f64 / (1u64 << 53) as f64,
+                _ => self.random.unit(),
             };
         }
         let way = self.random.below(8);
@@ -219,7 +199,7 @@ impl Operands {
     /// Numbers for the square root: any bits, subnormals, squares of whole numbers and what is near to them, and the
     /// hardest to round, times an even power of two.
     fn root(&mut self) -> f64 {
-        let even = f64::from_bits((1023 - 400 + 2 * self.random.below(400)) << 52);
+        let even = f64::from_bits((1023 - 400 + 2 * self.random.below(400) as u64) << 52);
         match self.random.below(8) {
             0 => f64::from_bits(self.random.next()),
             1 | 2 => f64::from_bits(self.random.next() >> 1),
@@ -259,7 +239,7 @@ impl Operands {
             Takes::Alpha => {
                 self.numbers(v);
                 self.intervals(v);
-                if self.random.below(4) > 0 {
+                if !self.random.one_in(4) {
                     self.alpha(&mut v[4..]);
                 }
             }

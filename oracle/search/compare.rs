@@ -1,35 +1,38 @@
-//! Asks the search of crates/geometry and the Rust's `curve_could_contain` the same questions, and compares the answers bit for bit.
-//! What the Rust has no answer for, refusals 1 to 10 and the work area, is held to the words of document 01.
+//! Asks the search of the C library and the Rust's `curve_could_contain` the same questions, and compares the answers bit for bit.
+//! What the Rust has no answer for, refusals 1 to 10 and the work area, is held to the words of the scope.
 #[path = "../rust/answers.rs"]
 mod answers;
 mod questions;
+#[path = "../rust/random.rs"]
+mod random;
 use answers::{Answer, expected, hush, refusal};
-use questions::{Question, Rng, extreme, question, stated};
+use questions::{Question, extreme, question, stated};
+use random::Rng;
 
 unsafe extern "C" {
-    fn s_search(
-        knots: *const f64, knots_len: usize, points: *const f64, points_len: usize, cell: *const f64, cell_len: usize, work: *mut f64, work_len: usize,
-        dim: usize, degree: usize, count: usize, resolution: f64, nodes: usize, counts: &mut [u64; 4], bounds: &mut [f64; 2],
-    );
+    fn puhlwazo_curve_could_contain(
+        dim: usize, degree: usize, count: usize, knots: *const f64, knots_len: usize, points: *const f64, points_len: usize, cell: *const f64, cell_len: usize,
+        resolution: f64, nodes: usize, work: *mut f64, work_len: usize, counts: &mut [u64; 3], bounds: &mut [f64; 2],
+    ) -> u64;
 }
 
 // ---- what the port does
 
-/// The port's answer with a work area full of garbage, and whether it left that area as document 01 says.
+/// The port's answer with a work area full of garbage, and whether it left that area as the scope says.
 fn ask_port(r: &mut Rng, q: &Question) -> (Answer, bool) {
     let mut work: Vec<f64> = (0..q.room).map(|_| f64::from_bits(r.next())).collect();
     let before = work.clone();
-    let (mut counts, mut bounds) = ([u64::MAX; 4], [f64::NAN; 2]);
-    unsafe {
-        s_search(
-            q.knots.as_ptr(), q.knots.len(), q.points.as_ptr(), q.points.len(), q.cell.as_ptr(), q.cell.len(), work.as_mut_ptr(), work.len(),
-            q.dim, q.degree, q.count, q.resolution, q.nodes, &mut counts, &mut bounds,
-        );
-    }
+    let (mut counts, mut bounds) = ([u64::MAX; 3], [f64::NAN; 2]);
+    let number = unsafe {
+        puhlwazo_curve_could_contain(
+            q.dim, q.degree, q.count, q.knots.as_ptr(), q.knots.len(), q.points.as_ptr(), q.points.len(), q.cell.as_ptr(), q.cell.len(),
+            q.resolution, q.nodes, work.as_mut_ptr(), work.len(), &mut counts, &mut bounds,
+        )
+    };
     let words = if refusal(q) == 0 { stated(q) } else { 0 };
     let cleared = work[..words].iter().all(|x| x.to_bits() == 0);
     let kept = work[words..].iter().zip(&before[words..]).all(|(x, y)| x.to_bits() == y.to_bits());
-    let [kind, pending, visited, number] = counts;
+    let [kind, visited, pending] = counts;
     ([kind, pending, visited, number, bounds[0].to_bits(), bounds[1].to_bits()], cleared && kept)
 }
 
@@ -54,7 +57,7 @@ fn row_name(i: usize) -> String {
         n => format!("refused {}", n - 2),
     }
 }
-/// Document 02, E14: a search that completes gives the same answer with any number of nodes from its visits on, and is spent with one less.
+/// Request E14: a search that completes gives the same answer with any number of nodes from its visits on, and is spent with one less.
 /// Both are asked: with exactly as many nodes as visits, with more (how many more is taken from the answer's bits), and with one less.
 fn more_nodes_change_nothing(r: &mut Rng, q: &mut Question, answer: Answer) -> bool {
     let visited = answer[2] as usize;
@@ -107,7 +110,7 @@ fn main() {
     let mut words = words.map(|w| w.parse::<u64>().expect("[--extreme] QUESTIONS [SEED]"));
     let (total, seed) = (words.next().unwrap_or(200_000), words.next().unwrap_or(1));
     hush();
-    let mut r = Rng(seed.wrapping_mul(0x9e37_79b9_7f4a_7c15) | 1);
+    let mut r = Rng::of_seed(seed);
     let mut rows = [Row::default(); 15];
     let mut completed = 0;
     for _ in 0..total {

@@ -1,25 +1,7 @@
-//! Random and edge questions for the search.
+//! Random and edge questions for the search. The comparisons of the search and of whole texts share it; `random` is a module of theirs.
+use crate::random::Rng;
 
-pub struct Rng(pub u64);
 impl Rng {
-    pub fn next(&mut self) -> u64 {
-        self.0 ^= self.0 << 13;
-        self.0 ^= self.0 >> 7;
-        self.0 ^= self.0 << 17;
-        self.0.wrapping_mul(0x2545_f491_4f6c_dd1d)
-    }
-    pub fn below(&mut self, n: usize) -> usize {
-        (self.next() >> 33) as usize % n
-    }
-    pub fn one_in(&mut self, n: usize) -> bool {
-        self.below(n) == 0
-    }
-    fn unit(&mut self) -> f64 {
-        (self.next() >> 11) as f64 / (1u64 << 53) as f64
-    }
-    fn of<T: Copy>(&mut self, l: &[T]) -> T {
-        l[self.below(l.len())]
-    }
     /// A power of two, with an exponent from a to b - 1.
     fn power(&mut self, a: i32, b: i32) -> f64 {
         let e = a + self.below((b - a) as usize) as i32;
@@ -335,7 +317,7 @@ pub fn extreme(r: &mut Rng) -> Question {
 
 // ---- wrong questions
 
-/// Makes a question wrong in one of the ways 1 to 10 of document 01, or leaves it just right.
+/// Makes a question wrong in one of the ways 1 to 10 of the scope, or leaves it just right.
 fn spoil(r: &mut Rng, q: &mut Question) {
     match 1 + r.below(10) {
         1 => q.dim = r.of(&[0, 1, 4, 5, usize::MAX]),

@@ -1,11 +1,15 @@
-//! Hands the same texts to `respond` of crates/text, which gives what the program gripcheck prints, and to document 01 and the Rust, and compares the
+//! Hands the same texts to `respond` of crates/text, which gives what the program gripcheck prints, and to the scope and the Rust, and compares the
 //! outputs byte for byte. With `--store FOLDER` it writes questions and expected answers to files instead.
 #[path = "../rust/answers.rs"]
 mod answers;
+#[allow(dead_code)]
 #[path = "../search/questions.rs"]
 mod questions;
+#[path = "../rust/random.rs"]
+mod random;
 use answers::{Answer, hush, refusal, refused};
-use questions::{Question, Rng, question, stated};
+use questions::{Question, question, stated};
+use random::Rng;
 
 unsafe extern "C" {
     fn t_respond(text: *const u8, text_len: usize, out: *mut u8, out_len: usize) -> usize;
@@ -65,7 +69,7 @@ fn whole(text: &[u8], [dim, degree, count]: [usize; 3]) -> Option<Question> {
 
 // ---- what is expected: refusals
 
-/// The question that a text asks, or the number by which document 01 refuses it.
+/// The question that a text asks, or the number by which the scope refuses it.
 fn asked(text: &[u8]) -> Result<Question, u64> {
     let sizes = sizes(text).ok_or(12u64)?;
     let [dim, degree, count] = sizes;
@@ -120,9 +124,6 @@ fn ask_port(r: &mut Rng, text: &[u8], room: usize) -> (Vec<u8>, bool) {
 
 // ---- texts
 
-fn one_of<T: Copy>(r: &mut Rng, l: &[T]) -> T {
-    l[r.below(l.len())]
-}
 /// Sixteen hexadecimal digits: of lower case, of upper case, or each of either.
 fn hex(r: &mut Rng, style: usize, x: f64) -> String {
     let lower = format!("{:016x}", x.to_bits());
@@ -171,7 +172,7 @@ fn lines_of(text: &[u8]) -> Vec<Vec<u8>> {
 }
 /// Bytes that stand in texts, or stand just beside those that do, and sometimes any byte.
 fn some_byte(r: &mut Rng) -> u8 {
-    if r.one_in(4) { r.next() as u8 } else { one_of(r, b"0123456789abcdefABCDEF =\n\r\t-+./:@G`gxdegrcountbpkiszlm\0\x80") }
+    if r.one_in(4) { r.next() as u8 } else { r.of(b"0123456789abcdefABCDEF =\n\r\t-+./:@G`gxdegrcountbpkiszlm\0\x80") }
 }
 /// Where a value begins on a random line that has some: the line's number and the place.
 fn some_value(r: &mut Rng, lines: &[Vec<u8>]) -> Option<(usize, usize)> {
@@ -204,13 +205,13 @@ fn replace_small(r: &mut Rng, text: &mut Vec<u8>, i: usize, change: impl Fn(&mut
 }
 /// Random bytes, or bytes as they stand in texts.
 fn junk(r: &mut Rng, many: usize) -> Vec<u8> {
-    let (any, line) = (r.one_in(3), one_of(r, &[1, 7, 40, 1000]));
-    (0..many).map(|_| if any { r.next() as u8 } else if r.one_in(line) { b'\n' } else { one_of(r, b"0123456789abcdef =") }).collect()
+    let (any, line) = (r.one_in(3), r.of(&[1, 7, 40, 1000]));
+    (0..many).map(|_| if any { r.next() as u8 } else if r.one_in(line) { b'\n' } else { r.of(b"0123456789abcdef =") }).collect()
 }
 /// Sizes that are refused by 1, 2 or 3, or just not.
 fn refuse_sizes(r: &mut Rng, text: &mut Vec<u8>) {
     for _ in 0..1 + r.below(2) {
-        let (line, number) = one_of(r, &[
+        let (line, number) = r.of(&[
             (0, "0"), (0, "1"), (0, "4"), (0, "999999999"), (1, "8"), (1, "9"), (1, "10"), (1, "999999999"), (1, "7"), (2, "0"), (2, "33"), (2, "34"), (2, "32"),
             (2, "1"), (2, "999999999"),
         ]);
@@ -229,7 +230,7 @@ fn lengthen(r: &mut Rng, text: &mut Vec<u8>) {
         }
         _ => {}
     }
-    let many = one_of(r, &[LONGEST - 1, LONGEST, LONGEST + 1, LONGEST + 2, 2 * LONGEST, 70_000]).saturating_sub(text.len());
+    let many = r.of(&[LONGEST - 1, LONGEST, LONGEST + 1, LONGEST + 2, 2 * LONGEST, 70_000]).saturating_sub(text.len());
     let more = match r.below(4) {
         0 => vec![b'\n'; many],
         1 => vec![b' '; many],
@@ -283,15 +284,15 @@ fn damage(r: &mut Rng, text: &mut Vec<u8>, way: usize) {
         }
         9 => {
             let line = r.below(5);
-            replace_small(r, text, line, |r, old| format!("{}{old}", one_of(r, &["0", "00", "00000000", "000000000", "+", "-", "0x", " "])));
+            replace_small(r, text, line, |r, old| format!("{}{old}", r.of(&["0", "00", "00000000", "000000000", "+", "-", "0x", " "])));
         }
         10 => {
             let line = r.below(4);
             replace_small(r, text, line, |r, old| {
-                let known = one_of(r, &["999999999", "1000000000", "1000000002", "4294967298", "18446744073709551618", "0", "00", "", "2.0", "1e1", "a"]);
+                let known = r.of(&["999999999", "1000000000", "1000000002", "4294967298", "18446744073709551618", "0", "00", "", "2.0", "1e1", "a"]);
                 match r.below(3) {
                     0 => format!("{:010}", r.next() % 10_000_000_000),
-                    1 => format!("{}", (1u128 << one_of(r, &[32, 64])) + old.parse::<u128>().unwrap_or(0) % (1 << 40)),
+                    1 => format!("{}", (1u128 << r.of(&[32, 64])) + old.parse::<u128>().unwrap_or(0) % (1 << 40)),
                     _ => known.into(),
                 }
             });
@@ -311,7 +312,7 @@ fn damage(r: &mut Rng, text: &mut Vec<u8>, way: usize) {
             *text = lines.join(&b'\n');
         }
         14 => {
-            let space = one_of(r, b"  \t");
+            let space = r.of(b"  \t");
             let places: Vec<usize> = (0..text.len()).filter(|&k| text[k] == b' ' || text[k] == b'\n' || text[k] == b'=').collect();
             if !places.is_empty() {
                 let k = places[r.below(places.len())];
@@ -352,7 +353,7 @@ fn damage(r: &mut Rng, text: &mut Vec<u8>, way: usize) {
             }
         }
         19 => {
-            let known = one_of(r, &[
+            let known = r.of(&[
                 "7ff0000000000000", "fff0000000000000", "7ff8000000000000", "FFF8000000000000", "7ff0000000000001", "fFfFffffffffffff", "7FF4000000000000", "4630000000000000",
                 "4630000000000001", "c630000000000000", "C630000000000001", "8000000000000000", "0000000000000000", "0000000000000001", "8000000000000001", "3ff0000000000000",
                 "3ff000000000000", "3ff00000000000000", "3ff000000000000g", "0x3ff00000000000", "+3ff000000000000", "", "1", "-",
@@ -367,7 +368,7 @@ fn damage(r: &mut Rng, text: &mut Vec<u8>, way: usize) {
             *text = lines.join(&b'\n');
         }
         20 => text.truncate(at),
-        21 => replace_small(r, text, 3, |r, _| one_of(r, &["4096", "4097", "9999", "999999999", "0", "1", "2", "40", "452", "453"]).into()),
+        21 => replace_small(r, text, 3, |r, _| r.of(&["4096", "4097", "9999", "999999999", "0", "1", "2", "40", "452", "453"]).into()),
         _ => {}
     }
 }
@@ -571,7 +572,7 @@ fn main() {
     let numbers: Vec<u64> = words.iter().map(|w| w.parse().expect("TEXTS [SEED]")).collect();
     let (total, seed) = (numbers.first().copied().unwrap_or(300_000), numbers.get(1).copied().unwrap_or(1));
     hush();
-    let mut r = Rng(seed.wrapping_mul(0x9e37_79b9_7f4a_7c15) | 1);
+    let mut r = Rng::of_seed(seed);
     let right = match folder {
         Some(folder) => store(&mut r, &folder).expect("the files can be written"),
         None => compare(&mut r, total),

@@ -1,38 +1,28 @@
 //! Random polygons, and the Rust's answer to each: `reference SEED QUESTIONS ANSWERS` writes both files.
 //! A question: the two lengths, a byte each, then lo and hi of each abscissa and of each value. An answer: 1 and the bits of lo and hi, or 0 and zeros.
 //! Bits are written from the lowest byte on; a negative zero counts as zero, and every NaN as one.
+#[path = "../rust/random.rs"]
+mod random;
 use geop_core_geometry::fat_line::fat_line_zeros;
 use geop_core_math::scalars::Scalar;
+use random::Rng;
 use std::env::args;
 use std::fs::write;
 
 const POLYGONS: usize = 150;
 const EDGES: [f64; 9] = [0.0, -0.0, 1.0, -1.0, 3.0, 5e-324, 1e-30, 1.2676506002282294e30, -1.2676506002282294e30];
 
-struct Rng(u64);
 impl Rng {
-    fn next(&mut self) -> u64 {
-        self.0 ^= self.0 << 13;
-        self.0 ^= self.0 >> 7;
-        self.0 ^= self.0 << 17;
-        self.0.wrapping_mul(0x2545_f491_4f6c_dd1d)
-    }
-    fn below(&mut self, n: usize) -> usize {
-        (self.next() >> 33) as usize % n
-    }
-    fn unit(&mut self) -> f64 {
-        (self.next() >> 11) as f64 / (1u64 << 53) as f64
-    }
     fn number(&mut self) -> f64 {
         match self.below(4) {
             0 => self.below(17) as f64 - 8.0,
             1 => 20.0 * self.unit() - 10.0,
             2 => (self.below(64) as f64 - 32.0) / 8.0,
-            _ => EDGES[self.below(EDGES.len())],
+            _ => self.of(&EDGES),
         }
     }
     fn width(&mut self) -> f64 {
-        [0.0, 1e-3, 4.0][self.below(3)] * self.unit()
+        self.of(&[0.0, 1e-3, 4.0]) * self.unit()
     }
     fn interval(&mut self, lo: f64) -> Scalar {
         Scalar { lo, hi: lo + self.width() }
@@ -64,7 +54,7 @@ fn bits(x: f64) -> [u8; 8] {
 fn main() {
     let words: Vec<String> = args().collect();
     let [_, seed, asked, answered] = &words[..] else { panic!("usage: reference SEED QUESTIONS ANSWERS") };
-    let mut r = Rng(seed.parse::<u64>().expect("a seed").wrapping_mul(0x9e37_79b9_7f4a_7c15) | 1);
+    let mut r = Rng::of_seed(seed.parse().expect("a seed"));
     let (mut questions, mut answers) = (Vec::new(), Vec::new());
     let mut of = [0; 4];
     for _ in 0..POLYGONS {
