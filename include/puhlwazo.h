@@ -11,8 +11,9 @@
  *
  * What the floating-point environment of the calling thread must be: rounding to nearest, subnormal numbers kept (neither flush-to-zero nor
  * denormals-are-zero), all exceptions masked. A program starts so, unless gcc or clang links it with -ffast-math, -Ofast or -funsafe-math-optimizations:
- * that flushes subnormal numbers to zero in the whole program, and so does a shared library that was linked so, as it is loaded. In another environment an answer can be wrong (none, though
- * the path passes through the box) or the call can die. puhlwazo_environment_ok() tells: ask it in every thread, before the first question.
+ * that flushes subnormal numbers to zero in the whole program, and so does a shared library that was linked so (by gcc 12 and clang 14), as it is loaded.
+ * In another environment an answer can be wrong (none, though the path passes through the box) or the call can die. puhlwazo_environment_ok() tells: ask it
+ * in every thread, before the first question.
  *
  * Nothing more is asked: with any numbers and any lengths a call comes to an end with an answer. What is promised of it stands above the function of the
  * same name in crates/puhlwazo/src/lib.rt, and is proved. */
@@ -61,7 +62,7 @@ enum {
  *             not look at the resolution: with any of them a piece can still be cut
  * nodes       at most so many pieces are visited: at most 4,096
  * work        lent memory: at least puhlwazo_work_words(dim, degree, count, nodes) numbers, with any contents. A refusal by 1 to 10 leaves it as it was; any
- *             other call leaves 0 in the first so many numbers and the rest as it was
+ *             other call leaves 0 in its first puhlwazo_work_words(..) numbers, and the rest as it was
  * counts      gets the kind of the answer, how many pieces were visited, and how many were left (0 unless spent)
  * bounds      gets lo and hi: both finite, in the domain, and lo at most hi (0 and 0 unless enclosed)
  *
