@@ -1,4 +1,4 @@
-/* The question of arc.txt, asked from C: prints the same five lines as bin/gripcheck examples/arc.txt. */
+/* The question of arc.txt, asked from C: prints the same six lines as bin/gripcheck examples/arc.txt. */
 #include <inttypes.h>
 #include <stdio.h>
 #include <stdlib.h>
@@ -34,7 +34,7 @@ int main(void)
     }
     size_t words_needed = puhlwazo_work_words(DIM, DEGREE, COUNT, NODES);
     double *work = malloc(words_needed * sizeof *work);
-    uint64_t counts[3];
+    uint64_t counts[PUHLWAZO_COUNTS];
     double bounds[2];
     if (work == NULL)
         return 1;
@@ -46,7 +46,7 @@ int main(void)
         printf("result=refused-%" PRIu64 "\n", refusal);
     else
         printf("result=%s\n", words[counts[0]]);
-    printf("visited=%" PRIu64 "\npending=%" PRIu64 "\n", counts[1], counts[2]);
+    printf("visited=%" PRIu64 "\ncuts=%" PRIu64 "\npending=%" PRIu64 "\n", counts[1], counts[3], counts[2]);
     print_bound("lo", counts[0] == PUHLWAZO_ENCLOSED, bounds[0]);
     print_bound("hi", counts[0] == PUHLWAZO_ENCLOSED, bounds[1]);
     return 0;

@@ -1,7 +1,10 @@
-//! The question of arc.txt, asked from Rust: prints the same five lines as bin/gripcheck examples/arc.txt.
+//! The question of arc.txt, asked from Rust: prints the same six lines as bin/gripcheck examples/arc.txt.
 
 mod puhlwazo {
-    //! A safe face of the library: slices become pointers and lengths, and the three numbers of an answer one enum.
+    //! A safe face of the library: slices become pointers and lengths, and the numbers of an answer one enum.
+
+    /// How many numbers the library writes to `counts`, as in the header.
+    const COUNTS: usize = 4;
 
     #[link(name = "puhlwazo", kind = "static")]
     unsafe extern "C" {
@@ -20,7 +23,7 @@ mod puhlwazo {
             nodes: usize,
             work: *mut f64,
             work_length: usize,
-            counts: *mut [u64; 3],
+            counts: *mut [u64; COUNTS],
             bounds: *mut [f64; 2],
         ) -> u64;
     }
@@ -43,12 +46,12 @@ mod puhlwazo {
         pub points: &'a [f64],
     }
 
-    /// The answer of a search, with the pieces visited last.
+    /// The answer of a search, with the pieces visited and the cuts last.
     pub enum Found {
-        Nothing(u64),
-        Enclosed(f64, f64, u64),
-        Spent(u64, u64),
-        Refused(u64, u64),
+        Nothing(u64, u64),
+        Enclosed(f64, f64, u64, u64),
+        Spent(u64, u64, u64),
+        Refused(u64, u64, u64),
     }
 
     /// How many numbers of work area a search of this curve needs.
@@ -65,7 +68,7 @@ mod puhlwazo {
         nodes: usize,
         work: &mut [f64],
     ) -> Found {
-        let (mut counts, mut bounds) = ([0; 3], [0.0; 2]);
+        let (mut counts, mut bounds) = ([0; COUNTS], [0.0; 2]);
         // SAFETY: pointers and lengths are those of slices, and what is written overlaps nothing, since it is borrowed mutably.
         let refusal = unsafe {
             puhlwazo_curve_could_contain(
@@ -86,11 +89,12 @@ mod puhlwazo {
                 &mut bounds,
             )
         };
-        match counts[0] {
-            0 => Found::Nothing(counts[1]),
-            1 => Found::Enclosed(bounds[0], bounds[1], counts[1]),
-            2 => Found::Spent(counts[2], counts[1]),
-            _ => Found::Refused(refusal, counts[1]),
+        let [kind, visited, pending, cuts] = counts;
+        match kind {
+            0 => Found::Nothing(visited, cuts),
+            1 => Found::Enclosed(bounds[0], bounds[1], visited, cuts),
+            2 => Found::Spent(pending, visited, cuts),
+            _ => Found::Refused(refusal, visited, cuts),
         }
     }
 }
@@ -115,14 +119,14 @@ fn main() {
     };
     let nodes = 64;
     let mut work = vec![0.0; work_words(&curve, nodes)];
-    let (result, visited, pending, bounds) =
+    let (result, visited, cuts, pending, bounds) =
         match curve_could_contain(&curve, &[1.9, 2.1, 1.9, 2.1], 0.001, nodes, &mut work) {
-            Found::Nothing(visited) => ("none".to_string(), visited, 0, None),
-            Found::Enclosed(lo, hi, visited) => ("enclosed".to_string(), visited, 0, Some((lo, hi))),
-            Found::Spent(pending, visited) => ("spent".to_string(), visited, pending, None),
-            Found::Refused(number, visited) => (format!("refused-{number}"), visited, 0, None),
+            Found::Nothing(visited, cuts) => ("none".to_string(), visited, cuts, 0, None),
+            Found::Enclosed(lo, hi, visited, cuts) => ("enclosed".to_string(), visited, cuts, 0, Some((lo, hi))),
+            Found::Spent(pending, visited, cuts) => ("spent".to_string(), visited, cuts, pending, None),
+            Found::Refused(number, visited, cuts) => (format!("refused-{number}"), visited, cuts, 0, None),
         };
-    println!("result={result}\nvisited={visited}\npending={pending}");
+    println!("result={result}\nvisited={visited}\ncuts={cuts}\npending={pending}");
     match bounds {
         Some((lo, hi)) => println!("lo={:016x}\nhi={:016x}", lo.to_bits(), hi.to_bits()),
         None => println!("lo=-\nhi=-"),

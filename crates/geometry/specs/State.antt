@@ -1,5 +1,5 @@
 -- How the state of the code is read as the state of the search: what a visit made of its piece, what was reported, and the pieces that wait in the ring. Definitions only.
-use Prim.Native.Nat.{ℕ, suc, _+_, _-_, _*_, _≤_}
+use Prim.Native.Nat.{ℕ, _+_, _-_, _*_, _≤_}
 use mathlib.Core.Path.{_≡_}
 use mathlib.Core.Bool.{Bool, true, false, cond}
 use mathlib.Core.List.{List}
@@ -11,7 +11,7 @@ use Rattle.lists.specs.Ring.{wrapped}
 use Rattle.math.specs.declared.scalars.Scalar.{Scalar}
 use Rattle.math.specs.Scalars.{geop}
 use Rattle.model.specs.NurbCurve.{Piece}
-use Rattle.model.specs.Subdivide.{Question, Visit, dropped, reported, restricted, halved, badWeight, State, Step, going, over, joined, advance, answered}
+use Rattle.model.specs.Subdivide.{Question, Visit, dropped, reported, restricted, halved, badWeight, State, Step, going, over, withVisit, withCuts, joined, advance, answered}
 use Rattle.model.specs.Contains.{visit, begun}
 use Rattle.model.specs.Layout.{scalarsOf}
 use Rattle.model.specs.declared.contains.Found.{Found}
@@ -58,6 +58,14 @@ children (Restricted n) = 1
 children Halved = 2
 children BadWeight = 0
 
+-- How many cuts a visit made of a piece that it hands on cut down.
+abbrev pub cutsOf : Outcome → ℕ
+cutsOf Dropped = 0
+cutsOf (Reported t) = 0
+cutsOf (Restricted n) = n
+cutsOf Halved = 0
+cutsOf BadWeight = 0
+
 -- What was reported, with what a visit reports.
 abbrev pub withReport : Option Scalar → Outcome → Option Scalar
 withReport f Dropped = f
@@ -76,18 +84,20 @@ hasBadWeight BadWeight = true
 
 -- The state of the search, in a ring of so many slots.
 unfoldable pub stateOf : Shape → List Float → ℕ → Search → State
-stateOf s l slots x = record { queue = waiting s l slots (x .head) (x .pending); visited = x .visited; found = foundOf (x .found) }
+stateOf s l slots x = record { queue = waiting s l slots (x .head) (x .pending); counts = x .counts; found = foundOf (x .found) }
 
 -- The search that began in the memory l₀, with the piece in slot 0, stands at x, in the memory l. What a visit makes of a piece is `see`.
 pub record Going (see : Piece → Visit) (nodes : ℕ) (s : Shape) (l₀ l : List Float) (x : Search) : Type 0 where
   -- The pieces that wait stand in the ring,
   pub ring : Ring s l (nodes + 3) (x .head) (x .pending)
   -- and at most one more than were visited, so that there is room for what a visit hands on.
-  pub low : x .pending ≤ x .visited + 1
-  pub within : x .visited ≤ nodes
+  pub low : x .pending ≤ x .counts .visited + 1
+  pub within : x .counts .visited ≤ nodes
+  -- No visit makes more than two cuts.
+  pub few : x .counts .cuts ≤ 2 * x .counts .visited
   pub long : length l ≡ length l₀
   -- What is left to search from here is what was to search from the start.
-  pub same : (k : ℕ) → advance see nodes (x .visited + k) (begun (pieceAt s l₀ 0)) ≡ advance see nodes k (stateOf s l (nodes + 3) x)
+  pub same : (k : ℕ) → advance see nodes (x .counts .visited + k) (begun (pieceAt s l₀ 0)) ≡ advance see nodes k (stateOf s l (nodes + 3) x)
   -- Behind the ring nothing has changed.
   pub rest : drop ((nodes + 3) * wordsOf s) l ≡ drop ((nodes + 3) * wordsOf s) l₀
 
@@ -95,7 +105,7 @@ pub record Going (see : Piece → Visit) (nodes : ℕ) (s : Shape) (l₀ l : Lis
 pub record Next (slots : ℕ) (x : Search) (o : Outcome) (y : Search) : Type 0 where
   pub head : y .head ≡ wrapped slots (x .head + 1)
   pub pending : y .pending ≡ x .pending - 1 + children o
-  pub visited : y .visited ≡ suc (x .visited)
+  pub counts : y .counts ≡ withCuts (cutsOf o) (withVisit (x .counts))
   pub found : foundOf (y .found) ≡ withReport (foundOf (x .found)) o
 
 -- ---- a search over the ring

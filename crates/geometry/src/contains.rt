@@ -17,6 +17,7 @@ use crate::subdivide::wrap;
 use crate::visits::visit;
 use math::scalars::Scalar;
 use model::contains::Found;
+use model::subdivide::Counts;
 ghost use mathlib.Core.Path.{_≡_};
 ghost use Prim.Native.Nat.{_+_, _*_, _≤_, _<_};
 ghost use lib.ListN.{length};
@@ -41,14 +42,14 @@ fn positive_zero(x: f64) -> f64
 }
 
 // The answer when every piece was visited.
-fn completed(f: Reports, visited: usize) -> Found
-    ensures { λ r. ⌜ r ≡ complete (foundOf f) visited ⌝ }
+fn completed(f: Reports, v: Counts) -> Found
+    ensures { λ r. ⌜ r ≡ complete (foundOf f) v ⌝ }
 {
     let t = f.all;
     if f.any == 0 {
-        return Found::Nothing(visited);
+        return Found::Nothing(v.visited, v.cuts);
     }
-    Found::Enclosed(positive_zero(t.lo), positive_zero(t.hi), visited)
+    Found::Enclosed(positive_zero(t.lo), positive_zero(t.hi), v.visited, v.cuts)
 }
 
 // ---- the search
@@ -99,24 +100,29 @@ fn search_ring(
     let mut q = Search {
         head: 0,
         pending: 1,
-        visited: 0,
+        counts: Counts {
+            visited: 0,
+            cuts: 0,
+        },
         found: Reports {
             any: 0,
             all: Scalar::ZERO,
         },
     };
     while 0 < q.pending {
-        if q.visited == nodes {
-            return Found::Spent(q.pending, q.visited);
+        let v = q.counts;
+        if v.visited == nodes {
+            return Found::Spent(q.pending, v.visited, v.cuts);
         }
         let o = visit_next(work, q, s, point_box, resolution, slots, w);
         if has_bad_weight(o) {
-            return Found::Refused(11, q.visited + 1);
+            return Found::Refused(11, v.visited + 1, v.cuts);
         }
         q = after_visit(q, o, slots);
     }
     let f = q.found;
-    completed(f, q.visited)
+    let v = q.counts;
+    completed(f, v)
 }
 
 // The search of a call that nothing is wrong with. The stated words of the work area are 0 at its end.
@@ -141,7 +147,7 @@ fn search_lent(
     let words = stated_words(dim, degree, count, nodes);
     if !curve_could_meet_aabb(points, point_box, dim, degree, count) {
         fill(work, 0, words, 0.0);
-        return Found::Nothing(0);
+        return Found::Nothing(0, 0);
     }
     let s = Shape { dim, degree, count };
     load(work, 0, s, knots, points);
@@ -191,7 +197,7 @@ pub fn curve_could_contain(
         work.len(),
     );
     if number != 0 {
-        return Found::Refused(number as u64, 0);
+        return Found::Refused(number as u64, 0, 0);
     }
     search_lent(
         dim,

@@ -1,11 +1,12 @@
 // solvers/subdivide.rs: where a search stands between two visits, over a ring of slots.
 use math::scalars::Scalar;
+use model::subdivide::Counts;
 ghost use mathlib.Core.Path.{_≡_};
 ghost use mathlib.Core.Option.{some};
 ghost use Prim.Native.Nat.{_+_, _≤_, _<_};
 ghost use Rattle.lists.specs.Ring.{wrapped};
-ghost use Rattle.model.specs.Subdivide.{joined};
-ghost use Rattle.geometry.specs.State.{foundOf, children, withReport, hasBadWeight, Next};
+ghost use Rattle.model.specs.Subdivide.{withVisit, withCuts, joined};
+ghost use Rattle.geometry.specs.State.{foundOf, children, cutsOf, withReport, hasBadWeight, Next};
 
 // What a visit made of its piece. What it hands on stands in the slots behind the pieces that wait.
 pub enum Outcome {
@@ -29,11 +30,11 @@ pub struct Reports {
     pub all: Scalar,
 }
 
-// Where a search stands: the slot of the first piece that waits, how many are pending, how many were visited, and what was reported.
+// Where a search stands: the slot of the first piece that waits, how many are pending, what was counted, and what was reported.
 pub struct Search {
     pub head: usize,
     pub pending: usize,
-    pub visited: usize,
+    pub counts: Counts,
     pub found: Reports,
 }
 
@@ -71,6 +72,29 @@ fn children(o: Outcome) -> usize
     }
 }
 
+// How many cuts a visit made of a piece that it hands on cut down.
+fn cuts_of(o: Outcome) -> usize
+    ensures { λ r. ⌜ r ≡ cutsOf o ⌝ }
+{
+    match o {
+        Outcome::Dropped => 0,
+        Outcome::Reported(_) => 0,
+        Outcome::Restricted(n) => n,
+        Outcome::Halved => 0,
+        Outcome::BadWeight => 0,
+    }
+}
+
+// The counts, with a visit that came out as o.
+fn counted(v: Counts, o: Outcome) -> Counts
+    requires { ⌜ (v .visited ≤ 0x1000_0000) × (v .cuts ≤ 0x1000_0000) × (cutsOf o ≤ 2) ⌝ }
+    ensures { λ r. ⌜ r ≡ withCuts (cutsOf o) (withVisit v) ⌝ }
+{
+    let visited = v.visited + 1;
+    let cuts = v.cuts + cuts_of(o);
+    Counts { visited, cuts }
+}
+
 // What was reported, with what a visit reports.
 fn with_report(f: Reports, o: Outcome) -> Reports
     ensures { λ r. ⌜ foundOf r ≡ withReport (foundOf f) o ⌝ }
@@ -100,18 +124,19 @@ pub(crate) fn has_bad_weight(o: Outcome) -> bool
 // Where the search stands after a visit that came out as o, in a ring of so many slots.
 pub(crate) fn after_visit(q: Search, o: Outcome, slots: usize) -> Search
     requires { ⌜ (q .head < slots) × (1 ≤ q .pending) × (q .pending < slots) × (slots ≤ 0x1000_0000) ⌝ }
-    requires { ⌜ q .visited ≤ 0x1000_0000 ⌝ }
+    requires { ⌜ (q .counts .visited ≤ 0x1000_0000) × (q .counts .cuts ≤ 0x1000_0000) × (cutsOf o ≤ 2) ⌝ }
     ensures { λ r. ⌜ Next slots q o r ⌝ }
 {
     let head = wrap(q.head + 1, slots);
     let pending = q.pending - 1 + children(o);
-    let visited = q.visited + 1;
+    let so_far = q.counts;
+    let counts = counted(so_far, o);
     let before = q.found;
     let found = with_report(before, o);
     Search {
         head,
         pending,
-        visited,
+        counts,
         found,
     }
 }

@@ -1,11 +1,11 @@
--- The counts of a search: visited never exceeds nodes, pending never exceeds nodes + 1, and a search is spent only when all its nodes are used.
--- Leans on the laws of `advance` in Pause.antt.
-use Prim.Native.Nat.{ℕ, zero, suc, _+_, _≤_, _<_}
+-- The counts of a search: visited never exceeds nodes, pending never exceeds nodes + 1, a search is spent only when all its nodes are used, and cuts never exceeds twice visited; so
+-- there are no cuts where visited is 0. Leans on the laws of `advance` in Pause.antt, and of a visit in Cuts.antt.
+use Prim.Native.Nat.{ℕ, zero, suc, _+_, _*_, _≤_, _<_}
 use native.Mathlib.Decide.{decLt}
 use native.Mathlib.Omega.{arith}
-use mathlib.Core.Path.{_≡_, refl}
+use mathlib.Core.Path.{_≡_, refl, subst}
 use mathlib.Core.Bool.{Bool, true, false, cond}
-use mathlib.Core.List.{List, [], _∷_, _++_}
+use mathlib.Core.List.{List, [], _∷_}
 use mathlib.Core.Option.{Option, none, some}
 use lib.ListN.{length, length-append}
 use Rattle.math.specs.declared.scalars.Scalar.{Scalar}
@@ -13,79 +13,100 @@ use Rattle.math.specs.Scalars.{Arithmetic}
 use Rattle.model.specs.NurbCurve.{Piece}
 use Rattle.model.specs.declared.contains.Found.{Found}
 use Rattle.model.specs.declared.contains.Found.the-variants.{Nothing, Enclosed, Spent, Refused}
-use Rattle.model.specs.Subdivide.{Question, Visit, dropped, reported, restricted, halved, badWeight, State, Step, going, over, joined, complete, after, ended, step, advance, answered}
+use Rattle.model.specs.declared.subdivide.Counts.{Counts}
+use Rattle.model.specs.Subdivide.{Question, Visit, dropped, reported, restricted, halved, badWeight, State, Step, going, over, withVisit, complete, after, ended, step, advance, answered}
 use Rattle.model.specs.Aabb.{couldMeet}
 use Rattle.model.specs.Contains.{visit, begun, couldContain}
 use Rattle.model.specs.Call.{Call, question, asPiece, refusal, searchedBy, searched}
 use Rattle.model.proofs.Pause.{goes, spends, ends, once, fails, waits}
+use Rattle.model.proofs.Cuts.{OneOrTwo, visit-cuts}
+
+-- What visited and cuts are held to.
+abbrev pub Few : ℕ → ℕ → ℕ → Type 0
+Few nodes v k = (v ≤ nodes) × (k ≤ 2 * v)
 
 -- What the counts of an answer are held to.
 abbrev pub WithinNodes : ℕ → Found → Type 0
-WithinNodes nodes (Nothing v) = v ≤ nodes
-WithinNodes nodes (Enclosed lo hi v) = v ≤ nodes
-WithinNodes nodes (Spent n v) = (v ≡ nodes) × (1 ≤ n) × (n ≤ nodes + 1)
-WithinNodes nodes (Refused n v) = v ≤ nodes
+WithinNodes nodes (Nothing v k) = Few nodes v k
+WithinNodes nodes (Enclosed lo hi v k) = Few nodes v k
+WithinNodes nodes (Spent n v k) = Few nodes v k × (v ≡ nodes) × (1 ≤ n) × (n ≤ nodes + 1)
+WithinNodes nodes (Refused n v k) = Few nodes v k
+
+-- A state after v visits: at most two cuts for each, and at most v + 1 pieces wait.
+pub record Counted (v : ℕ) (s : State) : Type 0 where
+  pub visits : s .counts .visited ≡ v
+  pub cuts : s .counts .cuts ≤ 2 * v
+  pub pieces : length (s .queue) ≤ v + 1
 
 -- Where a search stands that was to take visits up to number m: it is over, or it took just these, and has one to take.
 abbrev pub AfterVisits : ℕ → ℕ → Step → Type 0
-AfterVisits nodes m (going s) = (s .visited ≡ m) × (m < nodes) × (length (s .queue) ≤ m + 1)
+AfterVisits nodes m (going s) = Counted m s × (m < nodes)
 AfterVisits nodes m (over r) = WithinNodes nodes r
 
-complete-counted : (nodes v : ℕ) (f : Option Scalar) → v ≤ nodes → WithinNodes nodes (complete f v)
+complete-counted : (nodes : ℕ) (v : Counts) (f : Option Scalar) → Few nodes (v .visited) (v .cuts) → WithinNodes nodes (complete f v)
 unfolding complete
 complete-counted nodes v none h = h
 complete-counted nodes v (some t) h = h
 
-module _ (see : Piece → Visit) (nodes : ℕ) where
-  abbrev at : List Piece → ℕ → Option Scalar → State
-  at q v f = record { queue = q; visited = v; found = f }
+module _ (see : Piece → Visit) (few : (c : Piece) → OneOrTwo (see c)) (nodes : ℕ) where
+  abbrev at : List Piece → Counts → Option Scalar → State
+  at q v f = record { queue = q; counts = v; found = f }
 
-  -- the visit of a piece that came out as w, then k visits more, which stand as they should whatever that one handed on
-  turn : (k : ℕ) (c : Piece) (cs : List Piece) (v m : ℕ) (f : Option Scalar) (w : Visit) → see c ≡ w → v < nodes → length (c ∷ cs) ≤ v + 1
-      → ((q : List Piece) (g : Option Scalar) → length q ≤ suc v + 1 → AfterVisits nodes m (advance see nodes k (at q (suc v) g)))
-      → AfterVisits nodes m (advance see nodes (suc k) (at (c ∷ cs) v f))
-  unfolding step after
-  turn k c cs v m f dropped e h g ih = rw (once see nodes k (at (c ∷ cs) v f) (at cs (suc v) f) (goes nodes c cs v f h) (rw e refl)) (ih cs f (omega arith))
-  turn k c cs v m f (reported t) e h g ih =
-      rw (once see nodes k (at (c ∷ cs) v f) (at cs (suc v) (some (joined f t))) (goes nodes c cs v f h) (rw e refl)) (ih cs (some (joined f t)) (omega arith))
-  turn k c cs v m f (restricted n d) e h g ih =
-      rw (once see nodes k (at (c ∷ cs) v f) (at (cs ++ (d ∷ [])) (suc v) f) (goes nodes c cs v f h) (rw e refl))
-      (ih (cs ++ (d ∷ [])) f (rw (length-append cs (d ∷ [])) (omega arith)))
-  turn k c cs v m f (halved l r) e h g ih =
-      rw (once see nodes k (at (c ∷ cs) v f) (at (cs ++ (l ∷ r ∷ [])) (suc v) f) (goes nodes c cs v f h) (rw e refl))
-      (ih (cs ++ (l ∷ r ∷ [])) f (rw (length-append cs (l ∷ r ∷ [])) (omega arith)))
-  turn k c cs v m f badWeight e h g ih = rw (fails see nodes k (at (c ∷ cs) v f) (Refused 11 (suc v)) (goes nodes c cs v f h) (rw e refl)) h
+  -- What a visit leaves of a state after v visits.
+  abbrev AfterOne : ℕ → Step → Type 0
+  AfterOne v (going s) = Counted (suc v) s
+  AfterOne v (over r) = WithinNodes nodes r
 
-  -- a state that takes no visit because the search is over
-  halts : (k : ℕ) (c : Piece) (cs : List Piece) (v m : ℕ) (f : Option Scalar) → nodes ≤ v → v ≤ nodes → length (c ∷ cs) ≤ v + 1
-      → AfterVisits nodes m (advance see nodes k (at (c ∷ cs) v f))
-  halts k c cs v m f n h g =
-      rw (ends see nodes k (at (c ∷ cs) v f) (Spent (suc (length cs)) v) (spends nodes c cs v f n)) (omega arith, omega arith, omega arith)
+  -- the visit of the first piece, which came out as w
+  turn : (c : Piece) (cs : List Piece) (u : Counts) (f : Option Scalar) (v : ℕ) (w : Visit) → OneOrTwo w → v < nodes → Counted v (at (c ∷ cs) u f) → AfterOne v (after cs (withVisit u) f w)
+  unfolding after
+  turn c cs u f v dropped t h g = record { visits = omega (arith, g .visits); cuts = omega (arith, g .cuts); pieces = omega (arith, g .pieces) }
+  turn c cs u f v (reported x) t h g = record { visits = omega (arith, g .visits); cuts = omega (arith, g .cuts); pieces = omega (arith, g .pieces) }
+  turn c cs u f v (restricted n d) t h g =
+      record { visits = omega (arith, g .visits); cuts = omega (arith, g .cuts, t .1); pieces = omega (arith, g .pieces, length-append cs (d ∷ [])) }
+  turn c cs u f v (halved l r) t h g =
+      record { visits = omega (arith, g .visits); cuts = omega (arith, g .cuts); pieces = omega (arith, g .pieces, length-append cs (l ∷ r ∷ [])) }
+  turn c cs u f v badWeight t h g = (omega (arith, g .visits), omega (arith, g .visits, g .cuts))
 
-  empties : (k v m : ℕ) (f : Option Scalar) → v ≤ nodes → AfterVisits nodes m (advance see nodes k (at [] v f))
-  empties k v m f h = rw (ends see nodes k (at [] v f) (complete f v) (unfold ended in refl)) (complete-counted nodes v f h)
+  -- a state that takes no visit, since the nodes are used up
+  halts : (k : ℕ) (c : Piece) (cs : List Piece) (u : Counts) (f : Option Scalar) (v m : ℕ) → nodes ≤ v → v ≤ nodes → Counted v (at (c ∷ cs) u f)
+      → AfterVisits nodes m (advance see nodes k (at (c ∷ cs) u f))
+  halts k c cs u f v m n h g =
+      rw (ends see nodes k (at (c ∷ cs) u f) (Spent (suc (length cs)) (u .visited) (u .cuts)) (spends nodes c cs u f (omega (arith, g .visits))))
+      ((omega (arith, g .visits), omega (arith, g .visits, g .cuts)), omega (arith, g .visits), omega arith, omega (arith, g .pieces))
 
-  -- k visits from a state after v visits in which at most v + 1 pieces wait
-  pub stands : (k : ℕ) (q : List Piece) (v m : ℕ) (f : Option Scalar) → m ≡ v + k → v ≤ nodes → length q ≤ v + 1 → AfterVisits nodes m (advance see nodes k (at q v f))
-  stands zero q v m f e h g = by q g
+  -- or since no piece waits
+  empties : (k : ℕ) (u : Counts) (f : Option Scalar) (v m : ℕ) → v ≤ nodes → Counted v (at [] u f) → AfterVisits nodes m (advance see nodes k (at [] u f))
+  empties k u f v m h g =
+      rw (ends see nodes k (at [] u f) (complete f u) (unfold ended in refl)) (complete-counted nodes u f (omega (arith, g .visits), omega (arith, g .visits, g .cuts)))
+
+  -- k visits from a state after v visits
+  pub stands : (k : ℕ) (s : State) (v m : ℕ) → m ≡ v + k → v ≤ nodes → Counted v s → AfterVisits nodes m (advance see nodes k s)
+  stands zero s v m e h g = by (s .queue) (s .counts) (s .found) g
     where
-      by : (q : List Piece) → length q ≤ v + 1 → AfterVisits nodes m (advance see nodes zero (at q v f))
-      by [] i = empties zero v m f h
-      by (c ∷ cs) i = go (decLt v nodes)
+      by : (q : List Piece) (u : Counts) (f : Option Scalar) → Counted v (at q u f) → AfterVisits nodes m (advance see nodes zero (at q u f))
+      by [] u f g = empties zero u f v m h g
+      by (c ∷ cs) u f g = go (decLt v nodes)
         where
-          go : Dec (v < nodes) → AfterVisits nodes m (advance see nodes zero (at (c ∷ cs) v f))
-          go (yes l) = rw (waits see nodes (at (c ∷ cs) v f) (goes nodes c cs v f l)) (omega arith, omega arith, omega arith)
-          go (no n) = halts zero c cs v m f (omega arith) h i
-  stands (suc k) q v m f e h g = by (λ l p u i. stands k p (suc v) m u (omega arith) l i) q g
+          go : Dec (v < nodes) → AfterVisits nodes m (advance see nodes zero (at (c ∷ cs) u f))
+          go (yes l) = rw (waits see nodes (at (c ∷ cs) u f) (goes nodes c cs u f (omega (arith, g .visits)))) (subst (λ (x : ℕ). Counted x (at (c ∷ cs) u f)) (omega arith) g, omega arith)
+          go (no n) = halts zero c cs u f v m (omega arith) h g
+  stands (suc k) s v m e h g = by (λ l t i. stands k t (suc v) m (omega arith) l i) (s .queue) (s .counts) (s .found) g
     where
-      by : (v < nodes → (p : List Piece) (u : Option Scalar) → length p ≤ suc v + 1 → AfterVisits nodes m (advance see nodes k (at p (suc v) u)))
-          → (q : List Piece) → length q ≤ v + 1 → AfterVisits nodes m (advance see nodes (suc k) (at q v f))
-      by ih [] i = empties (suc k) v m f h
-      by ih (c ∷ cs) i = go (decLt v nodes)
+      Rest : Type 0
+      Rest = v < nodes → (t : State) → Counted (suc v) t → AfterVisits nodes m (advance see nodes k t)
+
+      by : Rest → (q : List Piece) (u : Counts) (f : Option Scalar) → Counted v (at q u f) → AfterVisits nodes m (advance see nodes (suc k) (at q u f))
+      by rest [] u f g = empties (suc k) u f v m h g
+      by rest (c ∷ cs) u f g = go (decLt v nodes)
         where
-          go : Dec (v < nodes) → AfterVisits nodes m (advance see nodes (suc k) (at (c ∷ cs) v f))
-          go (yes l) = turn k c cs v m f (see c) refl l i (ih l)
-          go (no n) = halts (suc k) c cs v m f (omega arith) h i
+          on : v < nodes → (t : Step) → step see (c ∷ cs) u f ≡ t → AfterOne v t → AfterVisits nodes m (advance see nodes (suc k) (at (c ∷ cs) u f))
+          on l (going t) e i = rw (once see nodes k (at (c ∷ cs) u f) t (goes nodes c cs u f (omega (arith, g .visits))) e) (rest l t i)
+          on l (over r) e i = rw (fails see nodes k (at (c ∷ cs) u f) r (goes nodes c cs u f (omega (arith, g .visits))) e) i
+
+          go : Dec (v < nodes) → AfterVisits nodes m (advance see nodes (suc k) (at (c ∷ cs) u f))
+          go (yes l) = on l (step see (c ∷ cs) u f) refl (unfold step in turn c cs u f v (see c) (few c) l g)
+          go (no n) = halts (suc k) c cs u f v m (omega arith) h g
 
   -- all visits in one go: no state is left to go on from
   all-over : (t : Step) → AfterVisits nodes nodes t → WithinNodes nodes (answered t)
@@ -94,7 +115,7 @@ module _ (see : Piece → Visit) (nodes : ℕ) where
   all-over (over r) h = h
 
   pub answered-counted : (c : Piece) → WithinNodes nodes (answered (advance see nodes nodes (begun c)))
-  answered-counted c = all-over (advance see nodes nodes (begun c)) (stands nodes (c ∷ []) 0 nodes none (omega arith) (omega arith) (omega arith))
+  answered-counted c = all-over (advance see nodes nodes (begun c)) (stands nodes (begun c) 0 nodes (omega arith) (omega arith) (record { visits = refl; cuts = omega arith; pieces = omega arith }))
 
 -- what holds of both arms holds of the one that is taken
 either : (P : Found → Type 0) (b : Bool) (x y : Found) → P x → P y → P (cond b x y)
@@ -105,7 +126,7 @@ either P false x y h g = g
 pub couldContain-counted : (ar : Arithmetic) (q : Question) (c : Piece) → WithinNodes (q .nodes) (couldContain ar q c)
 unfolding couldContain
 couldContain-counted ar q c =
-    either (WithinNodes (q .nodes)) (couldMeet ar (q .dim) (q .degree) (c .points) (q .box)) _ _ (answered-counted (visit ar q) (q .nodes) c) (omega arith)
+    either (WithinNodes (q .nodes)) (couldMeet ar (q .dim) (q .degree) (c .points) (q .box)) _ _ (answered-counted (visit ar q) (visit-cuts ar q) (q .nodes) c) (omega arith, omega arith)
 
 -- A call, refused or not.
 pub searched-counted : (ar : Arithmetic) (c : Call) → WithinNodes (c .nodes) (searched ar c)
@@ -114,4 +135,4 @@ searched-counted ar c = by (refusal c)
   where
     by : (n : ℕ) → WithinNodes (c .nodes) (searchedBy ar c n)
     by zero = couldContain-counted ar (question c) (asPiece (c .curve))
-    by (suc n) = omega arith
+    by (suc n) = (omega arith, omega arith)

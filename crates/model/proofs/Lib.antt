@@ -5,9 +5,10 @@ pub mod Spans
 pub mod Pause
 pub mod Checks
 pub mod Nodes
-pub mod Counts
 pub mod Every
 pub mod Sound
+pub mod Cuts
+pub mod Counts
 pub mod Proper
 pub mod Enclosure
 pub mod Weights

@@ -16,9 +16,10 @@ use Rattle.model.specs.Aabb.{aabb, couldOverlap, couldMeet}
 use Rattle.model.specs.FatLine.{greville}
 use Rattle.model.specs.Subdivide.{Question, Visit, dropped, State, Step, going, over, complete, ended, step, advance, resumed, answered}
 use Rattle.model.specs.Contains.{shrink, clipped, visit, begun, couldContain}
-use Rattle.model.specs.Call.{Call, boxOf, question, asPiece, nodesFit, areaFits, stated, refusal, searchedBy, searched, areaBy, areaAfter}
+use Rattle.model.specs.Call.{Call, boxOf, question, asPiece, areaFits, stated, refusal, searchedBy, searched, areaBy, areaAfter}
 use Rattle.model.specs.Enclosure.{Accepted, Completes}
 use Rattle.model.specs.Nodes.{NotSpent, NodesLeft, SameSteps, withNodes, Larger, MoreNodes}
+use Rattle.model.specs.declared.subdivide.Counts.{Counts}
 use Rattle.model.specs.declared.contains.Found.{Found}
 use Rattle.model.specs.declared.contains.Found.the-variants.{Nothing, Enclosed, Spent, Refused}
 use Rattle.model.specs.declared.fat_line.Hat.{Hat}
@@ -27,43 +28,43 @@ use Rattle.model.proofs.Pause.{goes, spends, ends, once, fails, waits, 
 use Rattle.model.proofs.Checks.{accepted-by, curve-accepted}
 
 module _ (see : Piece → Visit) (n m : ℕ) (h : n ≤ m) where
-  abbrev at : List Piece → ℕ → Option Scalar → State
-  at q v f = record { queue = q; visited = v; found = f }
+  abbrev at : List Piece → Counts → Option Scalar → State
+  at q v f = record { queue = q; counts = v; found = f }
 
   -- with no piece left both are over
-  done : (k v : ℕ) (f : Option Scalar) → advance see m k (at [] v f) ≡ advance see n k (at [] v f)
+  done : (k : ℕ) (v : Counts) (f : Option Scalar) → advance see m k (at [] v f) ≡ advance see n k (at [] v f)
   done k v f = ends see m k (at [] v f) (complete f v) (unfold ended in refl) ∙ sym (ends see n k (at [] v f) (complete f v) (unfold ended in refl))
 
   -- with a piece, and no node left of n, the search is spent
-  spent : (k : ℕ) (c : Piece) (cs : List Piece) (v : ℕ) (f : Option Scalar) → n ≤ v → NodesLeft (advance see n k (at (c ∷ cs) v f)) → ⊥
-  spent k c cs v f l = subst (λ (z : Step). NodesLeft z → ⊥) (sym (ends see n k (at (c ∷ cs) v f) (Spent (suc (length cs)) v) (spends n c cs v f l))) (λ e. e)
+  spent : (k : ℕ) (c : Piece) (cs : List Piece) (v : Counts) (f : Option Scalar) → n ≤ v .visited → NodesLeft (advance see n k (at (c ∷ cs) v f)) → ⊥
+  spent k c cs v f l = subst (λ (z : Step). NodesLeft z → ⊥) (sym (ends see n k (at (c ∷ cs) v f) (Spent (suc (length cs)) (v .visited) (v .cuts)) (spends n c cs v f l))) (λ e. e)
 
   steps : (k : ℕ) (s : State) → NodesLeft (advance see n k s) → advance see m k s ≡ advance see n k s
-  steps zero s left = by (s .queue) (s .visited) (s .found) left
+  steps zero s left = by (s .queue) (s .counts) (s .found) left
     where
-      by : (q : List Piece) (v : ℕ) (f : Option Scalar) → NodesLeft (advance see n zero (at q v f)) → advance see m zero (at q v f) ≡ advance see n zero (at q v f)
+      by : (q : List Piece) (v : Counts) (f : Option Scalar) → NodesLeft (advance see n zero (at q v f)) → advance see m zero (at q v f) ≡ advance see n zero (at q v f)
       by [] v f left = done zero v f
-      by (c ∷ cs) v f left = go (decLt v n)
+      by (c ∷ cs) v f left = go (decLt (v .visited) n)
         where
-          go : Dec (v < n) → advance see m zero (at (c ∷ cs) v f) ≡ advance see n zero (at (c ∷ cs) v f)
+          go : Dec (v .visited < n) → advance see m zero (at (c ∷ cs) v f) ≡ advance see n zero (at (c ∷ cs) v f)
           go (yes l) = waits see m (at (c ∷ cs) v f) (goes m c cs v f (omega arith)) ∙ sym (waits see n (at (c ∷ cs) v f) (goes n c cs v f l))
           go (no l) = absurd (spent zero c cs v f (omega arith) left)
-  steps (suc k) s left = by (steps k) (s .queue) (s .visited) (s .found) left
+  steps (suc k) s left = by (steps k) (s .queue) (s .counts) (s .found) left
     where
       Rest : Type 0
       Rest = (s′ : State) → NodesLeft (advance see n k s′) → advance see m k s′ ≡ advance see n k s′
 
-      by : Rest → (q : List Piece) (v : ℕ) (f : Option Scalar) → NodesLeft (advance see n (suc k) (at q v f)) → advance see m (suc k) (at q v f) ≡ advance see n (suc k) (at q v f)
+      by : Rest → (q : List Piece) (v : Counts) (f : Option Scalar) → NodesLeft (advance see n (suc k) (at q v f)) → advance see m (suc k) (at q v f) ≡ advance see n (suc k) (at q v f)
       by rest [] v f left = done (suc k) v f
-      by rest (c ∷ cs) v f left = go (decLt v n)
+      by rest (c ∷ cs) v f left = go (decLt (v .visited) n)
         where
-          next : v < n → (t : Step) → step see (c ∷ cs) v f ≡ t → advance see m (suc k) (at (c ∷ cs) v f) ≡ advance see n (suc k) (at (c ∷ cs) v f)
+          next : v .visited < n → (t : Step) → step see (c ∷ cs) v f ≡ t → advance see m (suc k) (at (c ∷ cs) v f) ≡ advance see n (suc k) (at (c ∷ cs) v f)
           next l (over r) u = fails see m k (at (c ∷ cs) v f) r (goes m c cs v f (omega arith)) u ∙ sym (fails see n k (at (c ∷ cs) v f) r (goes n c cs v f l) u)
           next l (going s′) u =
               let one = once see n k (at (c ∷ cs) v f) s′ (goes n c cs v f l) u in
               once see m k (at (c ∷ cs) v f) s′ (goes m c cs v f (omega arith)) u ∙ rest s′ (subst NodesLeft one left) ∙ sym one
 
-          go : Dec (v < n) → advance see m (suc k) (at (c ∷ cs) v f) ≡ advance see n (suc k) (at (c ∷ cs) v f)
+          go : Dec (v .visited < n) → advance see m (suc k) (at (c ∷ cs) v f) ≡ advance see n (suc k) (at (c ∷ cs) v f)
           go (yes l) = next l (step see (c ∷ cs) v f) refl
           go (no l) = absurd (spent (suc k) c cs v f (omega arith) left)
 
@@ -113,8 +114,8 @@ module _ (ar : Arithmetic) (c : Call) (m words : ℕ) where
       see : visit ar q′ ≡ visit ar q
       see = λ i s. visit-nodes s i
 
-      by : (b : Bool) → NotSpent (cond b (answered (advance (visit ar q) (c .nodes) (c .nodes) (begun (asPiece (c .curve))))) (Nothing 0))
-          → cond b (answered (advance (visit ar q′) m m (begun (asPiece (c .curve))))) (Nothing 0) ≡ cond b (answered (advance (visit ar q) (c .nodes) (c .nodes) (begun (asPiece (c .curve))))) (Nothing 0)
+      by : (b : Bool) → NotSpent (cond b (answered (advance (visit ar q) (c .nodes) (c .nodes) (begun (asPiece (c .curve))))) (Nothing 0 0))
+          → cond b (answered (advance (visit ar q′) m m (begun (asPiece (c .curve))))) (Nothing 0 0) ≡ cond b (answered (advance (visit ar q) (c .nodes) (c .nodes) (begun (asPiece (c .curve))))) (Nothing 0 0)
       by true d = ap (λ (f : Piece → Visit). answered (advance f m m (begun (asPiece (c .curve))))) see ∙ enough (visit ar q) (c .nodes) m h (begun (asPiece (c .curve))) d
       by false d = refl
 
@@ -125,10 +126,10 @@ still c m words w e = accepted-by (withNodes c m words) (curve-accepted c e) (le
 
 -- ---- THE LAW
 not-spent : (r : Found) → Completes r → NotSpent r
-not-spent (Nothing v) h = tt
-not-spent (Enclosed lo hi v) h = tt
-not-spent (Spent n v) h = h
-not-spent (Refused n v) h = tt
+not-spent (Nothing v k) h = tt
+not-spent (Enclosed lo hi v k) h = tt
+not-spent (Spent n v k) h = h
+not-spent (Refused n v k) h = tt
 
 pub more-nodes : (ar : Arithmetic) → MoreNodes ar
 unfolding searched searchedBy areaAfter areaBy

@@ -1,5 +1,6 @@
--- The scope's cases P1 to P10: one table, and one proposition for all its rows, by computation. A row reads as Rows.antt says: `prints` is a text and what it prints, where the first
--- of the five values is 1 for enclosed, 2 for spent and 0 for none; the other rows are an operation, its operands and its result. Doubles are their bits.
+-- The scope's cases P1 to P10, and cases C1 to C8 of request E2: one table, and one proposition for all its rows, by computation. A row reads as Rows.antt says: `prints` is a text
+-- and what it prints, where the first of the six values is 0 for none, 1 for enclosed, 2 for spent and 111 for refused-11; the other rows are an operation, its operands and its result.
+-- Doubles are their bits.
 use Prim.Native.Nat.{ℕ}
 use mathlib.Core.Path.{_≡_, refl}
 use mathlib.Core.Bool.{true}
@@ -20,45 +21,91 @@ single nodes x = record {
   box = x ∷ x ∷ 0x4014000000000000 ∷ 0x4014000000000000 ∷ [];
 }
 
--- The text of P6: degree 1 on 0, 0, 1, 1, both points (2, 0), weights 1, and the box (2, 0).
-abbrev twice : Text
-twice = record {
+-- A text of degree 1 on 0, 0, e, e.
+abbrev line : ℕ → ℕ → ℕ → List ℕ → List ℕ → Text
+line e nodes resolution points box = record {
   dim = 2;
   degree = 1;
   count = 2;
-  nodes = 1;
-  resolution = 0;
-  knots = 0 ∷ 0 ∷ 0x3ff0000000000000 ∷ 0x3ff0000000000000 ∷ [];
+  nodes = nodes;
+  resolution = resolution;
+  knots = 0 ∷ 0 ∷ e ∷ e ∷ [];
+  points = points;
+  box = box;
+}
+
+-- P6: on 0, 0, 1, 1, both points (2, 0), weights 1, and the box (2, 0).
+abbrev twice : Text
+twice = line 0x3ff0000000000000 1 0
+    (0x4000000000000000 ∷ 0x4000000000000000 ∷ 0 ∷ 0 ∷ 0x3ff0000000000000 ∷ 0x3ff0000000000000
+    ∷ 0x4000000000000000 ∷ 0x4000000000000000 ∷ 0 ∷ 0 ∷ 0x3ff0000000000000 ∷ 0x3ff0000000000000
+    ∷ [])
+    (0x4000000000000000 ∷ 0x4000000000000000 ∷ 0 ∷ 0 ∷ [])
+
+-- On 0, 0, 1, 1 the line from (0, 0) to (1, 1), weights 1, resolution 1/2, and the box from a to b on both axes.
+abbrev diagonal : ℕ → ℕ → ℕ → Text
+diagonal nodes a b = line 0x3ff0000000000000 nodes 0x3fe0000000000000
+    (0 ∷ 0 ∷ 0 ∷ 0 ∷ 0x3ff0000000000000 ∷ 0x3ff0000000000000
+    ∷ 0x3ff0000000000000 ∷ 0x3ff0000000000000 ∷ 0x3ff0000000000000 ∷ 0x3ff0000000000000 ∷ 0x3ff0000000000000 ∷ 0x3ff0000000000000
+    ∷ [])
+    (a ∷ b ∷ a ∷ b ∷ [])
+
+-- On 0, 0, 1, 1 the numbers (-1, 0) and (1, 0), of weights 2 ^ -1074 and 2 ^ -1073, and the box (0, 0).
+abbrev light : Text
+light = line 0x3ff0000000000000 1 0
+    (0xbff0000000000000 ∷ 0xbff0000000000000 ∷ 0 ∷ 0 ∷ 1 ∷ 1
+    ∷ 0x3ff0000000000000 ∷ 0x3ff0000000000000 ∷ 0 ∷ 0 ∷ 2 ∷ 2
+    ∷ [])
+    (0 ∷ 0 ∷ 0 ∷ 0 ∷ [])
+
+-- On a domain from 0 to 2 ^ -1022 the line from (0, 1) to (0, -1), weights 1, and the box (0, 0).
+abbrev brief : Text
+brief = line 0x0010000000000000 4 0
+    (0 ∷ 0 ∷ 0x3ff0000000000000 ∷ 0x3ff0000000000000 ∷ 0x3ff0000000000000 ∷ 0x3ff0000000000000
+    ∷ 0 ∷ 0 ∷ 0xbff0000000000000 ∷ 0xbff0000000000000 ∷ 0x3ff0000000000000 ∷ 0x3ff0000000000000
+    ∷ [])
+    (0 ∷ 0 ∷ 0 ∷ 0 ∷ [])
+
+-- The arc of degree 2 through (0, 0), (2, 2) and (4, 0), weights 1, and the box (2, 3), which lies above it.
+abbrev arc : Text
+arc = record {
+  dim = 2;
+  degree = 2;
+  count = 3;
+  nodes = 4;
+  resolution = 0x3fe0000000000000;
+  knots = 0 ∷ 0 ∷ 0 ∷ 0x3ff0000000000000 ∷ 0x3ff0000000000000 ∷ 0x3ff0000000000000 ∷ [];
   points =
-      0x4000000000000000 ∷ 0x4000000000000000 ∷ 0 ∷ 0 ∷ 0x3ff0000000000000 ∷ 0x3ff0000000000000
-      ∷ 0x4000000000000000 ∷ 0x4000000000000000 ∷ 0 ∷ 0 ∷ 0x3ff0000000000000 ∷ 0x3ff0000000000000
+      0 ∷ 0 ∷ 0 ∷ 0 ∷ 0x3ff0000000000000 ∷ 0x3ff0000000000000
+      ∷ 0x4000000000000000 ∷ 0x4000000000000000 ∷ 0x4010000000000000 ∷ 0x4010000000000000 ∷ 0x3ff0000000000000 ∷ 0x3ff0000000000000
+      ∷ 0x4010000000000000 ∷ 0x4010000000000000 ∷ 0 ∷ 0 ∷ 0x3ff0000000000000 ∷ 0x3ff0000000000000
       ∷ [];
-  box = 0x4000000000000000 ∷ 0x4000000000000000 ∷ 0 ∷ 0 ∷ [];
+  box = 0x4000000000000000 ∷ 0x4000000000000000 ∷ 0x4008000000000000 ∷ 0x4008000000000000 ∷ [];
 }
 
 -- enclosed, visited 1, pending 0, from 0 to 1
 abbrev P1 : Row
-P1 = prints (single 1 0x4008000000000000) (1 ∷ 1 ∷ 0 ∷ 0 ∷ 0x3ff0000000000000 ∷ [])
+P1 = prints (single 1 0x4008000000000000) (1 ∷ 1 ∷ 0 ∷ 0 ∷ 0 ∷ 0x3ff0000000000000 ∷ [])
 
 -- nodes 0: spent, visited 0, pending 1
 abbrev P2 : Row
-P2 = prints (single 0 0x4008000000000000) (2 ∷ 0 ∷ 1 ∷ 0 ∷ 0 ∷ [])
+P2 = prints (single 0 0x4008000000000000) (2 ∷ 0 ∷ 0 ∷ 1 ∷ 0 ∷ 0 ∷ [])
 
 -- nodes 0, the box at 4: none, visited 0
 abbrev P3 : Row
-P3 = prints (single 0 0x4010000000000000) (0 ∷ 0 ∷ 0 ∷ 0 ∷ 0 ∷ [])
+P3 = prints (single 0 0x4010000000000000) (0 ∷ 0 ∷ 0 ∷ 0 ∷ 0 ∷ 0 ∷ [])
 
 -- the box three doubles above 3: enclosed
 abbrev P4 : Row
-P4 = prints (single 1 0x4008000000000003) (1 ∷ 1 ∷ 0 ∷ 0 ∷ 0x3ff0000000000000 ∷ [])
+P4 = prints (single 1 0x4008000000000003) (1 ∷ 1 ∷ 0 ∷ 0 ∷ 0 ∷ 0x3ff0000000000000 ∷ [])
 
 -- the box four doubles above 3: none
 abbrev P5 : Row
-P5 = prints (single 1 0x4008000000000004) (0 ∷ 0 ∷ 0 ∷ 0 ∷ 0 ∷ [])
+P5 = prints (single 1 0x4008000000000004) (0 ∷ 0 ∷ 0 ∷ 0 ∷ 0 ∷ 0 ∷ [])
 
 -- enclosed, from 0 to 1
 abbrev P6 : Row
-P6 = prints twice (1 ∷ 1 ∷ 0 ∷ 0 ∷ 0x3ff0000000000000 ∷ [])
+P6 = prints twice (1 ∷ 1 ∷ 0 ∷ 0 ∷ 0 ∷ 0x3ff0000000000000 ∷ [])
 
 -- 1 + 1
 abbrev P7 : Row
@@ -76,9 +123,41 @@ P9 = roots 0x0000000000000001 0x1e60000000000000
 abbrev P10 : Row
 P10 = products 0 0 0x8000000000000001 0x0000000000000001
 
+-- Request E2. The box in the middle: cut down at both ends, and then reported: enclosed, visited 2, cuts 2.
+abbrev C1 : Row
+C1 = prints (diagonal 2 0x3fe0000000000000 0x3fe0000000000000) (1 ∷ 2 ∷ 2 ∷ 0 ∷ 0x3fdfffffffffffc1 ∷ 0x3fe0000000000029 ∷ [])
+
+-- with one node: the piece waits, and its cuts count: spent, visited 1, cuts 2, pending 1
+abbrev C2 : Row
+C2 = prints (diagonal 1 0x3fe0000000000000 0x3fe0000000000000) (2 ∷ 1 ∷ 2 ∷ 1 ∷ 0 ∷ 0 ∷ [])
+
+-- the box at the start: the hat begins where the domain does, and only what is behind it is cut off: cuts 1
+abbrev C3 : Row
+C3 = prints (diagonal 1 0 0) (2 ∷ 1 ∷ 1 ∷ 1 ∷ 0 ∷ 0 ∷ [])
+
+-- the box at the end: only what is in front of the hat is cut off: cuts 1
+abbrev C4 : Row
+C4 = prints (diagonal 1 0x3ff0000000000000 0x3ff0000000000000) (2 ∷ 1 ∷ 1 ∷ 1 ∷ 0 ∷ 0 ∷ [])
+
+-- the box as wide as the path: a halving, and two reports: enclosed, visited 3, cuts 0
+abbrev C5 : Row
+C5 = prints (diagonal 3 0 0x3ff0000000000000) (1 ∷ 3 ∷ 0 ∷ 0 ∷ 0 ∷ 0x3ff0000000000000 ∷ [])
+
+-- cut down at both ends, and then dropped: none, visited 2, cuts 2
+abbrev C6 : Row
+C6 = prints arc (0 ∷ 2 ∷ 2 ∷ 0 ∷ 0 ∷ 0 ∷ [])
+
+-- two cuts, and a weight of what they leave is not above zero: refused by 11, visited 1, cuts 0
+abbrev C7 : Row
+C7 = prints light (111 ∷ 1 ∷ 0 ∷ 0 ∷ 0 ∷ 0 ∷ [])
+
+-- the same in the second visit, after two cuts in the first: refused by 11, visited 2, cuts 2
+abbrev C8 : Row
+C8 = prints brief (111 ∷ 2 ∷ 2 ∷ 0 ∷ 0 ∷ 0 ∷ [])
+
 -- The table.
 abbrev pub table : List Row
-table = P1 ∷ P2 ∷ P3 ∷ P4 ∷ P5 ∷ P6 ∷ P7 ∷ P8 ∷ P9 ∷ P10 ∷ []
+table = P1 ∷ P2 ∷ P3 ∷ P4 ∷ P5 ∷ P6 ∷ P7 ∷ P8 ∷ P9 ∷ P10 ∷ C1 ∷ C2 ∷ C3 ∷ C4 ∷ C5 ∷ C6 ∷ C7 ∷ C8 ∷ []
 
 right-P1 : right P1 ≡ true
 unfolding right
@@ -120,7 +199,39 @@ right-P10 : right P10 ≡ true
 unfolding right
 right-P10 = refl
 
+right-C1 : right C1 ≡ true
+unfolding right
+right-C1 = refl
+
+right-C2 : right C2 ≡ true
+unfolding right
+right-C2 = refl
+
+right-C3 : right C3 ≡ true
+unfolding right
+right-C3 = refl
+
+right-C4 : right C4 ≡ true
+unfolding right
+right-C4 = refl
+
+right-C5 : right C5 ≡ true
+unfolding right
+right-C5 = refl
+
+right-C6 : right C6 ≡ true
+unfolding right
+right-C6 = refl
+
+right-C7 : right C7 ≡ true
+unfolding right
+right-C7 = refl
+
+right-C8 : right C8 ≡ true
+unfolding right
+right-C8 = refl
+
 -- Every row is right.
 pub all-right : all right table ≡ true
 unfolding all
-all-right = simp (right-P1, right-P2, right-P3, right-P4, right-P5, right-P6, right-P7, right-P8, right-P9, right-P10)
+all-right = simp (right-P1, right-P2, right-P3, right-P4, right-P5, right-P6, right-P7, right-P8, right-P9, right-P10, right-C1, right-C2, right-C3, right-C4, right-C5, right-C6, right-C7, right-C8)

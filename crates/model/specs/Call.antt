@@ -180,10 +180,10 @@ statedWords dim degree count nodes =
 
 -- ---- what a call gives, and the work area that it leaves
 
--- The result, where the refusal is known; visited is 0 with a refusal.
+-- The result, where the refusal is known; nothing is counted with a refusal.
 unfoldable pub searchedBy : Arithmetic → Call → ℕ → Found
 searchedBy ar c zero = couldContain ar (question c) (asPiece (c .curve))
-searchedBy ar c (suc n) = Refused (suc n) 0
+searchedBy ar c (suc n) = Refused (suc n) 0 0
 
 -- The result of a call.
 unfoldable pub searched : Arithmetic → Call → Found

@@ -12,10 +12,11 @@ pub data Result : Type 0 where
   none-found enclosed spent : Result
   refused : ℕ → Result
 
--- What the scope says of an answer: the five values that the program prints.
+-- What the scope and request E2 say of an answer: the six values that the program prints.
 pub record Paper : Type 0 where
   pub result : Result
   pub visited : ℕ
+  pub cuts : ℕ
   -- 0 unless spent
   pub pending : ℕ
   -- lo and hi, which are `-` unless enclosed
@@ -23,10 +24,10 @@ pub record Paper : Type 0 where
 
 -- The answer of a search.
 abbrev pub paper : Found → Paper
-paper (Nothing v) = record { result = none-found; visited = v; pending = 0; bounds = none }
-paper (Enclosed lo hi v) = record { result = enclosed; visited = v; pending = 0; bounds = some (record { lo = lo; hi = hi }) }
-paper (Spent n v) = record { result = spent; visited = v; pending = n; bounds = none }
-paper (Refused n v) = record { result = refused n; visited = v; pending = 0; bounds = none }
+paper (Nothing v k) = record { result = none-found; visited = v; cuts = k; pending = 0; bounds = none }
+paper (Enclosed lo hi v k) = record { result = enclosed; visited = v; cuts = k; pending = 0; bounds = some (record { lo = lo; hi = hi }) }
+paper (Spent n v k) = record { result = spent; visited = v; cuts = k; pending = n; bounds = none }
+paper (Refused n v k) = record { result = refused n; visited = v; cuts = k; pending = 0; bounds = none }
 
 -- The answer of a clip: the hat, or no hat, which leaves the visit early.
 abbrev pub hatOf : Hat → Option Scalar

@@ -1,4 +1,4 @@
--- The answer to a text, and the five lines that are printed for it. Definitions only.
+-- The answer to a text, and the six lines that are printed for it. Definitions only.
 use Prim.Native.Nat.{ℕ}
 use mathlib.Core.Bool.{cond}
 use mathlib.Core.List.{List, [], _++_}
@@ -14,9 +14,9 @@ use Rattle.text.specs.Bytes.{bytes}
 use Rattle.text.specs.Numerals.{decimal, hexadecimal}
 use Rattle.text.specs.Question.{Reading, refusedBy, asks, callOf, reading}
 
--- The answer to what was read: "A refusal other than 11 prints visited=0."
+-- The answer to what was read: "A refusal other than 11 prints visited=0", and cuts=0 (request E2).
 unfoldable pub answeredBy : Reading → Found
-answeredBy (refusedBy n) = Refused n 0
+answeredBy (refusedBy n) = Refused n 0 0
 answeredBy (asks s q) = searched geop (callOf s q)
 
 -- The answer to a text.
@@ -35,13 +35,17 @@ unfoldable pub boundLines : Option Scalar → List ℕ
 boundLines none = bytes "lo=-\nhi=-\n"
 boundLines (some x) = bytes "lo=" ++ hexadecimal (x .lo) ++ bytes "\nhi=" ++ hexadecimal (x .hi) ++ bytes "\n"
 
--- The five lines.
+-- The lines of the counts, with the end of the line before them: cuts stands between the two of the scope (request E2).
+unfoldable pub countLines : Paper → List ℕ
+countLines a =
+    (bytes "\nvisited=" ++ decimal (a .visited))
+    ++ (bytes "\ncuts=" ++ decimal (a .cuts))
+    ++ (bytes "\npending=" ++ decimal (a .pending))
+    ++ bytes "\n"
+
+-- The six lines.
 unfoldable pub printed : Paper → List ℕ
-printed a =
-    bytes "result=" ++ resultWord (a .result)
-    ++ bytes "\nvisited=" ++ decimal (a .visited)
-    ++ bytes "\npending=" ++ decimal (a .pending)
-    ++ bytes "\n" ++ boundLines (a .bounds)
+printed a = bytes "result=" ++ resultWord (a .result) ++ countLines a ++ boundLines (a .bounds)
 
 -- What the program writes for a text.
 unfoldable pub response : List ℕ → List ℕ

@@ -9,7 +9,7 @@ ghost use lib.Dec.{T};
 ghost use lib.Ieee.{isNan};
 ghost use Rattle.model.specs.Paper.{paper};
 ghost use Rattle.text.specs.Numerals.{digitOf, lastDigits, decimalLength, decimal, hexadecimal};
-ghost use Rattle.text.specs.Respond.{resultWord, boundLines, printed};
+ghost use Rattle.text.specs.Respond.{resultWord, countLines, boundLines, printed};
 ghost use Rattle.text.specs.Printable.{Written, Printable};
 
 // ---- words and numbers
@@ -93,19 +93,19 @@ fn put_result(out: &mut [u8], at: usize, f: Found) -> usize
         ⌜ Written l at (resultWord (paper f .result)) m r × (r ≤ at + 28) ⌝ }
 {
     match f {
-        Found::Nothing(_) => {
+        Found::Nothing(_, _) => {
             let none = [b'n', b'o', b'n', b'e'];
             put_word(out, at, &none)
         }
-        Found::Enclosed(_, _, _) => {
+        Found::Enclosed(_, _, _, _) => {
             let enclosed = [b'e', b'n', b'c', b'l', b'o', b's', b'e', b'd'];
             put_word(out, at, &enclosed)
         }
-        Found::Spent(_, _) => {
+        Found::Spent(_, _, _) => {
             let spent = [b's', b'p', b'e', b'n', b't'];
             put_word(out, at, &spent)
         }
-        Found::Refused(n, _) => {
+        Found::Refused(n, _, _) => {
             let refused = [b'r', b'e', b'f', b'u', b's', b'e', b'd', b'-'];
             let i = put_word(out, at, &refused);
             put_decimal(out, i, n)
@@ -118,10 +118,22 @@ fn visited_of(f: Found) -> u64
     ensures { λ r. ⌜ r ≡ paper f .visited ⌝ }
 {
     match f {
-        Found::Nothing(v) => v as u64,
-        Found::Enclosed(_, _, v) => v as u64,
-        Found::Spent(_, v) => v as u64,
-        Found::Refused(_, v) => v as u64,
+        Found::Nothing(v, _) => v as u64,
+        Found::Enclosed(_, _, v, _) => v as u64,
+        Found::Spent(_, v, _) => v as u64,
+        Found::Refused(_, v, _) => v as u64,
+    }
+}
+
+// How many cuts were made.
+fn cuts_of(f: Found) -> u64
+    ensures { λ r. ⌜ r ≡ paper f .cuts ⌝ }
+{
+    match f {
+        Found::Nothing(_, k) => k as u64,
+        Found::Enclosed(_, _, _, k) => k as u64,
+        Found::Spent(_, _, k) => k as u64,
+        Found::Refused(_, _, k) => k as u64,
     }
 }
 
@@ -130,10 +142,10 @@ fn pending_of(f: Found) -> u64
     ensures { λ r. ⌜ r ≡ paper f .pending ⌝ }
 {
     match f {
-        Found::Nothing(_) => 0,
-        Found::Enclosed(_, _, _) => 0,
-        Found::Spent(n, _) => n as u64,
-        Found::Refused(_, _) => 0,
+        Found::Nothing(_, _) => 0,
+        Found::Enclosed(_, _, _, _) => 0,
+        Found::Spent(n, _, _) => n as u64,
+        Found::Refused(_, _, _) => 0,
     }
 }
 
@@ -148,6 +160,23 @@ fn put_count(out: &mut [u8], at: usize, key: &[u8], n: u64) -> usize
     put_decimal(out, i, n)
 }
 
+// The lines of the counts, from `at` on, where the line before them has to end.
+fn put_counts(out: &mut [u8], at: usize, f: Found) -> usize
+    requires { ⌜ at + 85 ≤ length (now out) ⌝ }
+    ensures { λ r.
+        let l = now (out .entry) in let m = now (out .exit) in
+        ⌜ Written l at (countLines (paper f)) m r × (r ≤ at + 85) ⌝ }
+{
+    let visited = [b'\n', b'v', b'i', b's', b'i', b't', b'e', b'd', b'='];
+    let i = put_count(out, at, &visited, visited_of(f));
+    let cuts = [b'\n', b'c', b'u', b't', b's', b'='];
+    let j = put_count(out, i, &cuts, cuts_of(f));
+    let pending = [b'\n', b'p', b'e', b'n', b'd', b'i', b'n', b'g', b'='];
+    let k = put_count(out, j, &pending, pending_of(f));
+    let end = [b'\n'];
+    put_word(out, k, &end)
+}
+
 // The lines of the two bounds, from `at` on.
 fn put_bounds(out: &mut [u8], at: usize, f: Found) -> usize
     requires { ⌜ (at + 40 ≤ length (now out)) × Printable f ⌝ }
@@ -155,7 +184,7 @@ fn put_bounds(out: &mut [u8], at: usize, f: Found) -> usize
         let l = now (out .entry) in let m = now (out .exit) in
         ⌜ Written l at (boundLines (paper f .bounds)) m r × (r ≤ at + 40) ⌝ }
 {
-    let Found::Enclosed(lo, hi, _) = f else {
+    let Found::Enclosed(lo, hi, _, _) = f else {
         let dashes = [b'l', b'o', b'=', b'-', b'\n', b'h', b'i', b'=', b'-', b'\n'];
         return put_word(out, at, &dashes);
     };
@@ -169,7 +198,7 @@ fn put_bounds(out: &mut [u8], at: usize, f: Found) -> usize
     put_word(out, l, &end)
 }
 
-// The five lines of an answer, written to the front of `out`. The result is how many bytes they are.
+// The six lines of an answer, written to the front of `out`. The result is how many bytes they are.
 pub(crate) fn write(f: Found, out: &mut [u8]) -> usize
     requires { ⌜ (160 ≤ length (now out)) × Printable f ⌝ }
     ensures { λ r. ⌜ Written (now (out .entry)) 0 (printed (paper f)) (now (out .exit)) r × (r ≤ 160) ⌝ }
@@ -177,11 +206,6 @@ pub(crate) fn write(f: Found, out: &mut [u8]) -> usize
     let result = [b'r', b'e', b's', b'u', b'l', b't', b'='];
     let i = put_word(out, 0, &result);
     let j = put_result(out, i, f);
-    let visited = [b'\n', b'v', b'i', b's', b'i', b't', b'e', b'd', b'='];
-    let k = put_count(out, j, &visited, visited_of(f));
-    let pending = [b'\n', b'p', b'e', b'n', b'd', b'i', b'n', b'g', b'='];
-    let l = put_count(out, k, &pending, pending_of(f));
-    let end = [b'\n'];
-    let m = put_word(out, l, &end);
-    put_bounds(out, m, f)
+    let k = put_counts(out, j, f);
+    put_bounds(out, k, f)
 }

@@ -68,13 +68,13 @@ fn asked(text: &[u8], at: usize, dim: usize, degree: usize, count: usize) -> Fou
 {
     let mut lines = room();
     let Small::Number(nodes, end) = numbers(text, at, dim, degree, count, &mut lines) else {
-        return Found::Refused(12, 0);
+        return Found::Refused(12, 0, 0);
     };
     if 65536 < text.len() {
-        return Found::Refused(12, 0);
+        return Found::Refused(12, 0, 0);
     }
     if end < text.len() {
-        return Found::Refused(12, 0);
+        return Found::Refused(12, 0, 0);
     }
     ask_lines(&lines, dim, degree, count, nodes)
 }
@@ -85,11 +85,11 @@ fn answered(text: &[u8]) -> Found
     ensures numbers { λ r. ⌜ Printable r ⌝ }
 {
     let Head::Heads(dim, degree, count, at) = sizes(text) else {
-        return Found::Refused(12, 0);
+        return Found::Refused(12, 0, 0);
     };
     let number = sizes_refusal(dim, degree, count);
     if number != 0 {
-        return Found::Refused(number as u64, 0);
+        return Found::Refused(number as u64, 0, 0);
     }
     asked(text, at, dim, degree, count)
 }

@@ -8,13 +8,12 @@ use native.Mathlib.Omega.{arith}
 use lib.ListN.{length, drop, replicate}
 use lib.Ieee.{Float}
 use Rattle.lists.specs.Lists.{put, cleared}
-use Rattle.lists.specs.Ring.{wrapped}
 use Rattle.lists.proofs.Loop.{cleared-put, cleared-same}
 use Rattle.lists.proofs.Ring.{wrapped-head}
 use Rattle.math.specs.Scalars.{geop, zeroF}
 use Rattle.math.proofs.Bools.{pick-yes, pick-no}
 use Rattle.model.specs.NurbCurve.{Piece}
-use Rattle.model.specs.Layout.{pointsOf, pointAt, areaWords}
+use Rattle.model.specs.Layout.{areaWords}
 use Rattle.model.specs.Aabb.{couldMeet}
 use Rattle.model.specs.Subdivide.{advance, answered}
 use Rattle.model.specs.Contains.{visit, begun, couldContain}
@@ -23,8 +22,8 @@ use Rattle.model.specs.Enclosure.{Doubles, Accepted, HitsEnclosed, BoundsInDoma
 use Rattle.model.specs.Paper.{paper}
 use Rattle.model.specs.Promise.{Answers}
 use Rattle.geometry.specs.Call.{Searches}
-use Rattle.geometry.specs.Slots.{wordsOf, pointWords, pieceAt, placed, Fits, Inside, Held}
-use Rattle.geometry.specs.Ring.{ringBase, Ring, Beside}
+use Rattle.geometry.specs.Slots.{wordsOf, pieceAt, placed, Fits, Inside, Held}
+use Rattle.geometry.specs.Ring.{ringBase, Ring}
 use Rattle.geometry.specs.State.{AllFit, Begins}
 use Rattle.model.specs.declared.contains.Found.{Found}
 use Rattle.model.specs.declared.contains.Found.the-variants.{Nothing, Refused}
@@ -40,7 +39,7 @@ use Rattle.geometry.proofs.contains.Fit.{shapeOf, all-fit}
 -- ---- the promises of a call
 
 -- A call that is refused gives its number, and writes nothing.
-pub refused : (c : Call) (area : List Float) (n : ℕ) → n ≡ refusal c → (n ≡ 0 → ⊥) → Answers c area area (Refused n 0)
+pub refused : (c : Call) (area : List Float) (n : ℕ) → n ≡ refusal c → (n ≡ 0 → ⊥) → Answers c area area (Refused n 0 0)
 unfolding searched searchedBy areaAfter areaBy
 refused c area zero e h = absurd (h refl)
 refused c area (suc n) e h = record {
@@ -54,7 +53,7 @@ refused c area (suc n) e h = record {
   debug = debug-says c _ (λ acc. absurd (h (e ∙ acc))) result;
 }
   where
-    result : Refused (suc n) 0 ≡ searchedBy geop c (refusal c)
+    result : Refused (suc n) 0 0 ≡ searchedBy geop c (refusal c)
     result = ap (searchedBy geop c) e
 
 -- Any other is searched, and its answer keeps demand 3.
@@ -116,7 +115,7 @@ module _ (c : Call) (acc : Accepted c) (area : List Float) (long : length area �
         behind : drop (stated c) l ≡ drop (stated c) area
         behind = unfold stated in e
 
-  pub missed : (b : Bool) → b ≡ couldMeet geop (c .curve .dim) (c .curve .degree) (asPiece (c .curve) .points) (boxOf c) → b ≡ false → Nothing 0 ≡ searched geop c
+  pub missed : (b : Bool) → b ≡ couldMeet geop (c .curve .dim) (c .curve .degree) (asPiece (c .curve) .points) (boxOf c) → b ≡ false → Nothing 0 0 ≡ searched geop c
   unfolding searched searchedBy couldContain
   missed b B e = pick-no _ _ _ (sym B ∙ e) ∙ sym (ap (searchedBy geop c) acc)
 

@@ -3,7 +3,7 @@ use mathlib.Core.Path.{_≡_, refl, sym, ap, _∙_, subst}
 use mathlib.Core.Bool.{true, false}
 use mathlib.Core.List.{List, [], _∷_}
 use mathlib.Core.Option.{Option, none, some}
-use Prim.Native.Nat.{ℕ, zero, suc, _+_, _-_, _*_, _≤_, _<_}
+use Prim.Native.Nat.{ℕ, suc, _+_, _-_, _*_, _≤_, _<_}
 use native.Mathlib.Nat.{zero-mul}
 use native.Mathlib.Omega.{arith}
 use lib.ListN.{length, drop}
@@ -14,20 +14,22 @@ use Rattle.math.specs.declared.scalars.Scalar.{Scalar}
 use Rattle.math.specs.Scalars.{geop}
 use Rattle.model.specs.NurbCurve.{Piece}
 use Rattle.model.specs.Layout.{scalarsOf}
-use Rattle.model.specs.Subdivide.{Question, Visit, State, Step, going, over, complete, ended, step, advance, answered}
+use Rattle.model.specs.Subdivide.{Question, Visit, State, going, over, noCounts, complete, ended, step, advance, answered}
 use Rattle.model.specs.Contains.{visit, begun}
 use Rattle.model.specs.Enclosure.{Every}
-use Rattle.geometry.specs.Slots.{wordsOf, pieceAt, Held, countAt, Fit}
+use Rattle.geometry.specs.Slots.{wordsOf, pieceAt, Fit}
 use Rattle.geometry.specs.Ring.{baseOf, ringBase, waiting, Ring}
-use Rattle.geometry.specs.State.{foundOf, stateOf, hasBadWeight, Next, Visited, AllFit, askedOf, Going}
+use Rattle.geometry.specs.State.{foundOf, stateOf, outcomeOf, cutsOf, hasBadWeight, Next, Visited, AllFit, askedOf, Going}
+use Rattle.model.specs.declared.subdivide.Counts.{Counts}
 use Rattle.model.specs.declared.contains.Found.{Found}
 use Rattle.model.specs.declared.contains.Found.the-variants.{Spent, Refused}
 use Rattle.geometry.specs.declared.slots.Shape.{Shape}
 use Rattle.geometry.specs.declared.subdivide.Outcome.{Outcome}
+use Rattle.geometry.specs.declared.subdivide.Outcome.the-variants.{Dropped, Reported, Restricted, Halved, BadWeight}
 use Rattle.geometry.specs.declared.subdivide.Search.{Search}
 use Rattle.model.proofs.Pause.{ends, once, fails, waits}
-use Rattle.geometry.proofs.slots.Piece.{count-points}
-use Rattle.geometry.proofs.slots.Ring.{length-waiting, waiting-none, waiting-pop, head-held}
+use Rattle.model.proofs.Cuts.{OneOrTwo, visit-cuts}
+use Rattle.geometry.proofs.slots.Ring.{length-waiting, waiting-none, waiting-pop}
 use Rattle.geometry.proofs.visits.Plans.{visit-nodes}
 use Rattle.geometry.proofs.subdivide.State.{Turn, turn-on, turn-bad, turn-behind}
 
@@ -37,17 +39,30 @@ pub turned : (s : Shape) (box : List Float) (resolution : Float) (nodes : ℕ) (
     → Visited (visit geop (askedOf s box resolution 0) c) s a b l m o → Visited (visit geop (askedOf s box resolution nodes) c) s a b l m o
 turned s box resolution nodes c a b l m o h = subst (λ (v : Visit). Visited v s a b l m o) (visit-nodes geop (s .dim) (s .degree) (scalarsOf (s .dim) box) resolution 0 nodes c) h
 
+-- ---- and makes at most two cuts
+
+one-or-two : (s : Shape) (m : List Float) (a b : ℕ) (o : Outcome) → OneOrTwo (outcomeOf s m a b o) → cutsOf o ≤ 2
+unfolding outcomeOf
+one-or-two s m a b Dropped h = omega arith
+one-or-two s m a b (Reported t) h = omega arith
+one-or-two s m a b (Restricted n) h = h .1
+one-or-two s m a b Halved h = omega arith
+one-or-two s m a b BadWeight h = omega arith
+
+pub cuts-few : (q : Question) (s : Shape) (c : Piece) (a b : ℕ) (l m : List Float) (o : Outcome) → Visited (visit geop q c) s a b l m o → cutsOf o ≤ 2
+cuts-few q s c a b l m o h = one-or-two s m a b o (subst OneOrTwo (sym (h .is)) (visit-cuts geop q c))
+
 -- ---- whether it is over
 
-unended : (nodes : ℕ) (q : List Piece) (v : ℕ) (f : Option Scalar) → 0 < length q → v < nodes → ended nodes q v f ≡ none
+unended : (nodes : ℕ) (q : List Piece) (v : Counts) (f : Option Scalar) → 0 < length q → v .visited < nodes → ended nodes q v f ≡ none
 unfolding ended
 unended nodes [] v f h k = absurd (omega arith)
-unended nodes (c ∷ cs) v f h k = rw (lt-ltb v nodes k)
+unended nodes (c ∷ cs) v f h k = rw (lt-ltb (v .visited) nodes k)
 
-spent : (nodes : ℕ) (q : List Piece) (v n : ℕ) (f : Option Scalar) → length q ≡ n → 0 < n → nodes ≤ v → ended nodes q v f ≡ some (Spent n v)
+spent : (nodes : ℕ) (q : List Piece) (v : Counts) (n : ℕ) (f : Option Scalar) → length q ≡ n → 0 < n → nodes ≤ v .visited → ended nodes q v f ≡ some (Spent n (v .visited) (v .cuts))
 unfolding ended
 spent nodes [] v n f e h k = absurd (omega (arith, e))
-spent nodes (c ∷ cs) v n f e h k = rw (le-ltb v nodes k, ← e)
+spent nodes (c ∷ cs) v n f e h k = rw (le-ltb (v .visited) nodes k, ← e)
 
 -- ---- where the search stands
 
@@ -58,13 +73,14 @@ module _ (see : Piece → Visit) (nodes : ℕ) (s : Shape) (l₀ : List Float) w
 
   -- The start.
   abbrev pub origin : Search
-  origin = record { head = 0; pending = 1; visited = 0; found = record { any = 0; all = record { lo = ofBits binary64 0; hi = ofBits binary64 0 } } }
+  origin = record { head = 0; pending = 1; counts = noCounts; found = record { any = 0; all = record { lo = ofBits binary64 0; hi = ofBits binary64 0 } } }
 
   pub going-start : Ring s l₀ (nodes + 3) 0 1 → Going see nodes s l₀ l₀ origin
   going-start r = record {
     ring = r;
     low = omega arith;
     within = omega arith;
+    few = omega arith;
     long = refl;
     same = λ k. let z : 0 + k ≡ k = omega arith in ap (λ (i : ℕ). advance see nodes i (begun (pieceAt s l₀ 0))) z ∙ ap (advance see nodes k) (sym state);
     rest = refl;
@@ -76,7 +92,7 @@ module _ (see : Piece → Visit) (nodes : ℕ) (s : Shape) (l₀ : List Float) w
           ∙ (λ i. pieceAt s l₀ (zero-mul (wordsOf s) i) ∷ waiting-none s l₀ (nodes + 3) (wrapped (nodes + 3) (0 + 1)) i)
 
       state : stateOf s l₀ (nodes + 3) origin ≡ begun (pieceAt s l₀ 0)
-      state = unfold stateOf foundOf in (λ i. record { queue = first i; visited = 0; found = none })
+      state = unfold stateOf foundOf in (λ i. record { queue = first i; counts = noCounts; found = none })
 
   module _ (l : List Float) (x : Search) (g : Going see nodes s l₀ l x) where
     -- The state.
@@ -86,31 +102,31 @@ module _ (see : Piece → Visit) (nodes : ℕ) (s : Shape) (l₀ : List Float) w
     long-queue : length (waiting s l (nodes + 3) (x .head) (x .pending)) ≡ x .pending
     long-queue = length-waiting s l (nodes + 3) (x .head) (x .pending)
 
-    at-end : (k : ℕ) (r : Found) → nodes ≡ x .visited + k → advance see nodes k (stateOf s l (nodes + 3) x) ≡ over r → r ≡ sought
+    at-end : (k : ℕ) (r : Found) → nodes ≡ x .counts .visited + k → advance see nodes k (stateOf s l (nodes + 3) x) ≡ over r → r ≡ sought
     unfolding answered
     at-end k r e a = sym (ap answered (ap (λ (i : ℕ). advance see nodes i (begun (pieceAt s l₀ 0))) e ∙ g .same k ∙ a))
 
     -- no piece waits
-    pub going-none : (r : Found) → x .pending ≤ 0 → r ≡ complete (foundOf (x .found)) (x .visited) → r ≡ sought
-    going-none r h e = e ∙ at-end (nodes - x .visited) (complete (foundOf (x .found)) (x .visited)) (omega (arith, g .within)) (ends see nodes (nodes - x .visited) here (complete (foundOf (x .found)) (x .visited)) over-now)
+    pub going-none : (r : Found) → x .pending ≤ 0 → r ≡ complete (foundOf (x .found)) (x .counts) → r ≡ sought
+    going-none r h e = e ∙ at-end (nodes - x .counts .visited) (complete (foundOf (x .found)) (x .counts)) (omega (arith, g .within)) (ends see nodes (nodes - x .counts .visited) here (complete (foundOf (x .found)) (x .counts)) over-now)
       where
         empty : waiting s l (nodes + 3) (x .head) (x .pending) ≡ []
         empty = let z : x .pending ≡ 0 = omega arith in ap (waiting s l (nodes + 3) (x .head)) z ∙ waiting-none s l (nodes + 3) (x .head)
 
-        over-now : ended nodes (stateOf s l (nodes + 3) x .queue) (stateOf s l (nodes + 3) x .visited) (stateOf s l (nodes + 3) x .found) ≡ some (complete (foundOf (x .found)) (x .visited))
-        over-now = unfold stateOf ended in (ap (λ (q : List Piece). ended nodes q (x .visited) (foundOf (x .found))) empty)
+        over-now : ended nodes (stateOf s l (nodes + 3) x .queue) (stateOf s l (nodes + 3) x .counts) (stateOf s l (nodes + 3) x .found) ≡ some (complete (foundOf (x .found)) (x .counts))
+        over-now = unfold stateOf ended in (ap (λ (q : List Piece). ended nodes q (x .counts) (foundOf (x .found))) empty)
 
     module _ (some-wait : 0 < x .pending) where
       -- no visit is left
-      pub going-spent : x .visited ≡ nodes → Spent (x .pending) (x .visited) ≡ sought
-      going-spent e = at-end 0 (Spent (x .pending) (x .visited)) (omega arith) (ends see nodes 0 here (Spent (x .pending) (x .visited)) over-now)
+      pub going-spent : x .counts .visited ≡ nodes → Spent (x .pending) (x .counts .visited) (x .counts .cuts) ≡ sought
+      going-spent e = at-end 0 (Spent (x .pending) (x .counts .visited) (x .counts .cuts)) (omega arith) (ends see nodes 0 here (Spent (x .pending) (x .counts .visited) (x .counts .cuts)) over-now)
         where
-          over-now : ended nodes (stateOf s l (nodes + 3) x .queue) (stateOf s l (nodes + 3) x .visited) (stateOf s l (nodes + 3) x .found) ≡ some (Spent (x .pending) (x .visited))
-          over-now = unfold stateOf in (spent nodes (waiting s l (nodes + 3) (x .head) (x .pending)) (x .visited) (x .pending) (foundOf (x .found)) long-queue some-wait (omega arith))
+          over-now : ended nodes (stateOf s l (nodes + 3) x .queue) (stateOf s l (nodes + 3) x .counts) (stateOf s l (nodes + 3) x .found) ≡ some (Spent (x .pending) (x .counts .visited) (x .counts .cuts))
+          over-now = unfold stateOf in (spent nodes (waiting s l (nodes + 3) (x .head) (x .pending)) (x .counts) (x .pending) (foundOf (x .found)) long-queue some-wait (omega arith))
 
-      module _ (more : x .visited < nodes) where
-        not-yet : ended nodes (stateOf s l (nodes + 3) x .queue) (stateOf s l (nodes + 3) x .visited) (stateOf s l (nodes + 3) x .found) ≡ none
-        not-yet = unfold stateOf in (unended nodes (waiting s l (nodes + 3) (x .head) (x .pending)) (x .visited) (foundOf (x .found)) (omega (arith, long-queue)) more)
+      module _ (more : x .counts .visited < nodes) where
+        not-yet : ended nodes (stateOf s l (nodes + 3) x .queue) (stateOf s l (nodes + 3) x .counts) (stateOf s l (nodes + 3) x .found) ≡ none
+        not-yet = unfold stateOf in (unended nodes (waiting s l (nodes + 3) (x .head) (x .pending)) (x .counts) (foundOf (x .found)) (omega (arith, long-queue)) more)
 
         -- there is a visit left, and room for what it hands on
         pub going-room : x .pending + 1 < nodes + 3
@@ -120,13 +136,13 @@ module _ (see : Piece → Visit) (nodes : ℕ) (s : Shape) (l₀ : List Float) w
         pub going-fit : ((k : ℕ) → AllFit s (advance see nodes k (begun (pieceAt s l₀ 0)))) → Fit s (pieceAt s l (baseOf s (x .head)))
         going-fit f = first (x .pending - 1) (omega arith)
           where
-            stood : advance see nodes (x .visited) (begun (pieceAt s l₀ 0)) ≡ going (stateOf s l (nodes + 3) x)
+            stood : advance see nodes (x .counts .visited) (begun (pieceAt s l₀ 0)) ≡ going (stateOf s l (nodes + 3) x)
             stood =
-                let z : x .visited ≡ x .visited + 0 = omega arith in
+                let z : x .counts .visited ≡ x .counts .visited + 0 = omega arith in
                 ap (λ (i : ℕ). advance see nodes i (begun (pieceAt s l₀ 0))) z ∙ g .same 0 ∙ waits see nodes here not-yet
 
             every : Every (Fit s) (waiting s l (nodes + 3) (x .head) (x .pending))
-            every = unfold stateOf in (subst (AllFit s) stood (f (x .visited)))
+            every = unfold stateOf in (subst (AllFit s) stood (f (x .counts .visited)))
 
             first : (n : ℕ) → x .pending ≡ suc n → Fit s (pieceAt s l (baseOf s (x .head)))
             first n e =
@@ -141,23 +157,24 @@ module _ (see : Piece → Visit) (nodes : ℕ) (s : Shape) (l₀ : List Float) w
           going-rest = turn-behind see s l m (nodes + 3) x o (g .ring) some-wait going-room w ∙ g .rest
 
           -- a weight is not above zero
-          pub going-bad : hasBadWeight o ≡ true → Refused 11 (x .visited + 1) ≡ sought
+          pub going-bad : hasBadWeight o ≡ true → Refused 11 (x .counts .visited + 1) (x .counts .cuts) ≡ sought
           going-bad e =
-              let z : x .visited + 1 ≡ suc (x .visited) = omega arith in
-              ap (Refused 11) z
-              ∙ at-end (suc (nodes - suc (x .visited))) (Refused 11 (suc (x .visited))) (omega arith)
-              (fails see nodes (nodes - suc (x .visited)) here (Refused 11 (suc (x .visited))) not-yet
+              let z : x .counts .visited + 1 ≡ suc (x .counts .visited) = omega arith in
+              ap (λ (i : ℕ). Refused 11 i (x .counts .cuts)) z
+              ∙ at-end (suc (nodes - suc (x .counts .visited))) (Refused 11 (suc (x .counts .visited)) (x .counts .cuts)) (omega arith)
+              (fails see nodes (nodes - suc (x .counts .visited)) here (Refused 11 (suc (x .counts .visited)) (x .counts .cuts)) not-yet
               (unfold stateOf in (turn-bad see s l m (nodes + 3) x o (g .ring) some-wait going-room w e)))
 
           -- one turn more
-          pub going-on : (y : Search) → hasBadWeight o ≡ false → Next (nodes + 3) x o y → Going see nodes s l₀ m y
-          going-on y e z = record {
+          pub going-on : (y : Search) → cutsOf o ≤ 2 → hasBadWeight o ≡ false → Next (nodes + 3) x o y → Going see nodes s l₀ m y
+          going-on y few e z = record {
             ring = t .ring;
-            low = omega (arith, t .more, t .one, g .low);
-            within = omega (arith, t .one);
+            low = omega (arith, t .more, one, g .low);
+            within = omega (arith, one);
+            few = omega (arith, one, cut, few, g .few);
             long = kept ∙ g .long;
             same = λ k.
-                let i : y .visited + k ≡ x .visited + suc k = omega (arith, t .one) in
+                let i : y .counts .visited + k ≡ x .counts .visited + suc k = omega (arith, one) in
                 ap (λ (j : ℕ). advance see nodes j (begun (pieceAt s l₀ 0))) i
                 ∙ g .same (suc k)
                 ∙ once see nodes k here (stateOf s m (nodes + 3) y) not-yet steps;
@@ -167,5 +184,11 @@ module _ (see : Piece → Visit) (nodes : ℕ) (s : Shape) (l₀ : List Float) w
               t : Turn see s l m (nodes + 3) x o y
               t = turn-on see s l m (nodes + 3) x o (g .ring) some-wait going-room w y e z
 
-              steps : step see (stateOf s l (nodes + 3) x .queue) (stateOf s l (nodes + 3) x .visited) (stateOf s l (nodes + 3) x .found) ≡ going (stateOf s m (nodes + 3) y)
+              one : y .counts .visited ≡ suc (x .counts .visited)
+              one = ap (λ (v : Counts). v .visited) (t .counts)
+
+              cut : y .counts .cuts ≡ x .counts .cuts + cutsOf o
+              cut = ap (λ (v : Counts). v .cuts) (t .counts)
+
+              steps : step see (stateOf s l (nodes + 3) x .queue) (stateOf s l (nodes + 3) x .counts) (stateOf s l (nodes + 3) x .found) ≡ going (stateOf s m (nodes + 3) y)
               steps = unfold stateOf in t .steps

@@ -4,6 +4,7 @@ use mathlib.Core.Bool.{Bool, true, false}
 use mathlib.Core.List.{List}
 use Prim.Native.Nat.{ℕ, _+_, _-_, _≤_, _<_}
 use native.Mathlib.Omega.{arith}
+use Rattle.model.proofs.Cuts.{from-few, up-to-few}
 use lib.ListN.{length, getD}
 use lib.Ieee.{Float, nan}
 use Rattle.lists.specs.Lists.{part}
@@ -260,17 +261,6 @@ module _ (s : Shape) (m : List Float) (a : ℕ) (t : Float) (c : Piece) (o : Hol
   pub upto-only : OnlyAt s m (keepInto s m a (cutting .piece) (leftOf (s .degree) cutting) inside) a
   upto-only = keep-only s m a (o .held .inside) (cutting .piece) (leftOf (s .degree) cutting) inside (λ q. let g = sound-of inside refl q in (g .fits, fits-left-of s cutting (g .fits) (g .upto)))
 
--- one cut at most
-pub from-few : (p n : ℕ) (t : Float) (c : Piece) (b : Bool) → n ≡ fromBy geop p t c b .cuts → n ≤ 1
-unfolding fromBy
-from-few p n t c true e = omega arith
-from-few p n t c false e = omega arith
-
-pub upto-few : (p n : ℕ) (t : Float) (c : Piece) (b : Bool) → n ≡ upToBy geop p t c b .cuts → n ≤ 1
-unfolding upToBy
-upto-few p n t c true e = omega arith
-upto-few p n t c false e = omega arith
-
 module _ (s : Shape) (l : List Float) (src to : ℕ) (lo hi : Float) (h : Held s l src) (w : Whole s (pieceAt s l src)) (i : Inside s l to)
     (wf : Whole s (fromBy geop (s .degree) lo (pieceAt s l src) (within (s .degree) (pieceAt s l src) lo) .piece)) where
   abbrev whole : Piece
@@ -319,6 +309,7 @@ module _ (s : Shape) (l : List Float) (src to : ℕ) (lo hi : Float) (h : Held s
           = v .memory ∙ ap (λ (c : Piece). keepInto s l₂ to (fullCut geop p hi c .piece) (leftOf p (fullCut geop p hi c)) (within p c hi)) (cut-down .piece) in
           record {
             cuts = λ j. cuts₂ j + cuts₃ j;
+            few = omega (arith, cuts₂, cuts₃, from-few geop p lo whole (within p whole lo), up-to-few geop p hi d (within p d hi));
             memory = m₃ ∙ ap (λ (v : List Float). keepInto s v to (fullCut geop p hi d .piece) (leftOf p (fullCut geop p hi d)) (within p d hi))
                 (first₂ ∙ ap (λ (v : List Float). keepInto s v to (fullCut geop p lo whole .piece) (rightOf (fullCut geop p lo whole)) (within p whole lo)) e₁);
             held = subst (λ (v : List Float). Holding s v to (upToBy geop p hi d (within p d hi) .piece)) (sym m₃) (upto-holding s l₂ to hi d cut-down rest-fits wf);

@@ -14,11 +14,12 @@ use Rattle.lists.specs.Ring.{wrapped}
 use Rattle.math.specs.declared.scalars.Scalar.{Scalar}
 use Rattle.math.proofs.Bools.{yes, no, pick-yes, pick-no}
 use Rattle.model.specs.NurbCurve.{Piece}
-use Rattle.model.specs.Subdivide.{Visit, State, going, over, after, step}
+use Rattle.model.specs.Subdivide.{Visit, State, going, over, withVisit, withCuts, after, step}
 use Rattle.geometry.specs.Slots.{wordsOf, pieceAt, Inside, Held, Apart, Fit}
 use Rattle.geometry.specs.Ring.{baseOf, ringBase, waiting, Ring, Beside}
-use Rattle.geometry.specs.State.{foundOf, outcomeOf, HandedOn, Visited, children, withReport, hasBadWeight, stateOf, Next}
+use Rattle.geometry.specs.State.{foundOf, outcomeOf, HandedOn, Visited, children, cutsOf, withReport, hasBadWeight, stateOf, Next}
 use Rattle.model.specs.declared.contains.Found.the-variants.{Refused}
+use Rattle.model.specs.declared.subdivide.Counts.{Counts}
 use Rattle.geometry.specs.declared.slots.Shape.{Shape}
 use Rattle.geometry.specs.declared.subdivide.Outcome.{Outcome}
 use Rattle.geometry.specs.declared.subdivide.Outcome.the-variants.{Dropped, Reported, Restricted, Halved, BadWeight}
@@ -63,22 +64,22 @@ module _ (s : Shape) (l m : List Float) (slots h n : ℕ) (r : Ring s l slots h 
     ring-after BadWeight k = rw (add-zero n) (ring-none s l m slots h n r room d)
 
     -- The state that is left.
-    abbrev left : ℕ → Option Scalar → Outcome → State
-    left v f o = record { queue = waiting s m slots h (n + children o); visited = v; found = withReport f o }
+    abbrev left : Counts → Option Scalar → Outcome → State
+    left v f o = record { queue = waiting s m slots h (n + children o); counts = withCuts (cutsOf o) v; found = withReport f o }
 
     -- and what waits in it
-    after-goes : (v : ℕ) (f : Option Scalar) (o : Outcome) → hasBadWeight o ≡ false → HandedOn s m (ringBase s slots h n) (ringBase s slots h (n + 1)) o
+    after-goes : (v : Counts) (f : Option Scalar) (o : Outcome) → hasBadWeight o ≡ false → HandedOn s m (ringBase s slots h n) (ringBase s slots h (n + 1)) o
         → after (waiting s l slots h n) v f (outcomeOf s m (ringBase s slots h n) (ringBase s slots h (n + 1)) o) ≡ going (left v f o)
     unfolding after outcomeOf
-    after-goes v f Dropped e k = rw (add-zero n) (ap (λ (q : List Piece). going (record { queue = q; visited = v; found = f })) (sym (push-none s l m slots h n r room d)))
-    after-goes v f (Reported t) e k = rw (add-zero n) (ap (λ (q : List Piece). going (record { queue = q; visited = v; found = withReport f (Reported t) })) (sym (push-none s l m slots h n r room d)))
+    after-goes v f Dropped e k = rw (add-zero n, add-zero (v .cuts)) (ap (λ (q : List Piece). going (record { queue = q; counts = v; found = f })) (sym (push-none s l m slots h n r room d)))
+    after-goes v f (Reported t) e k = rw (add-zero n, add-zero (v .cuts)) (ap (λ (q : List Piece). going (record { queue = q; counts = v; found = withReport f (Reported t) })) (sym (push-none s l m slots h n r room d)))
     after-goes v f (Restricted i) e k =
-        ap (λ (q : List Piece). going (record { queue = q; visited = v; found = f })) (sym (push-one s l m slots h n r room d (pieceAt s m a) k refl))
+        ap (λ (q : List Piece). going (record { queue = q; counts = withCuts i v; found = f })) (sym (push-one s l m slots h n r room d (pieceAt s m a) k refl))
     after-goes v f Halved e k =
-        ap (λ (q : List Piece). going (record { queue = q; visited = v; found = f })) (sym (push-two s l m slots h n r room d (pieceAt s m a) (k .0) refl (pieceAt s m b) (k .1) refl))
+        rw (add-zero (v .cuts)) (ap (λ (q : List Piece). going (record { queue = q; counts = v; found = f })) (sym (push-two s l m slots h n r room d (pieceAt s m a) (k .0) refl (pieceAt s m b) (k .1) refl)))
     after-goes v f BadWeight e k = absurd (no true e tt)
 
-    after-fails : (v : ℕ) (f : Option Scalar) (o : Outcome) → hasBadWeight o ≡ true → after (waiting s l slots h n) v f (outcomeOf s m (ringBase s slots h n) (ringBase s slots h (n + 1)) o) ≡ over (Refused 11 v)
+    after-fails : (v : Counts) (f : Option Scalar) (o : Outcome) → hasBadWeight o ≡ true → after (waiting s l slots h n) v f (outcomeOf s m (ringBase s slots h n) (ringBase s slots h (n + 1)) o) ≡ over (Refused 11 (v .visited) (v .cuts))
     unfolding after outcomeOf
     after-fails v f BadWeight e = refl
     after-fails v f Dropped e = absurd (yes false e)
@@ -109,10 +110,10 @@ module _ (see : Piece → Visit) (s : Shape) (l m : List Float) (slots h n : ℕ
   rest : Ring s l slots (wrapped slots (h + 1)) n
   rest = ring-pop s l slots h n r
 
-  pops : (v : ℕ) (f : Option Scalar) → step see (waiting s l slots h (suc n)) v f
-      ≡ after (waiting s l slots (wrapped slots (h + 1)) n) (suc v) f (outcomeOf s m (ringBase s slots (wrapped slots (h + 1)) n) (ringBase s slots (wrapped slots (h + 1)) (n + 1)) o)
+  pops : (v : Counts) (f : Option Scalar) → step see (waiting s l slots h (suc n)) v f
+      ≡ after (waiting s l slots (wrapped slots (h + 1)) n) (withVisit v) f (outcomeOf s m (ringBase s slots (wrapped slots (h + 1)) n) (ringBase s slots (wrapped slots (h + 1)) (n + 1)) o)
   unfolding step
-  pops v f = ap (λ (q : List Piece). step see q v f) (waiting-pop s l slots h n r) ∙ ap (after (waiting s l slots g n) (suc v) f) (sym (moved .is))
+  pops v f = ap (λ (q : List Piece). step see q v f) (waiting-pop s l slots h n r) ∙ ap (after (waiting s l slots g n) (withVisit v) f) (sym (moved .is))
 
   ring-turn : Ring s m slots (wrapped slots (h + 1)) (n + children o)
   ring-turn = ring-after s l m slots g n rest (omega arith) (moved .beside) o (moved .holding)
@@ -120,11 +121,11 @@ module _ (see : Piece → Visit) (s : Shape) (l m : List Float) (slots h n : ℕ
   behind-turn : drop (slots * wordsOf s) m ≡ drop (slots * wordsOf s) l
   behind-turn = push-behind s l m slots g n rest (omega arith) (moved .beside)
 
-  goes : (v : ℕ) (f : Option Scalar) → hasBadWeight o ≡ false → step see (waiting s l slots h (suc n)) v f ≡ going (left s l m slots g n rest (omega arith) (moved .beside) (suc v) f o)
-  goes v f e = pops v f ∙ after-goes s l m slots g n rest (omega arith) (moved .beside) (suc v) f o e (moved .holding)
+  goes : (v : Counts) (f : Option Scalar) → hasBadWeight o ≡ false → step see (waiting s l slots h (suc n)) v f ≡ going (left s l m slots g n rest (omega arith) (moved .beside) (withVisit v) f o)
+  goes v f e = pops v f ∙ after-goes s l m slots g n rest (omega arith) (moved .beside) (withVisit v) f o e (moved .holding)
 
-  fails : (v : ℕ) (f : Option Scalar) → hasBadWeight o ≡ true → step see (waiting s l slots h (suc n)) v f ≡ over (Refused 11 (suc v))
-  fails v f e = pops v f ∙ after-fails s l m slots g n rest (omega arith) (moved .beside) (suc v) f o e
+  fails : (v : Counts) (f : Option Scalar) → hasBadWeight o ≡ true → step see (waiting s l slots h (suc n)) v f ≡ over (Refused 11 (suc (v .visited)) (v .cuts))
+  fails v f e = pops v f ∙ after-fails s l m slots g n rest (omega arith) (moved .beside) (withVisit v) f o e
 
 -- ---- the same in the code's words
 
@@ -137,8 +138,8 @@ module _ (see : Piece → Visit) (s : Shape) (l m : List Float) (slots : ℕ) (x
   pub record Turn (y : Search) : Type 0 where
     pub ring : Ring s m slots (y .head) (y .pending)
     pub more : y .pending ≤ x .pending + 1
-    pub one : y .visited ≡ suc (x .visited)
-    pub steps : step see (waiting s l slots (x .head) (x .pending)) (x .visited) (foundOf (x .found)) ≡ going (stateOf s m slots y)
+    pub counts : y .counts ≡ withCuts (cutsOf o) (withVisit (x .counts))
+    pub steps : step see (waiting s l slots (x .head) (x .pending)) (x .counts) (foundOf (x .found)) ≡ going (stateOf s m slots y)
 
   module _ (r : Ring s l slots (x .head) (x .pending)) (some : 1 ≤ x .pending) (room : x .pending + 1 < slots)
       (w : Visited (see (pieceAt s l (baseOf s (x .head)))) s (ringBase s slots (x .head) (x .pending)) (ringBase s slots (x .head) (x .pending + 1)) l m o) where
@@ -154,25 +155,25 @@ module _ (see : Piece → Visit) (s : Shape) (l m : List Float) (slots : ℕ) (x
     pub turn-behind : drop (slots * wordsOf s) m ≡ drop (slots * wordsOf s) l
     turn-behind = behind-turn see s l m slots (x .head) (x .pending - 1) o ring′ (omega arith) seen′
 
-    pub turn-bad : hasBadWeight o ≡ true → step see (waiting s l slots (x .head) (x .pending)) (x .visited) (foundOf (x .found)) ≡ over (Refused 11 (suc (x .visited)))
+    pub turn-bad : hasBadWeight o ≡ true → step see (waiting s l slots (x .head) (x .pending)) (x .counts) (foundOf (x .found)) ≡ over (Refused 11 (suc (x .counts .visited)) (x .counts .cuts))
     turn-bad e =
-        ap (λ (k : ℕ). step see (waiting s l slots (x .head) k) (x .visited) (foundOf (x .found))) prev
-        ∙ fails see s l m slots (x .head) (x .pending - 1) o ring′ (omega arith) seen′ (x .visited) (foundOf (x .found)) e
+        ap (λ (k : ℕ). step see (waiting s l slots (x .head) k) (x .counts) (foundOf (x .found))) prev
+        ∙ fails see s l m slots (x .head) (x .pending - 1) o ring′ (omega arith) seen′ (x .counts) (foundOf (x .found)) e
 
     pub turn-on : (y : Search) → hasBadWeight o ≡ false → Next slots x o y → Turn y
     turn-on y e z = record {
       ring = subst (λ (i : ℕ). Ring s m slots i (y .pending)) (sym (z .head))
           (subst (λ (i : ℕ). Ring s m slots (wrapped slots (x .head + 1)) i) (sym (z .pending)) (ring-turn see s l m slots (x .head) (x .pending - 1) o ring′ (omega arith) seen′));
       more = omega (arith, z .pending, children-few o);
-      one = z .visited;
+      counts = z .counts;
       steps =
-          ap (λ (k : ℕ). step see (waiting s l slots (x .head) k) (x .visited) (foundOf (x .found))) prev
-          ∙ goes see s l m slots (x .head) (x .pending - 1) o ring′ (omega arith) seen′ (x .visited) (foundOf (x .found)) e
+          ap (λ (k : ℕ). step see (waiting s l slots (x .head) k) (x .counts) (foundOf (x .found))) prev
+          ∙ goes see s l m slots (x .head) (x .pending - 1) o ring′ (omega arith) seen′ (x .counts) (foundOf (x .found)) e
           ∙ sym state;
     }
       where
-        state : going (stateOf s m slots y) ≡ going (record { queue = waiting s m slots (wrapped slots (x .head + 1)) (x .pending - 1 + children o); visited = suc (x .visited); found = withReport (foundOf (x .found)) o })
-        state = unfold stateOf in (λ i. going (record { queue = waiting s m slots (z .head i) (z .pending i); visited = z .visited i; found = z .found i }))
+        state : going (stateOf s m slots y) ≡ going (record { queue = waiting s m slots (wrapped slots (x .head + 1)) (x .pending - 1 + children o); counts = withCuts (cutsOf o) (withVisit (x .counts)); found = withReport (foundOf (x .found)) o })
+        state = unfold stateOf in (λ i. going (record { queue = waiting s m slots (z .head i) (z .pending i); counts = z .counts i; found = z .found i }))
 
 -- ---- what a turn asks of its visit
 

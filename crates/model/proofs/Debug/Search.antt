@@ -7,7 +7,8 @@ use Rattle.math.specs.declared.scalars.Scalar.{Scalar}
 use Rattle.math.specs.Scalars.{unionS}
 use Rattle.math.specs.Values.{Proper}
 use Rattle.model.specs.NurbCurve.{Piece}
-use Rattle.model.specs.Subdivide.{Visit, dropped, reported, restricted, halved, badWeight, State, Step, going, over, joined, after, ended, step, advance}
+use Rattle.model.specs.Subdivide.{Visit, dropped, reported, restricted, halved, badWeight, State, Step, going, over, withVisit, joined, after, ended, step, advance}
+use Rattle.model.specs.declared.subdivide.Counts.{Counts}
 use Rattle.model.specs.declared.contains.Found.{Found}
 use Rattle.model.specs.Tested.{Tested, fine, _>>=_}
 use Rattle.model.specs.Debug as debug
@@ -25,7 +26,7 @@ module _ (see : Piece → Visit) (see′ : Piece → Tested Visit) (nodes : ℕ)
   joined-fine none t h k = refl
   joined-fine (some s) t h k = union-fine s t (proper s h) (proper t k)
 
-  after-fine : (cs : List Piece) (v : ℕ) (f : Option Scalar) (w : Visit) → Reported In (Unit {0}) f → Fine In Good w → debug.after cs v f w ≡ fine (after cs v f w)
+  after-fine : (cs : List Piece) (v : Counts) (f : Option Scalar) (w : Visit) → Reported In (Unit {0}) f → Fine In Good w → debug.after cs v f w ≡ fine (after cs v f w)
   unfolding debug.after after
   after-fine cs v f dropped i h = refl
   after-fine cs v f (reported t) i h = rw (joined-fine f t i h) refl
@@ -33,16 +34,16 @@ module _ (see : Piece → Visit) (see′ : Piece → Tested Visit) (nodes : ℕ)
   after-fine cs v f (halved l r) i h = refl
   after-fine cs v f badWeight i h = refl
 
-  step-fine : (l : List Piece) (v : ℕ) (f : Option Scalar) → Ok l f → debug.step see′ l v f ≡ fine (step see l v f)
+  step-fine : (l : List Piece) (v : Counts) (f : Option Scalar) → Ok l f → debug.step see′ l v f ≡ fine (step see l v f)
   unfolding debug.step step
   step-fine [] v f r = refl
-  step-fine (c ∷ cs) v f r = rw (sees c (r .pieces .0)) (after-fine cs (suc v) f (see c) (r .inside) (fines c (r .pieces .0)))
+  step-fine (c ∷ cs) v f r = rw (sees c (r .pieces .0)) (after-fine cs (withVisit v) f (see c) (r .inside) (fines c (r .pieces .0)))
 
   -- THE SEARCH
   pub advance-fine : (k : ℕ) (s : State) → Ready see nodes In Good join fines (s .queue) (s .found) → debug.advance see′ nodes k s ≡ fine (advance see nodes k s)
   unfolding debug.advance advance
   advance-fine zero s r = refl
-  advance-fine (suc k) s r = go (ended nodes (s .queue) (s .visited) (s .found)) (advance-fine k)
+  advance-fine (suc k) s r = go (ended nodes (s .queue) (s .counts) (s .found)) (advance-fine k)
     where
       Rest : Type 0
       Rest = (t : State) → Ok (t .queue) (t .found) → debug.advance see′ nodes k t ≡ fine (advance see nodes k t)
@@ -53,7 +54,7 @@ module _ (see : Piece → Visit) (see′ : Piece → Tested Visit) (nodes : ℕ)
       on (going t) h rest = rest t h
 
       go : (o : Option Found) → Rest
-          → _≡_ {A = Tested Step} (elim o [ some r ↦ fine (over r) | none ↦ (debug.step see′ (s .queue) (s .visited) (s .found) >>= λ t. elim t [ over r ↦ fine (over r) | going s′ ↦ debug.advance see′ nodes k s′ ]) ])
-          (fine (elim o [ some r ↦ over r | none ↦ elim (step see (s .queue) (s .visited) (s .found)) [ over r ↦ over r | going s′ ↦ advance see nodes k s′ ] ]))
+          → _≡_ {A = Tested Step} (elim o [ some r ↦ fine (over r) | none ↦ (debug.step see′ (s .queue) (s .counts) (s .found) >>= λ t. elim t [ over r ↦ fine (over r) | going s′ ↦ debug.advance see′ nodes k s′ ]) ])
+          (fine (elim o [ some r ↦ over r | none ↦ elim (step see (s .queue) (s .counts) (s .found)) [ over r ↦ over r | going s′ ↦ advance see nodes k s′ ] ]))
       go (some a) rest = refl
-      go none rest = rw (step-fine (s .queue) (s .visited) (s .found) r) (on (step see (s .queue) (s .visited) (s .found)) (steps see nodes In Good join fines (s .queue) (s .visited) (s .found) r) rest)
+      go none rest = rw (step-fine (s .queue) (s .counts) (s .found) r) (on (step see (s .queue) (s .counts) (s .found)) (steps see nodes In Good join fines (s .queue) (s .counts) (s .found) r) rest)

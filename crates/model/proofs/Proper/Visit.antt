@@ -102,7 +102,7 @@ module _ (ar : Arithmetic) (E : Encloses ar) (q : Question) (Q : Asked q) where
     -- ---- what a hat makes of the piece
     hat-held : (hat : Scalar) → Proper hat → Within (start (q .degree) c) (end c) hat → Fine Proper (Held (q .dim)) (shrink ar q c (Over hat))
     hat-held hat h at = choices ar q c hat (Fine Proper (Held dim))
-        (on-held (restrict ar p (hat .lo) (hat .hi) c) (restrict-solid ar E dim p c K S (hat .lo) (hat .hi) (at .double-lo) (at .double-hi)))
+        (λ _. on-held (restrict ar p (hat .lo) (hat .hi) c) (restrict-solid ar E dim p c K S (hat .lo) (hat .hi) (at .double-lo) (at .double-hi)))
         (both-held hat (splitMid ar p c) h (split-solid ar E dim p c K S)) h
 
     shrink-held : (z : Hat) → OfHat Proper z → ((hat : Scalar) → z ≡ Over hat → Within (start (q .degree) c) (end c) hat) → Fine Proper (Held (q .dim)) (shrink ar q c z)

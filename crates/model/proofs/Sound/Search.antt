@@ -11,8 +11,9 @@ use Rattle.math.specs.declared.scalars.Scalar.{Scalar}
 use Rattle.math.specs.Scalars.{unionS}
 use Rattle.math.proofs.Bools.{pick}
 use Rattle.model.specs.NurbCurve.{Piece}
-use Rattle.model.specs.Subdivide.{Visit, dropped, reported, restricted, halved, badWeight, State, Step, going, over, positiveZero, joined, complete, after, ended, step, stop, advance, answered}
+use Rattle.model.specs.Subdivide.{Visit, dropped, reported, restricted, halved, badWeight, State, Step, going, over, withVisit, positiveZero, joined, complete, after, ended, step, stop, advance, answered}
 use Rattle.model.specs.Enclosure.{Every}
+use Rattle.model.specs.declared.subdivide.Counts.{Counts}
 use Rattle.model.specs.declared.contains.Found.{Found}
 use Rattle.model.specs.declared.contains.Found.the-variants.{Nothing, Enclosed, Spent, Refused}
 use Rattle.model.proofs.Every.{every-append}
@@ -33,17 +34,17 @@ some-right P (x ∷ l) m h = inr (some-right P l m h)
 
 -- ---- what is asked of an answer, where In is asked of what is reported
 abbrev pub Right : (Scalar → Type 0) → Found → Type 0
-Right In (Nothing v) = Unit {0}
-Right In (Enclosed lo hi v) = (t : Scalar) × (In t × ((lo ≡ positiveZero (t .lo)) × (hi ≡ positiveZero (t .hi))))
-Right In (Spent n v) = Unit {0}
-Right In (Refused n v) = n ≡ 11
+Right In (Nothing v k) = Unit {0}
+Right In (Enclosed lo hi v k) = (t : Scalar) × (In t × ((lo ≡ positiveZero (t .lo)) × (hi ≡ positiveZero (t .hi))))
+Right In (Spent n v k) = Unit {0}
+Right In (Refused n v k) = n ≡ 11
 
 -- and what is asked of it besides, where there is a hit
 abbrev pub Hit : (Scalar → Type 0) → Found → Type 0
-Hit At (Nothing v) = ⊥
-Hit At (Enclosed lo hi v) = (t : Scalar) × (At t × ((lo ≡ positiveZero (t .lo)) × (hi ≡ positiveZero (t .hi))))
-Hit At (Spent n v) = Unit {0}
-Hit At (Refused n v) = Unit {0}
+Hit At (Nothing v k) = ⊥
+Hit At (Enclosed lo hi v k) = (t : Scalar) × (At t × ((lo ≡ positiveZero (t .lo)) × (hi ≡ positiveZero (t .hi))))
+Hit At (Spent n v k) = Unit {0}
+Hit At (Refused n v k) = Unit {0}
 
 -- ---- what is asked of a visit
 abbrev pub Fine : (Scalar → Type 0) → (Piece → Type 0) → Visit → Type 0
@@ -88,7 +89,7 @@ module _ (visit : Piece → Visit) (nodes : ℕ) (In : Scalar → Type 0) (Ok : 
   joins none t h k = k
   joins (some s) t h k = join s t h k
 
-  completes : (f : Option Scalar) (v : ℕ) → Reported In (Unit {0}) f → Right In (complete f v)
+  completes : (f : Option Scalar) (v : Counts) → Reported In (Unit {0}) f → Right In (complete f v)
   unfolding complete
   completes none v h = tt
   completes (some t) v h = (t, (h, (refl, refl)))
@@ -97,12 +98,12 @@ module _ (visit : Piece → Visit) (nodes : ℕ) (In : Scalar → Type 0) (Ok : 
   Ends none = Unit {0}
   Ends (some r) = Right In r
 
-  ends : (l : List Piece) (v : ℕ) (f : Option Scalar) → Ready l f → Ends (ended nodes l v f)
+  ends : (l : List Piece) (v : Counts) (f : Option Scalar) → Ready l f → Ends (ended nodes l v f)
   unfolding ended Ends
   ends [] v f r = completes f v (r .inside)
-  ends (c ∷ cs) v f r = pick Ends (ltb v nodes) none (some (Spent (suc (length cs)) v)) (λ _. tt) (λ _. tt)
+  ends (c ∷ cs) v f r = pick Ends (ltb (v .visited) nodes) none (some (Spent (suc (length cs)) (v .visited) (v .cuts))) (λ _. tt) (λ _. tt)
 
-  afters : (cs : List Piece) (v : ℕ) (f : Option Scalar) (w : Visit) → Every Ok cs → Reported In (Unit {0}) f → Fine In Ok w → Stands (after cs v f w)
+  afters : (cs : List Piece) (v : Counts) (f : Option Scalar) (w : Visit) → Every Ok cs → Reported In (Unit {0}) f → Fine In Ok w → Stands (after cs v f w)
   unfolding after
   afters cs v f dropped e i h = record { pieces = e; inside = i }
   afters cs v f (reported t) e i h = record { pieces = e; inside = joins f t i h }
@@ -110,19 +111,19 @@ module _ (visit : Piece → Visit) (nodes : ℕ) (In : Scalar → Type 0) (Ok : 
   afters cs v f (halved l r) e i h = record { pieces = every-append Ok cs (l ∷ r ∷ []) e (h .0, (h .1, tt)); inside = i }
   afters cs v f badWeight e i h = refl
 
-  pub steps : (l : List Piece) (v : ℕ) (f : Option Scalar) → Ready l f → Stands (step visit l v f)
+  pub steps : (l : List Piece) (v : Counts) (f : Option Scalar) → Ready l f → Stands (step visit l v f)
   unfolding step
   steps [] v f r = completes f v (r .inside)
-  steps (c ∷ cs) v f r = afters cs (suc v) f (visit c) (r .pieces .1) (r .inside) (fine c (r .pieces .0))
+  steps (c ∷ cs) v f r = afters cs (withVisit v) f (visit c) (r .pieces .1) (r .inside) (fine c (r .pieces .0))
 
   pub stands : (k : ℕ) (s : State) → Ready (s .queue) (s .found) → Stands (advance visit nodes k s)
   unfolding advance stop Ends
-  stands zero s r = go (ended nodes (s .queue) (s .visited) (s .found)) (ends (s .queue) (s .visited) (s .found) r)
+  stands zero s r = go (ended nodes (s .queue) (s .counts) (s .found)) (ends (s .queue) (s .counts) (s .found) r)
     where
       go : (o : Option Found) → Ends o → Stands (stop s o)
       go none h = r
       go (some a) h = h
-  stands (suc k) s r = go (stands k) (ended nodes (s .queue) (s .visited) (s .found)) (ends (s .queue) (s .visited) (s .found) r)
+  stands (suc k) s r = go (stands k) (ended nodes (s .queue) (s .counts) (s .found)) (ends (s .queue) (s .counts) (s .found) r)
     where
       Rest : Type 0
       Rest = (s′ : State) → Ready (s′ .queue) (s′ .found) → Stands (advance visit nodes k s′)
@@ -131,8 +132,8 @@ module _ (visit : Piece → Visit) (nodes : ℕ) (In : Scalar → Type 0) (Ok : 
       on rest (over a) h = h
       on rest (going s′) h = rest s′ h
 
-      go : Rest → (o : Option Found) → Ends o → Stands (elim o [ some a ↦ over a | none ↦ elim (step visit (s .queue) (s .visited) (s .found)) [ over a ↦ over a | going s′ ↦ advance visit nodes k s′ ] ])
-      go rest none h = on rest (step visit (s .queue) (s .visited) (s .found)) (steps (s .queue) (s .visited) (s .found) r)
+      go : Rest → (o : Option Found) → Ends o → Stands (elim o [ some a ↦ over a | none ↦ elim (step visit (s .queue) (s .counts) (s .found)) [ over a ↦ over a | going s′ ↦ advance visit nodes k s′ ] ])
+      go rest none h = on rest (step visit (s .queue) (s .counts) (s .found)) (steps (s .queue) (s .counts) (s .found) r)
       go rest (some a) h = h
 
   pub answers : (z : Step) → Stands z → Right In (answered z)
@@ -159,7 +160,7 @@ module _ (visit : Piece → Visit) (nodes : ℕ) (In : Scalar → Type 0) (Ok : 
     latest none t h = h
     latest (some s) t h = right s t h
 
-    completed : (f : Option Scalar) (v : ℕ) → Reported At ⊥ f → Hit At (complete f v)
+    completed : (f : Option Scalar) (v : Counts) → Reported At ⊥ f → Hit At (complete f v)
     unfolding complete
     completed none v h = absurd h
     completed (some t) v h = (t, (h, (refl, refl)))
@@ -168,14 +169,14 @@ module _ (visit : Piece → Visit) (nodes : ℕ) (In : Scalar → Type 0) (Ok : 
     Ended none = Unit {0}
     Ended (some r) = Hit At r
 
-    last : (l : List Piece) (v : ℕ) (f : Option Scalar) → Alive l f → Ended (ended nodes l v f)
+    last : (l : List Piece) (v : Counts) (f : Option Scalar) → Alive l f → Ended (ended nodes l v f)
     unfolding ended Ended
     last [] v f (inl h) = absurd h
     last [] v f (inr h) = completed f v h
-    last (c ∷ cs) v f h = pick Ended (ltb v nodes) none (some (Spent (suc (length cs)) v)) (λ _. tt) (λ _. tt)
+    last (c ∷ cs) v f h = pick Ended (ltb (v .visited) nodes) none (some (Spent (suc (length cs)) (v .visited) (v .cuts))) (λ _. tt) (λ _. tt)
 
     -- the visit of a piece that may hold the hit, where another piece or a report may hold it too
-    next : (cs : List Piece) (v : ℕ) (f : Option Scalar) (w : Visit) → Kept At Has w ⊎ Alive cs f → Lives (after cs v f w)
+    next : (cs : List Piece) (v : Counts) (f : Option Scalar) (w : Visit) → Kept At Has w ⊎ Alive cs f → Lives (after cs v f w)
     unfolding after
     next cs v f dropped (inl h) = absurd h
     next cs v f dropped (inr h) = h
@@ -191,22 +192,22 @@ module _ (visit : Piece → Visit) (nodes : ℕ) (In : Scalar → Type 0) (Ok : 
     next cs v f (halved l r) (inr (inr h)) = inr h
     next cs v f badWeight h = tt
 
-    visits : (l : List Piece) (v : ℕ) (f : Option Scalar) → Every Ok l → Alive l f → Lives (step visit l v f)
+    visits : (l : List Piece) (v : Counts) (f : Option Scalar) → Every Ok l → Alive l f → Lives (step visit l v f)
     unfolding step
     visits [] v f e (inl h) = absurd h
     visits [] v f e (inr h) = completed f v h
-    visits (c ∷ cs) v f e (inl (inl h)) = next cs (suc v) f (visit c) (inl (kept c (e .0) h))
-    visits (c ∷ cs) v f e (inl (inr h)) = next cs (suc v) f (visit c) (inr (inl h))
-    visits (c ∷ cs) v f e (inr h) = next cs (suc v) f (visit c) (inr (inr h))
+    visits (c ∷ cs) v f e (inl (inl h)) = next cs (withVisit v) f (visit c) (inl (kept c (e .0) h))
+    visits (c ∷ cs) v f e (inl (inr h)) = next cs (withVisit v) f (visit c) (inr (inl h))
+    visits (c ∷ cs) v f e (inr h) = next cs (withVisit v) f (visit c) (inr (inr h))
 
     pub lives : (k : ℕ) (s : State) → Ready (s .queue) (s .found) → Alive (s .queue) (s .found) → Lives (advance visit nodes k s)
     unfolding advance stop Ended
-    lives zero s r h = go (ended nodes (s .queue) (s .visited) (s .found)) (last (s .queue) (s .visited) (s .found) h)
+    lives zero s r h = go (ended nodes (s .queue) (s .counts) (s .found)) (last (s .queue) (s .counts) (s .found) h)
       where
         go : (o : Option Found) → Ended o → Lives (stop s o)
         go none e = h
         go (some a) e = e
-    lives (suc k) s r h = go (lives k) (ended nodes (s .queue) (s .visited) (s .found)) (last (s .queue) (s .visited) (s .found) h)
+    lives (suc k) s r h = go (lives k) (ended nodes (s .queue) (s .counts) (s .found)) (last (s .queue) (s .counts) (s .found) h)
       where
         Rest : Type 0
         Rest = (s′ : State) → Ready (s′ .queue) (s′ .found) → Alive (s′ .queue) (s′ .found) → Lives (advance visit nodes k s′)
@@ -215,8 +216,8 @@ module _ (visit : Piece → Visit) (nodes : ℕ) (In : Scalar → Type 0) (Ok : 
         on rest (over a) g e = e
         on rest (going s′) g e = rest s′ g e
 
-        go : Rest → (o : Option Found) → Ended o → Lives (elim o [ some a ↦ over a | none ↦ elim (step visit (s .queue) (s .visited) (s .found)) [ over a ↦ over a | going s′ ↦ advance visit nodes k s′ ] ])
-        go rest none e = on rest (step visit (s .queue) (s .visited) (s .found)) (steps (s .queue) (s .visited) (s .found) r) (visits (s .queue) (s .visited) (s .found) (r .pieces) h)
+        go : Rest → (o : Option Found) → Ended o → Lives (elim o [ some a ↦ over a | none ↦ elim (step visit (s .queue) (s .counts) (s .found)) [ over a ↦ over a | going s′ ↦ advance visit nodes k s′ ] ])
+        go rest none e = on rest (step visit (s .queue) (s .counts) (s .found)) (steps (s .queue) (s .counts) (s .found) r) (visits (s .queue) (s .counts) (s .found) (r .pieces) h)
         go rest (some a) e = e
 
     pub answers-hit : (z : Step) → Lives z → Hit At (answered z)

@@ -75,14 +75,15 @@ pub record Ok (dim p N : ℕ) (a b : ℚ) (c : Piece) : Type 0 where
 sub-ok : (dim p N : ℕ) (a b : ℚ) (c s : Piece) → Ok dim p N a b c → Sub p c s → T (weightsPositive dim (s .points)) → Ok dim p N a b s
 sub-ok dim p N a b c s h k w = record { knots = k .knots; small = omega (arith, h .small, k .small); from = le-trans (h .from) (k .from); upto = le-trans (k .upto) (h .upto); weights = w }
 
--- ---- what holds of each choice that a hat leaves holds of the one that is made
-pub choices : (ar : Arithmetic) (q : Question) (c : Piece) (hat : Scalar) (P : Visit → Type 0) → P (handOn (q .dim) (restrict ar (q .degree) (hat .lo) (hat .hi) c))
+-- ---- what holds of each choice that a hat leaves holds of the one that is made: of the restriction, where its test passed
+pub choices : (ar : Arithmetic) (q : Question) (c : Piece) (hat : Scalar) (P : Visit → Type 0)
+    → (T (restricts ar (start (q .degree) c) (end c) hat (extent (q .dim) (c .points)) (carried (q .dim) (q .box) (c .points))) → P (handOn (q .dim) (restrict ar (q .degree) (hat .lo) (hat .hi) c)))
     → P (handBoth (q .dim) hat (splitMid ar (q .degree) c)) → P (reported hat) → P (shrink ar q c (Over hat))
 unfolding shrink
 choices ar q c hat P down in-two whole =
     let size = extent (q .dim) (c .points) in
     let w = carried (q .dim) (q .box) (c .points) in
-    pick P (restricts ar (start (q .degree) c) (end c) hat size w) _ _ (λ _. down) (λ _. pick P (halves (start (q .degree) c) (end c) size w (q .resolution)) _ _ (λ _. in-two) (λ _. whole))
+    pick P (restricts ar (start (q .degree) c) (end c) hat size w) _ _ down (λ _. pick P (halves (start (q .degree) c) (end c) size w (q .resolution)) _ _ (λ _. in-two) (λ _. whole))
 
 module _ (ar : Arithmetic) (E : Encloses ar) (q : Question) (N : ℕ) (a b : ℚ) where
   abbrev dim : ℕ
@@ -110,7 +111,7 @@ module _ (ar : Arithmetic) (E : Encloses ar) (q : Question) (N : ℕ) (a b : ℚ
       → Fine (Inner a b) (Ok (q .dim) (q .degree) N a b) (shrink ar q c h)
   shrink-fine c Missing k w = unfold shrink in tt
   shrink-fine c (Over hat) k w = choices ar q c hat (Fine (Inner a b) Good)
-      (on-fine c (restrict ar p (hat .lo) (hat .hi) c) k (restrict-sub ar E p c (hat .lo) (hat .hi) (k .knots) (at .double-lo) (at .double-hi)))
+      (λ _. on-fine c (restrict ar p (hat .lo) (hat .hi) c) k (restrict-sub ar E p c (hat .lo) (hat .hi) (k .knots) (at .double-lo) (at .double-hi)))
       (both-fine c hat (splitMid ar p c) k inner halved-sub) inner
     where
       at : Within (start (q .degree) c) (end c) hat
@@ -156,7 +157,7 @@ module _ (ar : Arithmetic) (E : Encloses ar) (q : Question) (N : ℕ) (a b : ℚ
     shrink-kept : (c : Piece) (hat : Scalar) → Ok (q .dim) (q .degree) N a b c → Carries (suc (q .dim)) (q .degree) t v c → Within (start (q .degree) c) (end c) hat → Holds hat t
         → Kept (λ s. Holds s t) (Carries (suc (q .dim)) (q .degree) t v) (shrink ar q c (Over hat))
     shrink-kept c hat k h w at = choices ar q c hat (Kept At Has)
-        (on-kept (restrict ar p (hat .lo) (hat .hi) c) (restrict-keeps ar E p (suc dim) t v c hat (k .knots) (w .double-lo) (w .double-hi) at h))
+        (λ _. on-kept (restrict ar p (hat .lo) (hat .hi) c) (restrict-keeps ar E p (suc dim) t v c hat (k .knots) (w .double-lo) (w .double-hi) at h))
         (both-kept hat (splitMid ar p c) at halved-keeps) at
       where
         halved-keeps : Both (λ l r. Carries (suc (q .dim)) (q .degree) t v l ⊎ Carries (suc (q .dim)) (q .degree) t v r) (splitMid ar (q .degree) c)

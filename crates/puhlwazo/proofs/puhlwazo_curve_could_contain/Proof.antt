@@ -26,10 +26,10 @@ same-length c = search needs
 -- What is given out can be read back.
 read-back : (f : Found) → f ≡ readBack (numberOf f) (countsOf f) (boundsOf f)
 unfolding countsOf boundsOf
-read-back (Nothing v) = refl
-read-back (Enclosed lo hi v) = refl
-read-back (Spent n v) = refl
-read-back (Refused n v) = refl
+read-back (Nothing v k) = refl
+read-back (Enclosed lo hi v k) = refl
+read-back (Spent n v k) = refl
+read-back (Refused n v k) = refl
 
 returns : tie.Need-returns
 returns c =

@@ -20,7 +20,7 @@ use Rattle.model.proofs.contains.Found.{the-type}
 use denote.Enum.Declared.{tagOf}
 use Rattle.math.specs.declared.scalars.Scalar.{Scalar}
 use Rattle.text.specs.Bytes.{bytes}
-use Rattle.text.specs.Respond.{resultWord, boundLines, printed}
+use Rattle.text.specs.Respond.{resultWord, countLines, boundLines, printed}
 use Rattle.text.specs.Numerals.{digitOf, lastDigits, decimalLength, decimal, hexadecimal}
 use Rattle.text.specs.Printable.{Written}
 
@@ -151,15 +151,15 @@ written-as of {l = l} {m = m} {at = at} {r = r} e w h = (subst (λ (x : Found). 
 -- an answer that is not Enclosed has no bounds
 unbounded : (f : Found) → (tagOf the-type f ≡ 0) ⊎ ((tagOf the-type f ≡ 2) ⊎ (tagOf the-type f ≡ 3))
     → paper f .bounds ≡ none
-unbounded (Nothing v) h = refl
-unbounded (Enclosed lo hi v) h = absurd (other 1 (omega arith) (omega arith) h)
+unbounded (Nothing v k) h = refl
+unbounded (Enclosed lo hi v c) h = absurd (other 1 (omega arith) (omega arith) h)
   where
     other : (k : ℕ) → 0 < k → k < 2 → (k ≡ 0) ⊎ ((k ≡ 2) ⊎ (k ≡ 3)) → ⊥
     other k a b h =
         ⊎-elim (λ (e : k ≡ 0). omega arith)
         (λ (g : (k ≡ 2) ⊎ (k ≡ 3)). ⊎-elim (λ (e : k ≡ 2). omega arith) (λ (e : k ≡ 3). omega arith) g) h
-unbounded (Spent n v) h = refl
-unbounded (Refused n v) h = refl
+unbounded (Spent n v k) h = refl
+unbounded (Refused n v k) h = refl
 
 -- their lines
 pub dashes-written : (f : Found) {l m : List ℕ} {at r : ℕ}
@@ -170,28 +170,34 @@ unfolding boundLines
 dashes-written f {l} {m} {at} {r} k w h =
     (subst (λ (x : Option Scalar). Written l at (boundLines x) m r) (sym (unbounded f k)) w, h)
 
--- Five words, one behind the other.
+-- Four words, one behind the other.
+four-joined : {l m₁ m₂ m₃ m₄ : List ℕ} {at p q r s : ℕ} {a b c d : List ℕ} → s ≤ length l
+    → Written l at a m₁ p → Written m₁ p b m₂ q → Written m₂ q c m₃ r → Written m₃ r d m₄ s
+    → Written l at (a ++ b ++ c ++ d) m₄ s
+four-joined h u v w x = joined (omega arith) (joined (omega arith) (joined (omega arith) u v) w) x
+
+-- Five.
 pub five-joined : {l m₁ m₂ m₃ m₄ m₅ : List ℕ} {at p q r s t : ℕ} {a b c d e : List ℕ} → t ≤ length l
     → Written l at a m₁ p → Written m₁ p b m₂ q → Written m₂ q c m₃ r → Written m₃ r d m₄ s → Written m₄ s e m₅ t
     → Written l at (a ++ b ++ c ++ d ++ e) m₅ t
-five-joined h u v w x y =
-    joined (omega arith) (joined (omega arith) (joined (omega arith) (joined (omega arith) u v) w) x) y
+five-joined h u v w x y = joined (omega arith) (four-joined (omega arith) u v w x) y
 
--- The five lines: the word of the result behind its key, the two counts, the end of their line,
--- and the lines of the bounds.
-pub printed-written : (f : Found) (v n : ℕ) {l m₁ m₂ m₃ m₄ m₅ m₆ : List ℕ} {p q r s t o : ℕ}
-    → v ≡ paper f .visited → n ≡ paper f .pending → o ≤ length l → o ≤ 160
+-- The lines of the counts: the three counts behind their keys, and the end of the last line.
+pub counts-written : (f : Found) (v k n : ℕ) {l m₁ m₂ m₃ m₄ : List ℕ} {at p q r s : ℕ}
+    → v ≡ paper f .visited → k ≡ paper f .cuts → n ≡ paper f .pending → s ≤ length l
+    → Written l at (bytes "\nvisited=" ++ decimal v) m₁ p → Written m₁ p (bytes "\ncuts=" ++ decimal k) m₂ q
+    → Written m₂ q (bytes "\npending=" ++ decimal n) m₃ r → Written m₃ r (bytes "\n") m₄ s
+    → Written l at (countLines (paper f)) m₄ s
+unfolding countLines
+counts-written f v k n {l} {m₄ = m₄} {at = at} {s = s} a b c h w x y z =
+    subst (λ (ws : List ℕ). Written l at ws m₄ s)
+    (λ i. (bytes "\nvisited=" ++ decimal (a i)) ++ (bytes "\ncuts=" ++ decimal (b i)) ++ (bytes "\npending=" ++ decimal (c i)) ++ bytes "\n")
+    (four-joined h w x y z)
+
+-- The six lines: the word of the result behind its key, the lines of the counts, and those of the bounds.
+pub printed-written : (f : Found) {l m₁ m₂ m₃ m₄ : List ℕ} {p q r s : ℕ} → s ≤ length l
     → Written l 0 (bytes "result=") m₁ p → Written m₁ p (resultWord (paper f .result)) m₂ q
-    → Written m₂ q (bytes "\nvisited=" ++ decimal v) m₃ r → Written m₃ r (bytes "\npending=" ++ decimal n) m₄ s
-    → Written m₄ s (bytes "\n") m₅ t → Written m₅ t (boundLines (paper f .bounds)) m₆ o
-    → Written l 0 (printed (paper f)) m₆ o × (o ≤ 160)
+    → Written m₂ q (countLines (paper f)) m₃ r → Written m₃ r (boundLines (paper f .bounds)) m₄ s
+    → Written l 0 (printed (paper f)) m₄ s
 unfolding printed
-printed-written f v n {l} {m₆ = m₆} {o = o} d e h k u w x y z b =
-    let j = joined (omega arith) (five-joined (omega arith) u w x y z) b in
-    let result = bytes "result=" ++ resultWord (paper f .result) in
-    let same = group result (bytes "\nvisited=") (bytes "\npending=") (bytes "\n") (boundLines (paper f .bounds)) d e in
-    (subst (λ (ws : List ℕ). Written l 0 ws m₆ o) same j, k)
-  where
-    group : (a c f g h : List ℕ) {v n x y : ℕ} → v ≡ x → n ≡ y
-        → a ++ (c ++ decimal v) ++ (f ++ decimal n) ++ g ++ h ≡ a ++ c ++ decimal x ++ f ++ decimal y ++ g ++ h
-    group a c f g h d e = rw (d, e) (simp append-assoc)
+printed-written f h u w x y = four-joined h u w x y

@@ -38,7 +38,7 @@ module _ (s : Sizes) (text : List ℕ) (spec : Read Numbers) (l m : List Float) 
   after x = answeredBy (completeBy s (length text) x)
 
   -- they are of another form
-  pub numbers-bad : r ≡ NoNumber → Refused 12 0 ≡ after spec
+  pub numbers-bad : r ≡ NoNumber → Refused 12 0 0 ≡ after spec
   unfolding completeBy answeredBy
   numbers-bad e = sym (ap after (subst (NumbersRead text spec s l m) e h))
 
@@ -54,12 +54,12 @@ module _ (s : Sizes) (text : List ℕ) (spec : Read Numbers) (l m : List Float) 
         sym (λ j. answeredBy (cond (A j && B j) (asks s (seen .says)) (refusedBy 12))) ∙ ap after (sym (seen .reads))
 
     -- the text is too long
-    pub numbers-long : 65536 < length text → Refused 12 0 ≡ after spec
+    pub numbers-long : 65536 < length text → Refused 12 0 0 ≡ after spec
     unfolding answeredBy
     numbers-long a = by-tests (lt-leb (length text) 65536 a) refl
 
     -- something stands behind the last line
-    pub numbers-more : length text ≤ 65536 → i < length text → Refused 12 0 ≡ after spec
+    pub numbers-more : length text ≤ 65536 → i < length text → Refused 12 0 0 ≡ after spec
     unfolding answeredBy
     numbers-more a b =
         by-tests (le-leb (length text) 65536 a)
@@ -81,7 +81,7 @@ module _ (text : List ℕ) (r : Head) (h : HeadRead text (sizes text) r) where
   abbrev from : Read Sizes → Found
   from x = answeredBy (readBy (length text) x)
 
-  pub head-bad : r ≡ NoHead → Refused 12 0 ≡ answered text
+  pub head-bad : r ≡ NoHead → Refused 12 0 0 ≡ answered text
   unfolding answered reading readBy answeredBy
   head-bad e = sym (ap from (subst (HeadRead text (sizes text)) e h))
 
@@ -103,11 +103,11 @@ module _ (text : List ℕ) (r : Head) (h : HeadRead text (sizes text) r) where
     unfolding answered reading readBy
     same k K = ap opened K ∙ sym (ap from (head-seen .1))
 
-    pub head-refused : (k : ℕ) → k ≡ sizesRefusal d p n → (k ≡ 0 → ⊥) → Refused k 0 ≡ answered text
+    pub head-refused : (k : ℕ) → k ≡ sizesRefusal d p n → (k ≡ 0 → ⊥) → Refused k 0 0 ≡ answered text
     head-refused zero K never = absurd (never refl)
     head-refused (suc k) K never = one ∙ same (suc k) K
       where
-        one : Refused (suc k) 0 ≡ opened (suc k)
+        one : Refused (suc k) 0 0 ≡ opened (suc k)
         one = unfold answeredBy openedBy in refl
 
     pub head-asked : (k : ℕ) (f : Found) → k ≡ sizesRefusal d p n → k ≡ 0

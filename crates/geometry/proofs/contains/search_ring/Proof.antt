@@ -3,14 +3,15 @@ use Prim.Native.Nat.{ℕ, _-_}
 use native.Mathlib.Omega.{arith}
 use lib.Ieee.{Float}
 use mathlib.Core.List.{List}
-use mathlib.Core.Path.{sym, _∙_}
+use mathlib.Core.Path.{sym, ap, _∙_}
 use Rattle.math.specs.Scalars.{geop}
 use Rattle.model.specs.NurbCurve.{Piece}
 use Rattle.model.specs.Subdivide.{Visit}
 use Rattle.model.specs.Contains.{visit}
+use Rattle.model.specs.declared.subdivide.Counts.{Counts}
 use Rattle.geometry.specs.State.{askedOf, Going}
 use Rattle.geometry.specs.declared.slots.Shape.{Shape}
-use Rattle.geometry.proofs.contains.Search.{turned, going-start, going-none, going-spent, going-room, going-fit, going-rest, going-bad, going-on}
+use Rattle.geometry.proofs.contains.Search.{turned, cuts-few, going-start, going-none, going-spent, going-room, going-fit, going-rest, going-bad, going-on}
 use borrow.Author.Needs.{needs}
 use Rattle.geometry.proofs.contains.search_ring.Statement.{statement}
 use Rattle.geometry.proofs.contains.search_ring.Tie as tie
@@ -23,7 +24,7 @@ abbrev Inv-loop : tie.InvT-loop
 Inv-loop work₀ s point-box resolution nodes w slots q₀ work q = Going (seeing s point-box resolution nodes) nodes s work₀ work q
 
 abbrev μ-loop : tie.MeasureT-loop
-μ-loop work₀ s point-box resolution nodes w slots q₀ work q = nodes - q .visited
+μ-loop work₀ s point-box resolution nodes w slots q₀ work q = nodes - q .counts .visited
 
 abbrev from-loop : tie.At-loop Inv-loop μ-loop → tie.Start Inv-loop μ-loop
 from-loop c = c .before .before .before .before
@@ -38,11 +39,11 @@ loop-holds : tie.Need-loop-holds Inv-loop μ-loop
 loop-holds c = let k = c .before .before .before in let g = k .args in going-start (seeing (g .s) (g .point-box .now) (g .resolution) (g .nodes)) (g .nodes) (g .s) (g .work .now) (k .pre .0 .ring)
 
 same-length : tie.Need-same-length Inv-loop μ-loop
-same-length c = let at-loop = c .before .before .before .before in at-loop .loop .inv .long
+same-length c = let at-loop = c .before .before .before .before .before in at-loop .loop .inv .long
 
 returns : tie.Need-returns Inv-loop μ-loop
 returns c =
-    let at-loop = c .before .before .before .before in
+    let at-loop = c .before .before .before .before .before in
     let g = from-loop at-loop .args in
     let l = at-loop .loop in record {
       found = going-spent (seeing (g .s) (g .point-box .now) (g .resolution) (g .nodes)) (g .nodes) (g .s) (g .work .now) (l .work) (l .q) (l .inv) (omega arith) (omega arith);
@@ -51,7 +52,7 @@ returns c =
 
 visit-next-requires : tie.Need-visit-next-requires Inv-loop μ-loop
 visit-next-requires c κs =
-    let at-loop = c .before .before .before .before .before in
+    let at-loop = c .before .before .before .before .before .before in
     let k = from-loop at-loop in
     let g = k .args in
     let l = at-loop .loop in (
@@ -65,23 +66,23 @@ visit-next-requires c κs =
 has-bad-weight-requires : tie.Need-has-bad-weight-requires Inv-loop μ-loop
 has-bad-weight-requires c κs = tt
 
-add-t17 : tie.Need-add-t17 Inv-loop μ-loop
-add-t17 c =
+add-t20 : tie.Need-add-t20 Inv-loop μ-loop
+add-t20 c =
     let at-visit = c .before .before .before .before .before in
-    let at-loop = at-visit .before .before .before .before .before .before in
+    let at-loop = at-visit .before .before .before .before .before .before .before in
     omega (arith, at-loop .loop .inv .within, from-loop at-loop .pre .0 .few)
 
 same-length-2 : tie.Need-same-length-2 Inv-loop μ-loop
 same-length-2 c =
     let at-visit = c .before .before .before .before .before in
-    let at-loop = at-visit .before .before .before .before .before .before in
+    let at-loop = at-visit .before .before .before .before .before .before .before in
     at-visit .visit-next .kept .0 ∙ at-loop .loop .inv .long
 
 returns-2 : tie.Need-returns-2 Inv-loop μ-loop
 returns-2 c =
     let bad = c .before in
     let at-visit = bad .before .before .before .before in
-    let at-loop = at-visit .before .before .before .before .before .before in
+    let at-loop = at-visit .before .before .before .before .before .before .before in
     let g = from-loop at-loop .args in
     let l = at-loop .loop in
     let v = at-visit .visit-next in
@@ -93,37 +94,41 @@ returns-2 c =
 after-visit-requires : tie.Need-after-visit-requires Inv-loop μ-loop
 after-visit-requires c κs =
     let at-visit = c .before .before .before .before in
-    let at-loop = at-visit .before .before .before .before .before .before in
+    let at-loop = at-visit .before .before .before .before .before .before .before in
     let k = from-loop at-loop in
     let l = at-loop .loop in
-    ((l .inv .ring .start, omega arith, omega (arith, l .inv .low, l .inv .within), omega (arith, k .pre .0 .few)), omega (arith, l .inv .within, k .pre .0 .few))
+    let cuts = cuts-few _ (k .args .s) _ _ _ _ _ _ (at-visit .visit-next .ensures) in (
+      (l .inv .ring .start, omega arith, omega (arith, l .inv .low, l .inv .within), omega (arith, k .pre .0 .few)),
+      (omega (arith, l .inv .within, k .pre .0 .few), omega (arith, l .inv .few, l .inv .within, k .pre .0 .few), cuts),
+    )
 
 loop-less : tie.Need-loop-less Inv-loop μ-loop
 loop-less c =
     let at-visit = c .before .before .before .before .before in
-    let at-loop = at-visit .before .before .before .before .before .before in
-    omega (arith, c .after-visit .ensures .visited, at-loop .loop .inv .within)
+    let at-loop = at-visit .before .before .before .before .before .before .before in
+    omega (arith, ap (λ (v : Counts). v .visited) (c .after-visit .ensures .counts), at-loop .loop .inv .within)
 
 loop-again : tie.Need-loop-again Inv-loop μ-loop
 loop-again c =
     let good = c .before in
     let at-visit = good .before .before .before .before in
-    let at-loop = at-visit .before .before .before .before .before .before in
+    let one-waits = at-visit .before .before .before .before .before in
+    let at-loop = one-waits .before .before in
     let g = from-loop at-loop .args in
     let l = at-loop .loop in
     let v = at-visit .visit-next in
-    going-on (seeing (g .s) (g .point-box .now) (g .resolution) (g .nodes)) (g .nodes) (g .s) (g .work .now) (l .work) (l .q) (l .inv) (omega arith) (omega (arith, l .inv .within)) _ _ (v .kept .0)
-    (turned (g .s) (g .point-box .now) (g .resolution) (g .nodes) _ _ _ _ _ _ (v .ensures)) _ (sym (good .before .has-bad-weight .ensures) ∙ good .if3 .left) (c .after-visit .ensures)
+    going-on (seeing (g .s) (g .point-box .now) (g .resolution) (g .nodes)) (g .nodes) (g .s) (g .work .now) (l .work) (l .q) (l .inv) (omega (arith, one-waits .if1 .taken)) (omega (arith, l .inv .within)) _ _ (v .kept .0)
+    (turned (g .s) (g .point-box .now) (g .resolution) (g .nodes) _ _ _ _ _ _ (v .ensures)) _ (cuts-few _ (g .s) _ _ _ _ _ _ (v .ensures)) (sym (good .before .has-bad-weight .ensures) ∙ good .if3 .left) (c .after-visit .ensures)
 
 completed-requires : tie.Need-completed-requires Inv-loop μ-loop
 completed-requires c κs = tt
 
 same-length-3 : tie.Need-same-length-3 Inv-loop μ-loop
-same-length-3 c = let at-loop = c .before .before .before .before in at-loop .loop .inv .long
+same-length-3 c = let at-loop = c .before .before .before .before .before in at-loop .loop .inv .long
 
 returns-3 : tie.Need-returns-3 Inv-loop μ-loop
 returns-3 c =
-    let at-loop = c .before .before .before .before in
+    let at-loop = c .before .before .before .before .before in
     let g = from-loop at-loop .args in
     let l = at-loop .loop in record {
       found = going-none (seeing (g .s) (g .point-box .now) (g .resolution) (g .nodes)) (g .nodes) (g .s) (g .work .now) (l .work) (l .q) (l .inv) _ (omega arith) (c .completed .ensures);
@@ -143,7 +148,7 @@ search-ring-spec =
     returns
     visit-next-requires
     has-bad-weight-requires
-    add-t17
+    add-t20
     same-length-2
     returns-2
     after-visit-requires

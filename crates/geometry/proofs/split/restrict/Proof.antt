@@ -1,11 +1,13 @@
 -- `restrict` equals its definition: a copy, cut at lo and then at hi.
+use Prim.Native.Nat.{ℕ, _≤_}
 use mathlib.Core.Path.{sym, subst}
 use mathlib.Core.Logic.{inl}
 use lib.Dec.{T}
 use Rattle.math.specs.Scalars.{geop}
 use Rattle.model.specs.Split.{fromBy}
+use Rattle.model.proofs.Cuts.{from-few, up-to-few}
 use Rattle.geometry.specs.Slots.{pieceAt, Whole, within}
-use Rattle.geometry.proofs.split.Splits.{copied, copied-whole, cut-down, cut-down-whole, restricted, from-few, upto-few}
+use Rattle.geometry.proofs.split.Splits.{copied, copied-whole, cut-down, cut-down-whole, restricted}
 use borrow.Author.Needs.{needs}
 use native.Mathlib.Omega.{arith}
 use Rattle.geometry.proofs.split.restrict.Statement.{statement}
@@ -54,8 +56,8 @@ add-result c =
     let at-cut-from = to-cut-from at-cut-up-to in
     let k = from-copy-right (at-cut-from .before .before .before .before) in
     let g = k .args in
-    let a = from-few (g .s .degree) _ (g .lo) _ _ (at-cut-from .cut-from .ensures .cuts) in
-    let b = upto-few (g .s .degree) _ (g .hi) _ _ (at-cut-up-to .cut-up-to .ensures .cuts) in
+    let a = subst (λ (n : ℕ). n ≤ 1) (sym (at-cut-from .cut-from .ensures .cuts)) (from-few geop (g .s .degree) (g .lo) _ _) in
+    let b = subst (λ (n : ℕ). n ≤ 1) (sym (at-cut-up-to .cut-up-to .ensures .cuts)) (up-to-few geop (g .s .degree) (g .hi) _ _) in
     omega (arith, a, b)
 
 same-length : tie.Need-same-length

@@ -20,8 +20,8 @@ children-requires c κs = search needs
 add-pending : tie.Need-add-pending
 add-pending c = omega (arith, children-few (c .before .before .before .before .args .o), c .children .ensures)
 
-add-visited : tie.Need-add-visited
-add-visited c = search needs
+counted-requires : tie.Need-counted-requires
+counted-requires c κs = search needs
 
 with-report-requires : tie.Need-with-report-requires
 with-report-requires c κs = search needs
@@ -38,6 +38,6 @@ after-visit-spec =
     sub-pending
     children-requires
     add-pending
-    add-visited
+    counted-requires
     with-report-requires
     returns)
