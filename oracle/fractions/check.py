@@ -337,7 +337,7 @@ class Library:
         self.search.argtypes = [size, size, size, at, size, at, size, at, size, ctypes.c_double, size, at, size, at, at]
         self.search.restype = ctypes.c_uint64
         self.work = (ctypes.c_double * (4099 * 416))()
-        self.counts, self.bounds = (ctypes.c_uint64 * 3)(), (ctypes.c_double * 2)()
+        self.counts, self.bounds = (ctypes.c_uint64 * 4)(), (ctypes.c_double * 2)()
         self.junk = random.Random(0).randbytes(8 * 64)
 
     def ask(self, q):
@@ -349,7 +349,7 @@ class Library:
         ctypes.memmove(self.work, self.junk, len(self.junk))
         number = self.search(q.dim, q.degree, q.count, knots, len(knots), points, len(points), box, len(box), q.resolution, q.nodes,
                              self.work, (q.nodes + 3) * words(q), self.counts, self.bounds)
-        kind, visited, _ = self.counts
+        kind, visited, _, _ = self.counts
         return kind, visited, number, self.bounds[0], self.bounds[1]
 
 

@@ -3,7 +3,7 @@
 #[path = "../rust/random.rs"]
 mod random;
 use geop_core_geometry::{aabb, contains::curve, fat_line, knot_insertion, nurb_curve::NurbCurve};
-use geop_core_math::{scalars::Scalar, vector::Vector};
+use geop_core_math::{counts, scalars::Scalar, vector::Vector};
 use random::Rng;
 
 unsafe extern "C" {
@@ -290,11 +290,13 @@ fn cuts<const D: usize>(t: &mut Tally, r: &mut Rng, c: &Case, points: &[Vector<D
         let (lo, hi) = if x < y { (x, y) } else { (y, x) };
         let (lo, hi) = if r.one_in(6) { (a, hi) } else if r.one_in(6) { (lo, b) } else { (lo, hi) };
         let (mut k2, mut rows) = (knots.to_vec(), [points.to_vec()]);
+        counts::made();
         knot_insertion::restrict(&mut k2, &mut rows, p, Scalar::from_f64(lo), Scalar::from_f64(hi)).unwrap();
+        let made = counts::made();
         let mut l = write_slot(c);
-        k_restrict(l.as_mut_ptr(), l.len(), dim, p, n, slot_words(c), lo, hi);
+        let cuts = k_restrict(l.as_mut_ptr(), l.len(), dim, p, n, slot_words(c), lo, hi);
         let (ok, op) = read_slot(c, &l, 1);
-        t.see("restrict", same(&ok, &lows(&k2)) && same(&op, &flat(&rows[0])) && only(c, &l, &[1]), || format!("lo {lo} hi {hi} {}", show()));
+        t.see("restrict", cuts as u64 == made && same(&ok, &lows(&k2)) && same(&op, &flat(&rows[0])) && only(c, &l, &[1]), || format!("lo {lo} hi {hi} {}", show()));
     }
 }
 

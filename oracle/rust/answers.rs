@@ -3,12 +3,12 @@
 use crate::questions::{MOST, Question, stated};
 use geop_core_geometry::contains::curve::curve_could_contain;
 use geop_core_geometry::nurb_curve::{NurbCurve, ParameterRefinable};
-use geop_core_math::{geop_error::GeopError, scalars::Scalar, vector::Vector, visits};
+use geop_core_math::{counts, geop_error::GeopError, scalars::Scalar, vector::Vector};
 use std::panic::{AssertUnwindSafe, catch_unwind, set_hook};
 use std::sync::atomic::{AtomicBool, Ordering::Relaxed};
 
-/// An answer: its kind (0 nothing, 1 enclosed, 2 spent, 3 refused), pending, visited, the number of the refusal, and the bits of lo and hi.
-pub type Answer = [u64; 6];
+/// An answer: its kind (0 nothing, 1 enclosed, 2 spent, 3 refused), pending, visited, the number of the refusal, the bits of lo and hi, and cuts.
+pub type Answer = [u64; 7];
 
 /// The number from 1 to 10 by which the scope refuses a question, or 0.
 pub fn refusal(q: &Question) -> u64 {
@@ -59,8 +59,8 @@ pub fn hush() {
         }
     }));
 }
-/// The Rust's answer and its visits; or what it panicked with.
-fn run_rust<const D: usize, const C: usize>(q: &Question) -> (Result<Result<Option<Scalar>, GeopError>, String>, u64)
+/// The Rust's answer, or what it panicked with; and its visits and cuts.
+fn run_rust<const D: usize, const C: usize>(q: &Question) -> (Result<Result<Option<Scalar>, GeopError>, String>, [u64; 2])
 where
     NurbCurve<D>: ParameterRefinable<C>,
 {
@@ -69,14 +69,14 @@ where
     let knots = q.knots.iter().map(|&u| Scalar::from_f64(u)).collect();
     let cell = scalars(&q.cell);
     let cell = Vector::<C>::from_array(std::array::from_fn(|k| cell[k]));
-    visits::taken();
+    counts::taken();
     ASKING.store(true, Relaxed);
     let answer = catch_unwind(AssertUnwindSafe(|| {
         let curve = NurbCurve::<D>::try_new(q.degree, points, knots)?;
         curve_could_contain(&curve, &cell, q.nodes, Scalar::from_f64(q.resolution))
     }));
     ASKING.store(false, Relaxed);
-    (answer.map_err(|said| said.downcast_ref::<String>().cloned().unwrap_or_default()), visits::taken())
+    (answer.map_err(|said| said.downcast_ref::<String>().cloned().unwrap_or_default()), counts::taken())
 }
 /// The bits of a bound, where a negative zero counts as zero, and any NaN as one.
 fn bits(x: f64) -> u64 {
@@ -92,18 +92,18 @@ fn ask_rust<const D: usize, const C: usize>(q: &Question) -> Result<Answer, Stri
 where
     NurbCurve<D>: ParameterRefinable<C>,
 {
-    let (answer, visited) = run_rust::<D, C>(q);
+    let (answer, [visited, cuts]) = run_rust::<D, C>(q);
     match answer {
-        Ok(Ok(None)) => Ok([0, 0, visited, 0, 0, 0]),
-        Ok(Ok(Some(t))) => Ok([1, 0, visited, 0, bits(t.lo), bits(t.hi)]),
-        Ok(Err(e)) => pending(e.root_message()).map(|n| [2, n, visited, 0, 0, 0]).ok_or(e.root_message().into()),
-        Err(said) if said.starts_with("weights are definitely positive") => Ok([3, 0, visited, 11, 0, 0]),
+        Ok(Ok(None)) => Ok([0, 0, visited, 0, 0, 0, cuts]),
+        Ok(Ok(Some(t))) => Ok([1, 0, visited, 0, bits(t.lo), bits(t.hi), cuts]),
+        Ok(Err(e)) => pending(e.root_message()).map(|n| [2, n, visited, 0, 0, 0, cuts]).ok_or(e.root_message().into()),
+        Err(said) if said.starts_with("weights are definitely positive") => Ok([3, 0, visited, 11, 0, 0, cuts]),
         Err(said) => Err(said),
     }
 }
 /// The answer of a call that is refused.
 pub fn refused(number: u64) -> Answer {
-    [3, 0, 0, number, 0, 0]
+    [3, 0, 0, number, 0, 0, 0]
 }
 /// The scope's refusal, or else the Rust's answer.
 pub fn expected(q: &Question) -> Result<Answer, String> {

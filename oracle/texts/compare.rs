@@ -89,18 +89,19 @@ fn asked(text: &[u8]) -> Result<Question, u64> {
 
 // ---- what is expected: the answer
 
-/// What is expected for a text: the result's word, visited, and the five lines.
+/// What is expected for a text: the result's word, visited and cuts, and the six lines.
 struct Expected {
     word: String,
     visited: u64,
+    cuts: u64,
     lines: String,
 }
 /// An answer, as it is to be printed.
-fn printed([kind, pending, visited, number, lo, hi]: Answer) -> Expected {
+fn printed([kind, pending, visited, number, lo, hi, cuts]: Answer) -> Expected {
     let word = if kind == 3 { format!("refused-{number}") } else { WORDS[kind as usize].into() };
     let bound = |bits: u64| if kind == 1 { format!("{bits:016x}") } else { "-".into() };
-    let lines = format!("result={word}\nvisited={visited}\npending={pending}\nlo={}\nhi={}\n", bound(lo), bound(hi));
-    Expected { word, visited, lines }
+    let lines = format!("result={word}\nvisited={visited}\ncuts={cuts}\npending={pending}\nlo={}\nhi={}\n", bound(lo), bound(hi));
+    Expected { word, visited, cuts, lines }
 }
 fn expected(text: &[u8]) -> Result<Expected, String> {
     match asked(text) {
@@ -402,13 +403,16 @@ struct Row {
     damaged: u64,
     visits: u64,
     most: u64,
+    cuts: u64,
     differ: u64,
 }
 impl Row {
-    fn count(&mut self, visited: u64) {
+    fn count(&mut self, answer: Option<&Expected>) {
+        let (visited, cuts) = answer.map_or((0, 0), |e| (e.visited, e.cuts));
         self.texts += 1;
         self.visits += visited;
         self.most = self.most.max(visited);
+        self.cuts += cuts;
     }
 }
 fn row_of(theirs: &Result<Expected, String>) -> usize {
@@ -447,7 +451,7 @@ fn compare(r: &mut Rng, total: u64) -> bool {
         let theirs = expected(&text);
         let same = same(r, &text, &theirs);
         let row = &mut rows[row_of(&theirs)];
-        row.count(theirs.as_ref().map_or(0, |e| e.visited));
+        row.count(theirs.as_ref().ok());
         if let Some(way) = way {
             row.damaged += 1;
             ways[way][0] += 1;
@@ -460,9 +464,9 @@ fn compare(r: &mut Rng, total: u64) -> bool {
             }
         }
     }
-    println!("{:<18} {:>10} {:>10} {:>12} {:>8} {:>12}", "expected", "texts", "damaged", "visits", "most", "differences");
+    println!("{:<18} {:>10} {:>10} {:>12} {:>8} {:>12} {:>12}", "expected", "texts", "damaged", "visits", "most", "cuts", "differences");
     for (word, row) in WORDS.iter().zip(&rows) {
-        println!("{word:<18} {:>10} {:>10} {:>12} {:>8} {:>12}", row.texts, row.damaged, row.visits, row.most, row.differ);
+        println!("{word:<18} {:>10} {:>10} {:>12} {:>8} {:>12} {:>12}", row.texts, row.damaged, row.visits, row.most, row.cuts, row.differ);
     }
     println!("{:<18} {:>10} {:>10}", "damaged", "texts", "refused-12");
     for (way, [texts, refused]) in DAMAGE.iter().zip(&ways) {
@@ -522,7 +526,7 @@ fn store(r: &mut Rng, folder: &str) -> std::io::Result<bool> {
             show(&text);
             right = false;
         }
-        rows[word].count(answer.visited);
+        rows[word].count(Some(answer));
         chosen.push((text, answer.lines.clone()));
     }
     for i in (1..chosen.len()).rev() {
@@ -536,7 +540,7 @@ fn store(r: &mut Rng, folder: &str) -> std::io::Result<bool> {
             right = false;
         }
         if let Ok(answer) = &theirs {
-            rows[row_of(&theirs)].count(answer.visited);
+            rows[row_of(&theirs)].count(Some(answer));
             chosen.push((text, answer.lines.clone()));
         }
     }
@@ -557,9 +561,9 @@ fn store(r: &mut Rng, folder: &str) -> std::io::Result<bool> {
     }
     std::fs::write(format!("{folder}/args"), (0..files.len()).map(|i| format!("{i:02}\n")).collect::<String>())?;
     std::fs::write(format!("{folder}/stdout"), chosen.iter().map(|(_, lines)| lines.as_str()).collect::<String>())?;
-    println!("{:<18} {:>10} {:>12} {:>8}", "stored", "texts", "visits", "most");
+    println!("{:<18} {:>10} {:>12} {:>8} {:>12}", "stored", "texts", "visits", "most", "cuts");
     for (word, row) in WORDS.iter().zip(&rows).take(14) {
-        println!("{word:<18} {:>10} {:>12} {:>8}", row.texts, row.visits, row.most);
+        println!("{word:<18} {:>10} {:>12} {:>8} {:>12}", row.texts, row.visits, row.most, row.cuts);
     }
     let bytes: usize = files.iter().map(|(bytes, _)| bytes.len()).sum();
     println!("{} texts of {made}, in {} files of {bytes} bytes; the port gives the same: {right}", chosen.len(), files.len());
