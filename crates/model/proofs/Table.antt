@@ -151,7 +151,7 @@ C6 = prints arc (0 ∷ 2 ∷ 2 ∷ 0 ∷ 0 ∷ 0 ∷ [])
 abbrev C7 : Row
 C7 = prints light (111 ∷ 1 ∷ 0 ∷ 0 ∷ 0 ∷ 0 ∷ [])
 
--- the same in the second visit, after two cuts in the first: refused by 11, visited 2, cuts 2
+-- two cuts in the first visit, and in the second a halving that leaves such a weight: refused by 11, visited 2, cuts 2
 abbrev C8 : Row
 C8 = prints brief (111 ∷ 2 ∷ 2 ∷ 0 ∷ 0 ∷ 0 ∷ [])
 
