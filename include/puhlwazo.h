@@ -5,7 +5,8 @@
  * binds memset in it (6 KB in all were seen; the linker's share depends on the processor).
  *
  * What the pointers must be, in every call:
- *   - each points to as many numbers as the length behind it says (counts to PUHLWAZO_COUNTS, bounds to 2), and is aligned for them; none is NULL, also where a length is 0;
+ *   - each points to as many numbers as the length behind it says (counts to PUHLWAZO_COUNTS, bounds to 2), and is aligned for them; none is NULL, also where
+ *     a length is 0;
  *   - work, counts and bounds overlap neither each other nor anything that is only read;
  *   - nothing else writes to any of it during the call.
  *
@@ -35,7 +36,7 @@ extern "C" {
 /* Counted up when a declaration below changes its meaning or its form. */
 #define PUHLWAZO_VERSION 2
 
-/* How many numbers `counts` has room for. They may become more, behind the ones that are there: give the array this length. */
+/* How many numbers a call writes to `counts`. They may become more in a later version, behind the ones that are there: give the array this length. */
 #define PUHLWAZO_COUNTS 4
 
 /* Whether the calling thread's floating-point environment is the one above: 1, or 0. The register MXCSR has it: bit 6 denormals-are-zero, bits 7 to 12 the
@@ -66,8 +67,9 @@ enum {
  * nodes       at most so many pieces are visited: at most 4,096
  * work        lent memory: at least puhlwazo_work_words(dim, degree, count, nodes) numbers, with any contents. A refusal by 1 to 10 leaves it as it was; any
  *             other call leaves 0 in its first puhlwazo_work_words(..) numbers, and the rest as it was
- * counts      gets the kind of the answer, how many pieces were visited, how many were left (0 unless spent), and how many cuts were made of pieces that were
- *             cut down to what the box leaves of them and went on to be searched: at each an end was really cut off, 1 or 2 for a piece
+ * counts      gets [0] the kind of the answer; [1] visited: how many pieces were; [2] pending: how many were left (0 unless spent); [3] cuts: how often an end
+ *             was cut off, 1 or 2 for each piece that was cut down to what the box leaves of it and queued, also where it still waits at the end.
+ *             [1] to [3] are 0 after a refusal by 1 to 10, and where the box misses at once
  * bounds      gets lo and hi: both finite, in the domain, and lo at most hi (0 and 0 unless enclosed)
  *
  * Gives 0, or the number of the refusal; of several the least:
@@ -82,7 +84,8 @@ enum {
  *       one of these two values more than degree + 1 times
  *    9  nodes is above 4,096
  *   10  work is too short
- *   11  in a piece that the search cut, the lo of a weight is not above 0 any more: counts[1] tells after how many visits; its cuts do not count. The curve itself is at fault */
+ *   11  in a piece that the search cut, the lo of a weight is not above 0 any more: counts[1] tells after how many visits, and
+ *       counts[3] has the cuts before that piece. The curve itself is at fault */
 uint64_t puhlwazo_curve_could_contain(
     size_t dim, size_t degree, size_t count,
     const double *knots, size_t knots_length,
@@ -90,7 +93,7 @@ uint64_t puhlwazo_curve_could_contain(
     const double *point_box, size_t point_box_length,
     double resolution, size_t nodes,
     double *work, size_t work_length,
-    uint64_t *counts, double *bounds);
+    uint64_t counts[PUHLWAZO_COUNTS], double bounds[2]);
 
 /* How many numbers of work area a call with these sizes needs; 0 exactly for sizes that are refused by 1, 2, 3 or 9, whatever else is lent: there is nothing to
  * ask then. */

@@ -213,10 +213,11 @@ restrictInto s l a lo hi c =
     let h = fullCut geop p hi d in
     keepInto s (keepInto s (placed s l a c) a (k .piece) (rightOf k) (within p c lo)) a (h .piece) (leftOf p h) (within p d hi)
 
--- What `restrict` leaves: the memory m, and the number r of cuts, one if lo lies strictly inside the domain, and one more if hi lies strictly inside what is then left; so at most 2.
+-- What `restrict` leaves: the memory m, and the number r of cuts, one if lo lies strictly inside the domain, and one more
+-- if hi lies strictly inside what is then left; so at most 2.
 pub record RestrictAt (s : Shape) (l m : List Float) (a : ℕ) (lo hi : Float) (c : Piece) (r : ℕ) : Type 0 where
   pub cuts : r ≡ restrict geop (s .degree) lo hi c .cuts
-  pub few : r ≤ 2
+  pub most : r ≤ 2
   pub memory : m ≡ restrictInto s l a lo hi c
   pub held : Holding s m a (restrict geop (s .degree) lo hi c .piece)
   pub others : OnlyAt s l m a

@@ -58,7 +58,7 @@ children (Restricted n) = 1
 children Halved = 2
 children BadWeight = 0
 
--- How many cuts a visit made of a piece that it hands on cut down.
+-- How many cuts a visit adds: those of a piece that it cut down and hands on, else none.
 abbrev pub cutsOf : Outcome → ℕ
 cutsOf Dropped = 0
 cutsOf (Reported t) = 0
@@ -94,7 +94,7 @@ pub record Going (see : Piece → Visit) (nodes : ℕ) (s : Shape) (l₀ l : Lis
   pub low : x .pending ≤ x .counts .visited + 1
   pub within : x .counts .visited ≤ nodes
   -- No visit makes more than two cuts.
-  pub few : x .counts .cuts ≤ 2 * x .counts .visited
+  pub cuts : x .counts .cuts ≤ 2 * x .counts .visited
   pub long : length l ≡ length l₀
   -- What is left to search from here is what was to search from the start.
   pub same : (k : ℕ) → advance see nodes (x .counts .visited + k) (begun (pieceAt s l₀ 0)) ≡ advance see nodes k (stateOf s l (nodes + 3) x)

@@ -94,7 +94,7 @@ fn cut_up_to(work: &mut [f64], base: usize, s: Shape, t: f64) -> usize
 }
 
 // The piece in the slot at src, where it stays, is cut down to lo and hi in the slot at to: the second cut runs in the slot of the first. The result is the number of
-// cuts.
+// cuts, 0, 1 or 2: one if lo lies strictly inside the domain, and one more if hi lies strictly inside what is then left.
 pub(crate) fn restrict(work: &mut [f64], src: usize, to: usize, s: Shape, lo: f64, hi: f64) -> usize
     requires { ⌜ Held s (now work) src × Fit s (pieceAt s (now work) src) × Inside s (now work) to × Apart s src to
         × (1 ≤ s .degree) ⌝ }

@@ -72,7 +72,7 @@ fn children(o: Outcome) -> usize
     }
 }
 
-// How many cuts a visit made of a piece that it hands on cut down.
+// How many cuts a visit adds: those of a piece that it cut down and hands on, else none.
 fn cuts_of(o: Outcome) -> usize
     ensures { λ r. ⌜ r ≡ cutsOf o ⌝ }
 {

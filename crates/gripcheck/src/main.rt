@@ -1,4 +1,4 @@
-// Reads a question from standard input and prints the answer in five lines.
+// Reads a question from standard input and prints the answer in six lines.
 // Where the question cannot be read, nothing is answered; this, and an answer that cannot be written, is said on standard error.
 use text::respond::respond;
 ghost use Prim.Native.Nat.{_≤_};

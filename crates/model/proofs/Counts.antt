@@ -18,32 +18,22 @@ use Rattle.model.specs.Subdivide.{Question, Visit, dropped, reported, re
 use Rattle.model.specs.Aabb.{couldMeet}
 use Rattle.model.specs.Contains.{visit, begun, couldContain}
 use Rattle.model.specs.Call.{Call, question, asPiece, refusal, searchedBy, searched}
+use Rattle.model.specs.Counts.{CountsWithin, WithinNodes}
 use Rattle.model.proofs.Pause.{goes, spends, ends, once, fails, waits}
 use Rattle.model.proofs.Cuts.{OneOrTwo, visit-cuts}
 
--- What visited and cuts are held to.
-abbrev pub Few : ℕ → ℕ → ℕ → Type 0
-Few nodes v k = (v ≤ nodes) × (k ≤ 2 * v)
-
--- What the counts of an answer are held to.
-abbrev pub WithinNodes : ℕ → Found → Type 0
-WithinNodes nodes (Nothing v k) = Few nodes v k
-WithinNodes nodes (Enclosed lo hi v k) = Few nodes v k
-WithinNodes nodes (Spent n v k) = Few nodes v k × (v ≡ nodes) × (1 ≤ n) × (n ≤ nodes + 1)
-WithinNodes nodes (Refused n v k) = Few nodes v k
-
--- A state after v visits: at most two cuts for each, and at most v + 1 pieces wait.
-pub record Counted (v : ℕ) (s : State) : Type 0 where
-  pub visits : s .counts .visited ≡ v
-  pub cuts : s .counts .cuts ≤ 2 * v
-  pub pieces : length (s .queue) ≤ v + 1
+-- A state after j visits: at most two cuts for each, and at most j + 1 pieces wait.
+pub record Counted (j : ℕ) (s : State) : Type 0 where
+  pub visits : s .counts .visited ≡ j
+  pub cuts : s .counts .cuts ≤ 2 * j
+  pub pieces : length (s .queue) ≤ j + 1
 
 -- Where a search stands that was to take visits up to number m: it is over, or it took just these, and has one to take.
 abbrev pub AfterVisits : ℕ → ℕ → Step → Type 0
 AfterVisits nodes m (going s) = Counted m s × (m < nodes)
 AfterVisits nodes m (over r) = WithinNodes nodes r
 
-complete-counted : (nodes : ℕ) (v : Counts) (f : Option Scalar) → Few nodes (v .visited) (v .cuts) → WithinNodes nodes (complete f v)
+complete-counted : (nodes : ℕ) (v : Counts) (f : Option Scalar) → CountsWithin nodes (v .visited) (v .cuts) → WithinNodes nodes (complete f v)
 unfolding complete
 complete-counted nodes v none h = h
 complete-counted nodes v (some t) h = h
@@ -52,61 +42,61 @@ module _ (see : Piece → Visit) (few : (c : Piece) → OneOrTwo (see c)) (nodes
   abbrev at : List Piece → Counts → Option Scalar → State
   at q v f = record { queue = q; counts = v; found = f }
 
-  -- What a visit leaves of a state after v visits.
+  -- What a visit leaves of a state after j visits.
   abbrev AfterOne : ℕ → Step → Type 0
-  AfterOne v (going s) = Counted (suc v) s
-  AfterOne v (over r) = WithinNodes nodes r
+  AfterOne j (going s) = Counted (suc j) s
+  AfterOne j (over r) = WithinNodes nodes r
 
   -- the visit of the first piece, which came out as w
-  turn : (c : Piece) (cs : List Piece) (u : Counts) (f : Option Scalar) (v : ℕ) (w : Visit) → OneOrTwo w → v < nodes → Counted v (at (c ∷ cs) u f) → AfterOne v (after cs (withVisit u) f w)
+  turn : (c : Piece) (cs : List Piece) (v : Counts) (f : Option Scalar) (j : ℕ) (w : Visit) → OneOrTwo w → j < nodes → Counted j (at (c ∷ cs) v f) → AfterOne j (after cs (withVisit v) f w)
   unfolding after
-  turn c cs u f v dropped t h g = record { visits = omega (arith, g .visits); cuts = omega (arith, g .cuts); pieces = omega (arith, g .pieces) }
-  turn c cs u f v (reported x) t h g = record { visits = omega (arith, g .visits); cuts = omega (arith, g .cuts); pieces = omega (arith, g .pieces) }
-  turn c cs u f v (restricted n d) t h g =
+  turn c cs v f j dropped t h g = record { visits = omega (arith, g .visits); cuts = omega (arith, g .cuts); pieces = omega (arith, g .pieces) }
+  turn c cs v f j (reported x) t h g = record { visits = omega (arith, g .visits); cuts = omega (arith, g .cuts); pieces = omega (arith, g .pieces) }
+  turn c cs v f j (restricted n d) t h g =
       record { visits = omega (arith, g .visits); cuts = omega (arith, g .cuts, t .1); pieces = omega (arith, g .pieces, length-append cs (d ∷ [])) }
-  turn c cs u f v (halved l r) t h g =
+  turn c cs v f j (halved l r) t h g =
       record { visits = omega (arith, g .visits); cuts = omega (arith, g .cuts); pieces = omega (arith, g .pieces, length-append cs (l ∷ r ∷ [])) }
-  turn c cs u f v badWeight t h g = (omega (arith, g .visits), omega (arith, g .visits, g .cuts))
+  turn c cs v f j badWeight t h g = (omega (arith, g .visits), omega (arith, g .visits, g .cuts))
 
   -- a state that takes no visit, since the nodes are used up
-  halts : (k : ℕ) (c : Piece) (cs : List Piece) (u : Counts) (f : Option Scalar) (v m : ℕ) → nodes ≤ v → v ≤ nodes → Counted v (at (c ∷ cs) u f)
-      → AfterVisits nodes m (advance see nodes k (at (c ∷ cs) u f))
-  halts k c cs u f v m n h g =
-      rw (ends see nodes k (at (c ∷ cs) u f) (Spent (suc (length cs)) (u .visited) (u .cuts)) (spends nodes c cs u f (omega (arith, g .visits))))
+  halts : (k : ℕ) (c : Piece) (cs : List Piece) (v : Counts) (f : Option Scalar) (j m : ℕ) → nodes ≤ j → j ≤ nodes → Counted j (at (c ∷ cs) v f)
+      → AfterVisits nodes m (advance see nodes k (at (c ∷ cs) v f))
+  halts k c cs v f j m n h g =
+      rw (ends see nodes k (at (c ∷ cs) v f) (Spent (suc (length cs)) (v .visited) (v .cuts)) (spends nodes c cs v f (omega (arith, g .visits))))
       ((omega (arith, g .visits), omega (arith, g .visits, g .cuts)), omega (arith, g .visits), omega arith, omega (arith, g .pieces))
 
   -- or since no piece waits
-  empties : (k : ℕ) (u : Counts) (f : Option Scalar) (v m : ℕ) → v ≤ nodes → Counted v (at [] u f) → AfterVisits nodes m (advance see nodes k (at [] u f))
-  empties k u f v m h g =
-      rw (ends see nodes k (at [] u f) (complete f u) (unfold ended in refl)) (complete-counted nodes u f (omega (arith, g .visits), omega (arith, g .visits, g .cuts)))
+  empties : (k : ℕ) (v : Counts) (f : Option Scalar) (j m : ℕ) → j ≤ nodes → Counted j (at [] v f) → AfterVisits nodes m (advance see nodes k (at [] v f))
+  empties k v f j m h g =
+      rw (ends see nodes k (at [] v f) (complete f v) (unfold ended in refl)) (complete-counted nodes v f (omega (arith, g .visits), omega (arith, g .visits, g .cuts)))
 
-  -- k visits from a state after v visits
-  pub stands : (k : ℕ) (s : State) (v m : ℕ) → m ≡ v + k → v ≤ nodes → Counted v s → AfterVisits nodes m (advance see nodes k s)
-  stands zero s v m e h g = by (s .queue) (s .counts) (s .found) g
+  -- k visits from a state after j visits
+  pub stands : (k : ℕ) (s : State) (j m : ℕ) → m ≡ j + k → j ≤ nodes → Counted j s → AfterVisits nodes m (advance see nodes k s)
+  stands zero s j m e h g = by (s .queue) (s .counts) (s .found) g
     where
-      by : (q : List Piece) (u : Counts) (f : Option Scalar) → Counted v (at q u f) → AfterVisits nodes m (advance see nodes zero (at q u f))
-      by [] u f g = empties zero u f v m h g
-      by (c ∷ cs) u f g = go (decLt v nodes)
+      by : (q : List Piece) (v : Counts) (f : Option Scalar) → Counted j (at q v f) → AfterVisits nodes m (advance see nodes zero (at q v f))
+      by [] v f g = empties zero v f j m h g
+      by (c ∷ cs) v f g = go (decLt j nodes)
         where
-          go : Dec (v < nodes) → AfterVisits nodes m (advance see nodes zero (at (c ∷ cs) u f))
-          go (yes l) = rw (waits see nodes (at (c ∷ cs) u f) (goes nodes c cs u f (omega (arith, g .visits)))) (subst (λ (x : ℕ). Counted x (at (c ∷ cs) u f)) (omega arith) g, omega arith)
-          go (no n) = halts zero c cs u f v m (omega arith) h g
-  stands (suc k) s v m e h g = by (λ l t i. stands k t (suc v) m (omega arith) l i) (s .queue) (s .counts) (s .found) g
+          go : Dec (j < nodes) → AfterVisits nodes m (advance see nodes zero (at (c ∷ cs) v f))
+          go (yes l) = rw (waits see nodes (at (c ∷ cs) v f) (goes nodes c cs v f (omega (arith, g .visits)))) (subst (λ (x : ℕ). Counted x (at (c ∷ cs) v f)) (omega arith) g, omega arith)
+          go (no n) = halts zero c cs v f j m (omega arith) h g
+  stands (suc k) s j m e h g = by (λ l t i. stands k t (suc j) m (omega arith) l i) (s .queue) (s .counts) (s .found) g
     where
       Rest : Type 0
-      Rest = v < nodes → (t : State) → Counted (suc v) t → AfterVisits nodes m (advance see nodes k t)
+      Rest = j < nodes → (t : State) → Counted (suc j) t → AfterVisits nodes m (advance see nodes k t)
 
-      by : Rest → (q : List Piece) (u : Counts) (f : Option Scalar) → Counted v (at q u f) → AfterVisits nodes m (advance see nodes (suc k) (at q u f))
-      by rest [] u f g = empties (suc k) u f v m h g
-      by rest (c ∷ cs) u f g = go (decLt v nodes)
+      by : Rest → (q : List Piece) (v : Counts) (f : Option Scalar) → Counted j (at q v f) → AfterVisits nodes m (advance see nodes (suc k) (at q v f))
+      by rest [] v f g = empties (suc k) v f j m h g
+      by rest (c ∷ cs) v f g = go (decLt j nodes)
         where
-          on : v < nodes → (t : Step) → step see (c ∷ cs) u f ≡ t → AfterOne v t → AfterVisits nodes m (advance see nodes (suc k) (at (c ∷ cs) u f))
-          on l (going t) e i = rw (once see nodes k (at (c ∷ cs) u f) t (goes nodes c cs u f (omega (arith, g .visits))) e) (rest l t i)
-          on l (over r) e i = rw (fails see nodes k (at (c ∷ cs) u f) r (goes nodes c cs u f (omega (arith, g .visits))) e) i
+          on : j < nodes → (t : Step) → step see (c ∷ cs) v f ≡ t → AfterOne j t → AfterVisits nodes m (advance see nodes (suc k) (at (c ∷ cs) v f))
+          on l (going t) e i = rw (once see nodes k (at (c ∷ cs) v f) t (goes nodes c cs v f (omega (arith, g .visits))) e) (rest l t i)
+          on l (over r) e i = rw (fails see nodes k (at (c ∷ cs) v f) r (goes nodes c cs v f (omega (arith, g .visits))) e) i
 
-          go : Dec (v < nodes) → AfterVisits nodes m (advance see nodes (suc k) (at (c ∷ cs) u f))
-          go (yes l) = on l (step see (c ∷ cs) u f) refl (unfold step in turn c cs u f v (see c) (few c) l g)
-          go (no n) = halts (suc k) c cs u f v m (omega arith) h g
+          go : Dec (j < nodes) → AfterVisits nodes m (advance see nodes (suc k) (at (c ∷ cs) v f))
+          go (yes l) = on l (step see (c ∷ cs) v f) refl (unfold step in turn c cs v f j (see c) (few c) l g)
+          go (no n) = halts (suc k) c cs v f j m (omega arith) h g
 
   -- all visits in one go: no state is left to go on from
   all-over : (t : Step) → AfterVisits nodes nodes t → WithinNodes nodes (answered t)

@@ -1,5 +1,5 @@
 -- The cuts of a restriction: at most 2 (`restrict-few`). A visit restricts only where a bound of the hat lies strictly inside the domain, so each restriction of a search makes 1 or 2
--- cuts, never 0 (`visit-cuts`). For every arithmetic. Assumes nothing.
+-- cuts, never 0 (`restriction-cuts`), and so does each whose piece is handed on (`visit-cuts`). For every arithmetic. Assumes nothing.
 use Prim.Native.Nat.{ℕ, _+_, _≤_}
 use native.Mathlib.Omega.{arith}
 use mathlib.Core.Bool.{Bool, true, false, _&&_, _||_}
@@ -63,6 +63,12 @@ restricts-inside ar a b hat size w t =
     and-r (definitelyGreater (sharp size) (sharp w) && definitelyLess (sharp (widthS hat)) (ar .mul (sharp (widthS (domain a b))) (ar .fourFifths)))
     (inDomain a b (hat .lo) || inDomain a b (hat .hi)) t
 
+-- where the test passes there are 1 or 2 cuts
+pub restriction-cuts : (ar : Arithmetic) (p : ℕ) (c : Piece) (hat : Scalar) (size w : Float) → T (restricts ar (start p c) (end c) hat size w)
+    → (1 ≤ restrict ar p (hat .lo) (hat .hi) c .cuts) × (restrict ar p (hat .lo) (hat .hi) c .cuts ≤ 2)
+restriction-cuts ar p c hat size w t =
+    (restrict-cuts ar p (hat .lo) (hat .hi) c (restricts-inside ar (start p c) (end c) hat size w t), restrict-few ar p (hat .lo) (hat .hi) c)
+
 -- A visit that hands on a piece cut down has cut it once or twice.
 abbrev pub OneOrTwo : Visit → Type 0
 OneOrTwo dropped = Unit {0}
@@ -83,7 +89,8 @@ module _ (ar : Arithmetic) (q : Question) where
 
   shrink-cuts : (c : Piece) (h : Hat) → OneOrTwo (shrink ar q c h)
   shrink-cuts c Missing = unfold shrink in tt
-  shrink-cuts c (Over hat) = choices ar q c hat OneOrTwo (λ t. on-cuts _ (restrict-cuts ar (q .degree) (hat .lo) (hat .hi) c (restricts-inside ar (start (q .degree) c) (end c) hat _ _ t), restrict-few ar (q .degree) (hat .lo) (hat .hi) c))
+  shrink-cuts c (Over hat) = choices ar q c hat OneOrTwo
+      (λ t. on-cuts (restrict ar (q .degree) (hat .lo) (hat .hi) c) (restriction-cuts ar (q .degree) c hat _ _ t))
       (both-cuts hat (splitMid ar (q .degree) c)) tt
 
   clipped-cuts : (c : Piece) (g : Option (List Scalar)) → OneOrTwo (clipped ar q c g)

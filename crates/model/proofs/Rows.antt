@@ -1,4 +1,4 @@
--- What a row of the table of the scope's cases says, and the test that it is right. Doubles are given by their bits, as in the texts.
+-- What a row of the table of cases says, and the test that it is right. Doubles are given by their bits, as in the texts.
 use Prim.Native.Nat.{ℕ, _+_}
 use mathlib.Core.Bool.{Bool, true, false, _&&_}
 use mathlib.Core.List.{List, [], _∷_, map, zipWith}
@@ -20,7 +20,7 @@ use Rattle.model.specs.FatLine.{abscissa, greville, crossing, zerosBy, f
 use Rattle.model.specs.Subdivide.{positiveZero, joined, complete, after, ended, step, stop, advance, answered}
 use Rattle.model.specs.Contains.{axis, narrowed, clip, carried, handOn, handBoth, shrink, clipped, visit, couldContain}
 use Rattle.model.specs.Layout.{pointAt, pointsOf, slotWords}
-use Rattle.model.specs.Call.{Call, curveOf, dimFits, degreeFits, countFits, lengthsFit, numbersUsable, boundsOrdered, weightsFit, rising, multiplicityOk, knotsValid, knotsFit, nodesFit, stated, areaFits, firstFailed, orElse, sizesRefusal, curveRefusal, refusal, searchedBy, searched}
+use Rattle.model.specs.Call.{Call, curveOf, asPiece, dimFits, degreeFits, countFits, lengthsFit, numbersUsable, boundsOrdered, weightsFit, rising, multiplicityOk, knotsValid, knotsFit, stated, areaFits, firstFailed, orElse, sizesRefusal, curveRefusal, refusal, searchedBy, searched}
 use Rattle.model.specs.Paper.{Result, none-found, enclosed, spent, refused, Paper, paper}
 
 -- A text for the program, line by line; `points` has the numbers of all `point` lines.
@@ -39,6 +39,8 @@ pub data Row : Type 0 where
   -- The call of a text, and the six values that it prints. The first is 0 for none, 1 for enclosed, 2 for spent and 100 + N for refused-N; then come visited, cuts, pending, lo and hi,
   -- where 0 stands for `-`.
   prints : Text → List ℕ → Row
+  -- The path of a text, cut down to two parameters: the number of cuts.
+  cuts : Text → ℕ → ℕ → ℕ → Row
   -- Two numbers, and the bounds of their sum.
   sums : ℕ → ℕ → ℕ → ℕ → Row
   -- Two numbers, and the bounds of their product.
@@ -95,6 +97,7 @@ unfolding zipWith add sub mul div lt le eq isNan neg ofInt toBits ofBits
     axis narrowed clip carried handOn handBoth shrink clipped visit couldContain
     pointAt pointsOf slotWords dimFits degreeFits countFits lengthsFit numbersUsable boundsOrdered weightsFit rising multiplicityOk knotsValid knotsFit stated areaFits firstFailed orElse sizesRefusal curveRefusal refusal searchedBy searched
 right (prints t expected) = alike (printed (paper (searched geop (callOf t)))) expected
+right (cuts t lo hi n) = eqb (restrict geop (t .degree) (ofBits binary64 lo) (ofBits binary64 hi) (asPiece (callOf t .curve)) .cuts) n
 right (sums a b lo hi) = alike (ends (some (addS (number a) (number b)))) (lo ∷ hi ∷ [])
 right (products a b lo hi) = alike (ends (some (mulS (number a) (number b)))) (lo ∷ hi ∷ [])
 right (roots a r) = eqb (toBits binary64 (sqrtF (ofBits binary64 a))) r

@@ -1,12 +1,11 @@
--- The scope's cases P1 to P10, and cases C1 to C8 of request E2: one table, and one proposition for all its rows, by computation. A row reads as Rows.antt says: `prints` is a text
--- and what it prints, where the first of the six values is 0 for none, 1 for enclosed, 2 for spent and 111 for refused-11; the other rows are an operation, its operands and its result.
--- Doubles are their bits.
+-- The scope's cases P1 to P10, and cases C1 to C14 of request E2: one table, and one proposition for all its rows, by computation. A row reads as Rows.antt says. Doubles are their
+-- bits.
 use Prim.Native.Nat.{ℕ}
 use mathlib.Core.Path.{_≡_, refl}
 use mathlib.Core.Bool.{true}
 use mathlib.Core.List.{List, [], _∷_}
 use Rattle.lists.specs.Lists.{all}
-use Rattle.model.proofs.Rows.{Text, Row, prints, sums, products, roots, right}
+use Rattle.model.proofs.Rows.{Text, Row, prints, cuts, sums, products, roots, right}
 
 -- The text of P1, a single point (3, 5) of degree 0, with so many nodes and a box at this abscissa.
 abbrev pub single : ℕ → ℕ → Text
@@ -58,30 +57,30 @@ light = line 0x3ff0000000000000 1 0
     ∷ [])
     (0 ∷ 0 ∷ 0 ∷ 0 ∷ [])
 
--- On a domain from 0 to 2 ^ -1022 the line from (0, 1) to (0, -1), weights 1, and the box (0, 0).
-abbrev brief : Text
-brief = line 0x0010000000000000 4 0
-    (0 ∷ 0 ∷ 0x3ff0000000000000 ∷ 0x3ff0000000000000 ∷ 0x3ff0000000000000 ∷ 0x3ff0000000000000
-    ∷ 0 ∷ 0 ∷ 0xbff0000000000000 ∷ 0xbff0000000000000 ∷ 0x3ff0000000000000 ∷ 0x3ff0000000000000
-    ∷ [])
-    (0 ∷ 0 ∷ 0 ∷ 0 ∷ [])
-
--- The arc of degree 2 through (0, 0), (2, 2) and (4, 0), weights 1, and the box (2, 3), which lies above it.
-abbrev arc : Text
-arc = record {
+-- A text of degree 2 on 0, 0, 0, e, e, e from (0, 0) to (4, y), with the control point (x, z) between them, weights 1, resolution 0, and a box that is the point (a, b).
+abbrev bend : ℕ → ℕ → ℕ → ℕ → ℕ → ℕ → ℕ → Text
+bend e nodes x z y a b = record {
   dim = 2;
   degree = 2;
   count = 3;
-  nodes = 4;
-  resolution = 0x3fe0000000000000;
-  knots = 0 ∷ 0 ∷ 0 ∷ 0x3ff0000000000000 ∷ 0x3ff0000000000000 ∷ 0x3ff0000000000000 ∷ [];
+  nodes = nodes;
+  resolution = 0;
+  knots = 0 ∷ 0 ∷ 0 ∷ e ∷ e ∷ e ∷ [];
   points =
       0 ∷ 0 ∷ 0 ∷ 0 ∷ 0x3ff0000000000000 ∷ 0x3ff0000000000000
-      ∷ 0x4000000000000000 ∷ 0x4000000000000000 ∷ 0x4010000000000000 ∷ 0x4010000000000000 ∷ 0x3ff0000000000000 ∷ 0x3ff0000000000000
-      ∷ 0x4010000000000000 ∷ 0x4010000000000000 ∷ 0 ∷ 0 ∷ 0x3ff0000000000000 ∷ 0x3ff0000000000000
+      ∷ x ∷ x ∷ z ∷ z ∷ 0x3ff0000000000000 ∷ 0x3ff0000000000000
+      ∷ 0x4010000000000000 ∷ 0x4010000000000000 ∷ y ∷ y ∷ 0x3ff0000000000000 ∷ 0x3ff0000000000000
       ∷ [];
-  box = 0x4000000000000000 ∷ 0x4000000000000000 ∷ 0x4008000000000000 ∷ 0x4008000000000000 ∷ [];
+  box = a ∷ a ∷ b ∷ b ∷ [];
 }
+
+-- The arc by (2, 4) to (4, 0), and the box (2, 3), which lies above it.
+abbrev arc : Text
+arc = bend 0x3ff0000000000000 4 0x4000000000000000 0x4010000000000000 0 0x4000000000000000 0x4008000000000000
+
+-- The bend by (1, 0) to (4, 4), and the box (3/2, 1), which lies beside it.
+abbrev rise : ℕ → ℕ → Text
+rise e nodes = bend e nodes 0x3ff0000000000000 0 0x4010000000000000 0x3ff8000000000000 0x3ff0000000000000
 
 -- enclosed, visited 1, pending 0, from 0 to 1
 abbrev P1 : Row
@@ -123,41 +122,65 @@ P9 = roots 0x0000000000000001 0x1e60000000000000
 abbrev P10 : Row
 P10 = products 0 0 0x8000000000000001 0x0000000000000001
 
--- Request E2. The box in the middle: cut down at both ends, and then reported: enclosed, visited 2, cuts 2.
+-- Request E2. Restrictions of a path on the domain from 0 to 1: to 0 and 1, no cut;
 abbrev C1 : Row
-C1 = prints (diagonal 2 0x3fe0000000000000 0x3fe0000000000000) (1 ∷ 2 ∷ 2 ∷ 0 ∷ 0x3fdfffffffffffc1 ∷ 0x3fe0000000000029 ∷ [])
+C1 = cuts (diagonal 0 0 0) 0 0x3ff0000000000000 0
+
+-- to 0 and 1/2, one;
+abbrev C2 : Row
+C2 = cuts (diagonal 0 0 0) 0 0x3fe0000000000000 1
+
+-- to 1/2 and 1, one;
+abbrev C3 : Row
+C3 = cuts (diagonal 0 0 0) 0x3fe0000000000000 0x3ff0000000000000 1
+
+-- to 1/4 and 3/4, two;
+abbrev C4 : Row
+C4 = cuts (diagonal 0 0 0) 0x3fd0000000000000 0x3fe8000000000000 2
+
+-- to 1/2 and 1/2, one: hi does not lie strictly inside what is left.
+abbrev C5 : Row
+C5 = cuts (diagonal 0 0 0) 0x3fe0000000000000 0x3fe0000000000000 1
+
+-- The box in the middle: cut down at both ends, and then reported: enclosed, visited 2, cuts 2
+abbrev C6 : Row
+C6 = prints (diagonal 2 0x3fe0000000000000 0x3fe0000000000000) (1 ∷ 2 ∷ 2 ∷ 0 ∷ 0x3fdfffffffffffc1 ∷ 0x3fe0000000000029 ∷ [])
 
 -- with one node: the piece waits, and its cuts count: spent, visited 1, cuts 2, pending 1
-abbrev C2 : Row
-C2 = prints (diagonal 1 0x3fe0000000000000 0x3fe0000000000000) (2 ∷ 1 ∷ 2 ∷ 1 ∷ 0 ∷ 0 ∷ [])
+abbrev C7 : Row
+C7 = prints (diagonal 1 0x3fe0000000000000 0x3fe0000000000000) (2 ∷ 1 ∷ 2 ∷ 1 ∷ 0 ∷ 0 ∷ [])
 
 -- the box at the start: the hat begins where the domain does, and only what is behind it is cut off: cuts 1
-abbrev C3 : Row
-C3 = prints (diagonal 1 0 0) (2 ∷ 1 ∷ 1 ∷ 1 ∷ 0 ∷ 0 ∷ [])
+abbrev C8 : Row
+C8 = prints (diagonal 1 0 0) (2 ∷ 1 ∷ 1 ∷ 1 ∷ 0 ∷ 0 ∷ [])
 
 -- the box at the end: only what is in front of the hat is cut off: cuts 1
-abbrev C4 : Row
-C4 = prints (diagonal 1 0x3ff0000000000000 0x3ff0000000000000) (2 ∷ 1 ∷ 1 ∷ 1 ∷ 0 ∷ 0 ∷ [])
+abbrev C9 : Row
+C9 = prints (diagonal 1 0x3ff0000000000000 0x3ff0000000000000) (2 ∷ 1 ∷ 1 ∷ 1 ∷ 0 ∷ 0 ∷ [])
 
 -- the box as wide as the path: a halving, and two reports: enclosed, visited 3, cuts 0
-abbrev C5 : Row
-C5 = prints (diagonal 3 0 0x3ff0000000000000) (1 ∷ 3 ∷ 0 ∷ 0 ∷ 0 ∷ 0x3ff0000000000000 ∷ [])
+abbrev C10 : Row
+C10 = prints (diagonal 3 0 0x3ff0000000000000) (1 ∷ 3 ∷ 0 ∷ 0 ∷ 0 ∷ 0x3ff0000000000000 ∷ [])
 
 -- cut down at both ends, and then dropped: none, visited 2, cuts 2
-abbrev C6 : Row
-C6 = prints arc (0 ∷ 2 ∷ 2 ∷ 0 ∷ 0 ∷ 0 ∷ [])
+abbrev C11 : Row
+C11 = prints arc (0 ∷ 2 ∷ 2 ∷ 0 ∷ 0 ∷ 0 ∷ [])
+
+-- cut down at both ends twice: spent, visited 2, cuts 4, pending 1
+abbrev C12 : Row
+C12 = prints (rise 0x3ff0000000000000 2) (2 ∷ 2 ∷ 4 ∷ 1 ∷ 0 ∷ 0 ∷ [])
 
 -- two cuts, and a weight of what they leave is not above zero: refused by 11, visited 1, cuts 0
-abbrev C7 : Row
-C7 = prints light (111 ∷ 1 ∷ 0 ∷ 0 ∷ 0 ∷ 0 ∷ [])
+abbrev C13 : Row
+C13 = prints light (111 ∷ 1 ∷ 0 ∷ 0 ∷ 0 ∷ 0 ∷ [])
 
--- two cuts in the first visit, and in the second a halving that leaves such a weight: refused by 11, visited 2, cuts 2
-abbrev C8 : Row
-C8 = prints brief (111 ∷ 2 ∷ 2 ∷ 0 ∷ 0 ∷ 0 ∷ [])
+-- on the domain from 0 to 2 ^ -1018, the same after four cuts that count: refused by 11, visited 3, cuts 4
+abbrev C14 : Row
+C14 = prints (rise 0x0050000000000000 3) (111 ∷ 3 ∷ 4 ∷ 0 ∷ 0 ∷ 0 ∷ [])
 
 -- The table.
 abbrev pub table : List Row
-table = P1 ∷ P2 ∷ P3 ∷ P4 ∷ P5 ∷ P6 ∷ P7 ∷ P8 ∷ P9 ∷ P10 ∷ C1 ∷ C2 ∷ C3 ∷ C4 ∷ C5 ∷ C6 ∷ C7 ∷ C8 ∷ []
+table = P1 ∷ P2 ∷ P3 ∷ P4 ∷ P5 ∷ P6 ∷ P7 ∷ P8 ∷ P9 ∷ P10 ∷ C1 ∷ C2 ∷ C3 ∷ C4 ∷ C5 ∷ C6 ∷ C7 ∷ C8 ∷ C9 ∷ C10 ∷ C11 ∷ C12 ∷ C13 ∷ C14 ∷ []
 
 right-P1 : right P1 ≡ true
 unfolding right
@@ -231,7 +254,57 @@ right-C8 : right C8 ≡ true
 unfolding right
 right-C8 = refl
 
+right-C9 : right C9 ≡ true
+unfolding right
+right-C9 = refl
+
+right-C10 : right C10 ≡ true
+unfolding right
+right-C10 = refl
+
+right-C11 : right C11 ≡ true
+unfolding right
+right-C11 = refl
+
+right-C12 : right C12 ≡ true
+unfolding right
+right-C12 = refl
+
+right-C13 : right C13 ≡ true
+unfolding right
+right-C13 = refl
+
+right-C14 : right C14 ≡ true
+unfolding right
+right-C14 = refl
+
 -- Every row is right.
 pub all-right : all right table ≡ true
 unfolding all
-all-right = simp (right-P1, right-P2, right-P3, right-P4, right-P5, right-P6, right-P7, right-P8, right-P9, right-P10, right-C1, right-C2, right-C3, right-C4, right-C5, right-C6, right-C7, right-C8)
+all-right =
+    simp (
+      right-P1,
+      right-P2,
+      right-P3,
+      right-P4,
+      right-P5,
+      right-P6,
+      right-P7,
+      right-P8,
+      right-P9,
+      right-P10,
+      right-C1,
+      right-C2,
+      right-C3,
+      right-C4,
+      right-C5,
+      right-C6,
+      right-C7,
+      right-C8,
+      right-C9,
+      right-C10,
+      right-C11,
+      right-C12,
+      right-C13,
+      right-C14,
+    )

@@ -180,7 +180,7 @@ statedWords dim degree count nodes =
 
 -- ---- what a call gives, and the work area that it leaves
 
--- The result, where the refusal is known; nothing is counted with a refusal.
+-- The result, where the refusal is known; nothing is counted with a refusal by 1 to 10.
 unfoldable pub searchedBy : Arithmetic → Call → ℕ → Found
 searchedBy ar c zero = couldContain ar (question c) (asPiece (c .curve))
 searchedBy ar c (suc n) = Refused (suc n) 0 0

@@ -10,6 +10,7 @@ pub mod Contains
 pub mod Layout
 pub mod Call
 pub mod Paper
+pub mod Counts
 pub mod Enclosure
 pub mod Weights
 pub mod Nodes

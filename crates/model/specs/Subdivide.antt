@@ -45,7 +45,7 @@ noCounts = record { visited = 0; cuts = 0 }
 abbrev pub withVisit : Counts → Counts
 withVisit v = record { visited = suc (v .visited); cuts = v .cuts }
 
--- So many cuts more (request E2).
+-- So many cuts more.
 abbrev pub withCuts : ℕ → Counts → Counts
 withCuts n v = record { visited = v .visited; cuts = v .cuts + n }
 
@@ -74,8 +74,8 @@ unfoldable pub complete : Option Scalar → Counts → Found
 complete none v = Nothing (v .visited) (v .cuts)
 complete (some t) v = Enclosed (positiveZero (t .lo)) (positiveZero (t .hi)) (v .visited) (v .cuts)
 
--- What a visit leaves, itself counted in v, where cs wait behind its piece: what it hands on goes behind them. Of a piece that was cut down the cuts are counted here, when it is
--- handed on; nothing else adds to them.
+-- What a visit leaves, which v already counts, where cs wait behind its piece: what it hands on goes behind them. Cuts are counted here, when the piece that was cut down is handed
+-- on; nothing else adds to them (request E2).
 unfoldable pub after : List Piece → Counts → Option Scalar → Visit → Step
 after cs v f dropped = going (record { queue = cs; counts = v; found = f })
 after cs v f (reported t) = going (record { queue = cs; counts = v; found = some (joined f t) })

@@ -43,7 +43,8 @@ fn bounds_of(f: Found) -> [f64; 2]
     }
 }
 
-// `curve_could_contain` of crates/geometry, with its answer in lent memory: the result is the number of the refusal or 0, `counts` the kind of the answer, visited, pending and cuts, `bounds` lo and hi.
+// `curve_could_contain` of crates/geometry, with its answer in lent memory: the result is the number of the refusal or 0, `counts` the kind of the answer,
+// visited, pending and cuts, `bounds` lo and hi.
 // of-number, of-counts and of-bounds say what is given out, to the last word. answers: read back as an answer, it keeps the promises of that function, each a field of `Answers`.
 // Nothing is asked of the caller but what the types say.
 #[no_mangle]

@@ -1,4 +1,4 @@
-// The five lines of an answer.
+// The six lines of an answer.
 use model::contains::Found;
 ghost use mathlib.Core.Path.{_≡_};
 ghost use mathlib.Core.Bool.{not};

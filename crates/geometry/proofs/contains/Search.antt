@@ -80,7 +80,7 @@ module _ (see : Piece → Visit) (nodes : ℕ) (s : Shape) (l₀ : List Float) w
     ring = r;
     low = omega arith;
     within = omega arith;
-    few = omega arith;
+    cuts = omega arith;
     long = refl;
     same = λ k. let z : 0 + k ≡ k = omega arith in ap (λ (i : ℕ). advance see nodes i (begun (pieceAt s l₀ 0))) z ∙ ap (advance see nodes k) (sym state);
     rest = refl;
@@ -171,7 +171,7 @@ module _ (see : Piece → Visit) (nodes : ℕ) (s : Shape) (l₀ : List Float) w
             ring = t .ring;
             low = omega (arith, t .more, one, g .low);
             within = omega (arith, one);
-            few = omega (arith, one, cut, few, g .few);
+            cuts = omega (arith, one, cut, few, g .cuts);
             long = kept ∙ g .long;
             same = λ k.
                 let i : y .counts .visited + k ≡ x .counts .visited + suc k = omega (arith, one) in

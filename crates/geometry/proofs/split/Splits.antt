@@ -309,7 +309,7 @@ module _ (s : Shape) (l : List Float) (src to : ℕ) (lo hi : Float) (h : Held s
           = v .memory ∙ ap (λ (c : Piece). keepInto s l₂ to (fullCut geop p hi c .piece) (leftOf p (fullCut geop p hi c)) (within p c hi)) (cut-down .piece) in
           record {
             cuts = λ j. cuts₂ j + cuts₃ j;
-            few = omega (arith, cuts₂, cuts₃, from-few geop p lo whole (within p whole lo), up-to-few geop p hi d (within p d hi));
+            most = omega (arith, cuts₂, cuts₃, from-few geop p lo whole (within p whole lo), up-to-few geop p hi d (within p d hi));
             memory = m₃ ∙ ap (λ (v : List Float). keepInto s v to (fullCut geop p hi d .piece) (leftOf p (fullCut geop p hi d)) (within p d hi))
                 (first₂ ∙ ap (λ (v : List Float). keepInto s v to (fullCut geop p lo whole .piece) (rightOf (fullCut geop p lo whole)) (within p whole lo)) e₁);
             held = subst (λ (v : List Float). Holding s v to (upToBy geop p hi d (within p d hi) .piece)) (sym m₃) (upto-holding s l₂ to hi d cut-down rest-fits wf);

@@ -99,7 +99,7 @@ after-visit-requires c κs =
     let l = at-loop .loop in
     let cuts = cuts-few _ (k .args .s) _ _ _ _ _ _ (at-visit .visit-next .ensures) in (
       (l .inv .ring .start, omega arith, omega (arith, l .inv .low, l .inv .within), omega (arith, k .pre .0 .few)),
-      (omega (arith, l .inv .within, k .pre .0 .few), omega (arith, l .inv .few, l .inv .within, k .pre .0 .few), cuts),
+      (omega (arith, l .inv .within, k .pre .0 .few), omega (arith, l .inv .cuts, l .inv .within, k .pre .0 .few), cuts),
     )
 
 loop-less : tie.Need-loop-less Inv-loop μ-loop
