@@ -20,38 +20,38 @@ single nodes x = record {
   box = x ∷ x ∷ 0x4014000000000000 ∷ 0x4014000000000000 ∷ [];
 }
 
--- A text of degree 1 on 0, 0, e, e.
-abbrev line : ℕ → ℕ → ℕ → List ℕ → List ℕ → Text
-line e nodes resolution points box = record {
+-- A text of degree 1 on 0, 0, 1, 1.
+abbrev line : ℕ → ℕ → List ℕ → List ℕ → Text
+line nodes resolution points box = record {
   dim = 2;
   degree = 1;
   count = 2;
   nodes = nodes;
   resolution = resolution;
-  knots = 0 ∷ 0 ∷ e ∷ e ∷ [];
+  knots = 0 ∷ 0 ∷ 0x3ff0000000000000 ∷ 0x3ff0000000000000 ∷ [];
   points = points;
   box = box;
 }
 
--- P6: on 0, 0, 1, 1, both points (2, 0), weights 1, and the box (2, 0).
+-- P6: both points (2, 0), weights 1, and the box (2, 0).
 abbrev twice : Text
-twice = line 0x3ff0000000000000 1 0
+twice = line 1 0
     (0x4000000000000000 ∷ 0x4000000000000000 ∷ 0 ∷ 0 ∷ 0x3ff0000000000000 ∷ 0x3ff0000000000000
     ∷ 0x4000000000000000 ∷ 0x4000000000000000 ∷ 0 ∷ 0 ∷ 0x3ff0000000000000 ∷ 0x3ff0000000000000
     ∷ [])
     (0x4000000000000000 ∷ 0x4000000000000000 ∷ 0 ∷ 0 ∷ [])
 
--- On 0, 0, 1, 1 the line from (0, 0) to (1, 1), weights 1, resolution 1/2, and the box from a to b on both axes.
+-- The line from (0, 0) to (1, 1), weights 1, resolution 1/2, and the box from a to b on both axes.
 abbrev diagonal : ℕ → ℕ → ℕ → Text
-diagonal nodes a b = line 0x3ff0000000000000 nodes 0x3fe0000000000000
+diagonal nodes a b = line nodes 0x3fe0000000000000
     (0 ∷ 0 ∷ 0 ∷ 0 ∷ 0x3ff0000000000000 ∷ 0x3ff0000000000000
     ∷ 0x3ff0000000000000 ∷ 0x3ff0000000000000 ∷ 0x3ff0000000000000 ∷ 0x3ff0000000000000 ∷ 0x3ff0000000000000 ∷ 0x3ff0000000000000
     ∷ [])
     (a ∷ b ∷ a ∷ b ∷ [])
 
--- On 0, 0, 1, 1 the numbers (-1, 0) and (1, 0), of weights 2 ^ -1074 and 2 ^ -1073, and the box (0, 0).
+-- The numbers -1, 0 and 1, 0 beside the weights 2 ^ -1074 and 2 ^ -1073, and the box (0, 0).
 abbrev light : Text
-light = line 0x3ff0000000000000 1 0
+light = line 1 0
     (0xbff0000000000000 ∷ 0xbff0000000000000 ∷ 0 ∷ 0 ∷ 1 ∷ 1
     ∷ 0x3ff0000000000000 ∷ 0x3ff0000000000000 ∷ 0 ∷ 0 ∷ 2 ∷ 2
     ∷ [])
@@ -78,7 +78,7 @@ bend e nodes x z y a b = record {
 abbrev arc : Text
 arc = bend 0x3ff0000000000000 4 0x4000000000000000 0x4010000000000000 0 0x4000000000000000 0x4008000000000000
 
--- The bend by (1, 0) to (4, 4), and the box (3/2, 1), which lies beside it.
+-- The bend by (1, 0) to (4, 4), and the box (3/2, 1), which it passes at e / 2.
 abbrev rise : ℕ → ℕ → Text
 rise e nodes = bend e nodes 0x3ff0000000000000 0 0x4010000000000000 0x3ff8000000000000 0x3ff0000000000000
 
