@@ -46,7 +46,7 @@ int main(void)
         printf("result=refused-%" PRIu64 "\n", refusal);
     else
         printf("result=%s\n", words[counts[0]]);
-    printf("visited=%" PRIu64 "\ncuts=%" PRIu64 "\npending=%" PRIu64 "\n", counts[1], counts[3], counts[2]);
+    printf("visited=%" PRIu64 "\ncuts=%" PRIu64 "\ndepth=%" PRIu64 "\npending=%" PRIu64 "\n", counts[1], counts[3], counts[4], counts[2]);
     print_bound("lo", counts[0] == PUHLWAZO_ENCLOSED, bounds[0]);
     print_bound("hi", counts[0] == PUHLWAZO_ENCLOSED, bounds[1]);
     return 0;

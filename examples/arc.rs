@@ -4,7 +4,7 @@ mod puhlwazo {
     //! A safe face of the library: slices become pointers and lengths, and the numbers of an answer one enum.
 
     /// How many numbers the library writes to `counts`, as in the header.
-    const COUNTS: usize = 4;
+    const COUNTS: usize = 5;
 
     #[link(name = "puhlwazo", kind = "static")]
     unsafe extern "C" {
@@ -46,12 +46,19 @@ mod puhlwazo {
         pub points: &'a [f64],
     }
 
-    /// The answer of a search, with the pieces visited and the cuts last.
+    /// What a search counted.
+    pub struct Counts {
+        pub visited: u64,
+        pub cuts: u64,
+        pub depth: u64,
+    }
+
+    /// The answer of a search: nothing; lo and hi; the pieces left; or the number of the refusal.
     pub enum Found {
-        Nothing(u64, u64),
-        Enclosed(f64, f64, u64, u64),
-        Spent(u64, u64, u64),
-        Refused(u64, u64, u64),
+        Nothing(Counts),
+        Enclosed(f64, f64, Counts),
+        Spent(u64, Counts),
+        Refused(u64, Counts),
     }
 
     /// How many numbers of work area a search of this curve needs.
@@ -89,12 +96,13 @@ mod puhlwazo {
                 &mut bounds,
             )
         };
-        let [kind, visited, pending, cuts] = counts;
+        let [kind, visited, pending, cuts, depth] = counts;
+        let counts = Counts { visited, cuts, depth };
         match kind {
-            0 => Found::Nothing(visited, cuts),
-            1 => Found::Enclosed(bounds[0], bounds[1], visited, cuts),
-            2 => Found::Spent(pending, visited, cuts),
-            _ => Found::Refused(refusal, visited, cuts),
+            0 => Found::Nothing(counts),
+            1 => Found::Enclosed(bounds[0], bounds[1], counts),
+            2 => Found::Spent(pending, counts),
+            _ => Found::Refused(refusal, counts),
         }
     }
 }
@@ -119,14 +127,14 @@ fn main() {
     };
     let nodes = 64;
     let mut work = vec![0.0; work_words(&curve, nodes)];
-    let (result, visited, cuts, pending, bounds) =
+    let (result, counts, pending, bounds) =
         match curve_could_contain(&curve, &[1.9, 2.1, 1.9, 2.1], 0.001, nodes, &mut work) {
-            Found::Nothing(visited, cuts) => ("none".to_string(), visited, cuts, 0, None),
-            Found::Enclosed(lo, hi, visited, cuts) => ("enclosed".to_string(), visited, cuts, 0, Some((lo, hi))),
-            Found::Spent(pending, visited, cuts) => ("spent".to_string(), visited, cuts, pending, None),
-            Found::Refused(number, visited, cuts) => (format!("refused-{number}"), visited, cuts, 0, None),
+            Found::Nothing(counts) => ("none".to_string(), counts, 0, None),
+            Found::Enclosed(lo, hi, counts) => ("enclosed".to_string(), counts, 0, Some((lo, hi))),
+            Found::Spent(pending, counts) => ("spent".to_string(), counts, pending, None),
+            Found::Refused(number, counts) => (format!("refused-{number}"), counts, 0, None),
         };
-    println!("result={result}\nvisited={visited}\ncuts={cuts}\npending={pending}");
+    println!("result={result}\nvisited={}\ncuts={}\ndepth={}\npending={pending}", counts.visited, counts.cuts, counts.depth);
     match bounds {
         Some((lo, hi)) => println!("lo={:016x}\nhi={:016x}", lo.to_bits(), hi.to_bits()),
         None => println!("lo=-\nhi=-"),

@@ -34,10 +34,10 @@ extern "C" {
 #endif
 
 /* Counted up when a declaration below changes its meaning or its form. */
-#define PUHLWAZO_VERSION 2
+#define PUHLWAZO_VERSION 3
 
 /* How many numbers a call writes to `counts`. They may become more in a later version, behind the ones that are there: give the array this length. */
-#define PUHLWAZO_COUNTS 4
+#define PUHLWAZO_COUNTS 5
 
 /* Whether the calling thread's floating-point environment is the one above: 1, or 0. The register MXCSR has it: bit 6 denormals-are-zero, bits 7 to 12 the
  * masks, bits 13 and 14 the rounding, bit 15 flush-to-zero. */
@@ -68,8 +68,9 @@ enum {
  * work        lent memory: at least puhlwazo_work_words(dim, degree, count, nodes) numbers, with any contents. A refusal by 1 to 10 leaves it as it was; any
  *             other call leaves 0 in its first puhlwazo_work_words(..) numbers, and the rest as it was
  * counts      gets [0] the kind of the answer; [1] visited: how many pieces were; [2] pending: how many were left (0 unless spent); [3] cuts: how often an end
- *             was cut off, 1 or 2 for each piece that was cut down to what the box leaves of it and queued, also where it still waits at the end.
- *             [1] to [3] are 0 after a refusal by 1 to 10, and where the box misses at once
+ *             was cut off, 1 or 2 for each piece that was cut down to what the box leaves of it and queued, also where it still waits at the end; [4] depth:
+ *             how often the piece that was halved most had been halved, of those that were visited. It is below visited, unless both are 0.
+ *             [1] to [4] are 0 after a refusal by 1 to 10, and where the box misses at once
  * bounds      gets lo and hi: both finite, in the domain, and lo at most hi (0 and 0 unless enclosed)
  *
  * Gives 0, or the number of the refusal; of several the least:
@@ -84,8 +85,8 @@ enum {
  *       one of these two values more than degree + 1 times
  *    9  nodes is above 4,096
  *   10  work is too short
- *   11  in a piece that the search cut, the lo of a weight is not above 0 any more: counts[1] tells after how many visits, and
- *       counts[3] has the cuts before that piece. The curve itself is at fault */
+ *   11  in a piece that the search cut, the lo of a weight is not above 0 any more: counts[1] tells after how many visits, counts[3] has the cuts before that
+ *       piece, and counts[4] the depth up to the last visit. The curve itself is at fault */
 uint64_t puhlwazo_curve_could_contain(
     size_t dim, size_t degree, size_t count,
     const double *knots, size_t knots_length,

@@ -14,11 +14,11 @@ use Rattle.model.specs.Promise.{Answers}
 use Rattle.clear.specs.Clear.{isClear, Clears}
 
 -- a refused call does not come out as nothing
-pub accepted : (c : Call) (v k : ℕ) → Nothing v k ≡ searched geop c → Accepted c
+pub accepted : (c : Call) (v k d : ℕ) → Nothing v k d ≡ searched geop c → Accepted c
 unfolding searched searchedBy isClear
-accepted c v k h = go (refusal c) refl h
+accepted c v k d h = go (refusal c) refl h
   where
-    go : (n : ℕ) → refusal c ≡ n → Nothing v k ≡ searchedBy geop c n → refusal c ≡ 0
+    go : (n : ℕ) → refusal c ≡ n → Nothing v k d ≡ searchedBy geop c n → refusal c ≡ 0
     go zero e h = e
     go (suc n) e h = absurd (no true (ap isClear h) tt)
 
@@ -27,12 +27,12 @@ module _ (c : Call) (before after : List Float) (r : Found) (P : Answers c befor
   same : Answers c before after (searched geop c)
   same = subst (Answers c before after) (P .result) P
 
-  pub clear : (v k : ℕ) → r ≡ Nothing v k → Clears c before after true
+  pub clear : (v k d : ℕ) → r ≡ Nothing v k d → Clears c before after true
   unfolding isClear
-  clear v k e = record {
+  clear v k d e = record {
     result = ap isClear (sym e ∙ P .result);
     answers = same;
-    clear = λ _ t h. subst (HitsEnclosed c) e (P .encloses) (accepted c v k (sym e ∙ P .result)) tt t h;
+    clear = λ _ t h. subst (HitsEnclosed c) e (P .encloses) (accepted c v k d (sym e ∙ P .result)) tt t h;
   }
 
   pub unclear : (z : Found) → r ≡ z → isClear z ≡ false → Clears c before after false

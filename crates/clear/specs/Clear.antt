@@ -13,10 +13,10 @@ use Rattle.model.specs.declared.contains.Found.the-variants.{Nothing, Enclosed,
 
 -- Only a completed search that reported nothing shows that the curve meets the box at no parameter.
 unfoldable pub isClear : Found → Bool
-isClear (Nothing v k) = true
-isClear (Enclosed lo hi v k) = false
-isClear (Spent n v k) = false
-isClear (Refused n v k) = false
+isClear (Nothing v k d) = true
+isClear (Enclosed lo hi v k d) = false
+isClear (Spent n v k d) = false
+isClear (Refused n v k d) = false
 
 -- The call c, which found `before` in its work area and left `after`, was found to be clear (r), or not.
 pub record Clears (c : Call) (before after : List Float) (r : Bool) : Type 0 where

@@ -33,9 +33,9 @@ pub fn is_clear(
         nodes,
         work,
     ) {
-        Found::Nothing(_, _) => true,
-        Found::Enclosed(_, _, _, _) => false,
-        Found::Spent(_, _, _) => false,
-        Found::Refused(_, _, _) => false,
+        Found::Nothing(_, _, _) => true,
+        Found::Enclosed(_, _, _, _, _) => false,
+        Found::Spent(_, _, _, _) => false,
+        Found::Refused(_, _, _, _) => false,
     }
 }

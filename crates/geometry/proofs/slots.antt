@@ -2,6 +2,7 @@
 pub mod Counts
 pub mod Piece
 pub mod Apart
+pub mod Depth
 pub mod Views
 pub mod Moves
 pub mod Ring

@@ -7,8 +7,8 @@ use lib.ListN.{length}
 use lib.Ieee.{Float}
 use Rattle.lists.specs.Lists.{part, tab}
 use Rattle.lists.specs.Ring.{wrapped}
-use Rattle.model.specs.NurbCurve.{Piece}
-use Rattle.geometry.specs.Slots.{wordsOf, pieceAt, Sized, Held}
+use Rattle.model.specs.Subdivide.{Waiting}
+use Rattle.geometry.specs.Slots.{wordsOf, waitsAt, Sized, Waits}
 use Rattle.geometry.specs.declared.slots.Shape.{Shape}
 
 -- Where slot number j begins.
@@ -20,16 +20,16 @@ abbrev pub ringBase : Shape → ℕ → ℕ → ℕ → ℕ
 ringBase s slots h j = wrapped slots (h + j) * wordsOf s
 
 -- The n pieces that wait in a ring of so many slots, from slot h on.
-unfoldable pub waiting : Shape → List Float → ℕ → ℕ → ℕ → List Piece
-waiting s l slots h n = tab n (λ j. pieceAt s l (ringBase s slots h j))
+unfoldable pub waiting : Shape → List Float → ℕ → ℕ → ℕ → List Waiting
+waiting s l slots h n = tab n (λ j. waitsAt s l (ringBase s slots h j))
 
--- The ring lies inside the memory, and each slot that waits holds a piece.
+-- The ring lies inside the memory, and in each of its n slots from h on a piece waits.
 pub record Ring (s : Shape) (l : List Float) (slots h n : ℕ) : Type 0 where
   pub sized : Sized s
   pub fits : slots * wordsOf s ≤ length l
   pub start : h < slots
   pub full : n ≤ slots
-  pub held : (j : ℕ) → j < n → Held s l (ringBase s slots h j)
+  pub waits : (j : ℕ) → j < n → Waits s l (ringBase s slots h j)
 
 -- The w words from x on lie outside the slot at a.
 abbrev pub Outside : Shape → ℕ → ℕ → ℕ → Type 0

@@ -1,5 +1,5 @@
--- How a slot of the work area holds a piece: the number of its points, its knots, and the numbers of its points, each at its place. Definitions only.
-use Prim.Native.Nat.{ℕ, suc, _+_, _*_, _≤_, _<_}
+-- How a slot of the work area holds a piece: the number of its points, its knots, and the numbers of its points, each at its place; and, in its last word, its depth. Definitions only.
+use Prim.Native.Nat.{ℕ, suc, _+_, _-_, _*_, _≤_, _<_}
 use mathlib.Core.Path.{_≡_}
 use mathlib.Core.Bool.{Bool, true, false}
 use mathlib.Core.Logic.{_⊎_}
@@ -16,6 +16,7 @@ use Rattle.model.specs.NurbCurve.{Piece, point, start, end, inDomain}
 use Rattle.model.specs.KnotInsertion.{Cut, alpha, blend, triangle, sides, fullCut, leftOf, rightOf}
 use Rattle.model.specs.Split.{Halves, uncut, both, split, fromBy, upToBy, restrict}
 use Rattle.model.specs.Layout.{scalarsOf, flat, pointsOf, slotWords}
+use Rattle.model.specs.Subdivide.{Waiting, atDepth}
 use Rattle.geometry.specs.declared.slots.Shape.{Shape}
 
 -- ---- the places
@@ -40,15 +41,19 @@ pointsFrom s base = base + (s .count + 2 * s .degree + 3)
 unfoldable pub placeOf : Shape → ℕ → ℕ → ℕ
 placeOf s base i = pointsFrom s base + pointWords s * i
 
+-- Where the depth of the slot at base stands: in its last word, behind the room for the piece.
+abbrev pub depthFrom : Shape → ℕ → ℕ
+depthFrom s base = base + (wordsOf s - 1)
+
 -- ---- what stands there
 
 -- A count as a word.
 unfoldable pub word : ℕ → Float
 word n = ofInt binary64 (pos n)
 
--- The number of points of the slot at base.
+-- The count at index i; at the base of a slot it is the number of its points.
 unfoldable pub countAt : List Float → ℕ → ℕ
-countAt l base = toUnsigned 64 (getD l base nan)
+countAt l i = toUnsigned 64 (getD l i nan)
 
 -- The interval whose lo stands at index a.
 abbrev pub scalarFrom : List Float → ℕ → Scalar
@@ -73,6 +78,14 @@ pieceAt s l base = record {
   knots = knotsAt s l base (countAt l base);
   points = pointsOf (suc (s .dim)) (countAt l base) (drop (pointsFrom s base) l);
 }
+
+-- The depth of the piece that the slot at base holds.
+abbrev pub depthAt : Shape → List Float → ℕ → ℕ
+depthAt s l base = countAt l (depthFrom s base)
+
+-- The piece that waits in the slot at base.
+unfoldable pub waitsAt : Shape → List Float → ℕ → Waiting
+waitsAt s l base = atDepth (depthAt s l base) (pieceAt s l base)
 
 -- The memory l with the piece c written into the slot at base, and all else as it was.
 unfoldable pub placed : Shape → List Float → ℕ → Piece → List Float
@@ -122,6 +135,15 @@ pub record Held (s : Shape) (l : List Float) (base : ℕ) : Type 0 where
   pub inside : Inside s l base
   pub whole : getD l base nan ≡ word (countAt l base)
   pub room : countAt l base ≤ s .count + s .degree + 1
+
+-- The depth d stands in the slot at base.
+abbrev pub DepthIs : Shape → List Float → ℕ → ℕ → Type 0
+DepthIs s l base d = getD l (depthFrom s base) nan ≡ word d
+
+-- The slot at base holds a piece, and its depth.
+pub record Waits (s : Shape) (l : List Float) (base : ℕ) : Type 0 where
+  pub held : Held s l base
+  pub deep : DepthIs s l base (depthAt s l base)
 
 -- Two slots that share no word.
 abbrev pub Apart : Shape → ℕ → ℕ → Type 0

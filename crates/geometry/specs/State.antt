@@ -1,12 +1,13 @@
 -- How the state of the code is read as the state of the search: what a visit made of its piece, what was reported, and the pieces that wait in the ring. Definitions only.
-use Prim.Native.Nat.{ℕ, _+_, _-_, _*_, _≤_}
+use Prim.Native.Nat.{ℕ, suc, _+_, _-_, _*_, _≤_}
 use mathlib.Core.Path.{_≡_}
 use mathlib.Core.Bool.{Bool, true, false, cond}
-use mathlib.Core.List.{List}
+use mathlib.Core.List.{List, [], _∷_}
 use mathlib.Core.Option.{Option, none, some}
 use lib.Dec.{eqb}
 use lib.ListN.{length, drop}
 use lib.Ieee.{Float}
+use Rattle.lists.specs.Lists.{put}
 use Rattle.lists.specs.Ring.{wrapped}
 use Rattle.math.specs.declared.scalars.Scalar.{Scalar}
 use Rattle.math.specs.Scalars.{geop}
@@ -16,7 +17,7 @@ use Rattle.model.specs.Contains.{visit, begun}
 use Rattle.model.specs.Layout.{scalarsOf}
 use Rattle.model.specs.declared.contains.Found.{Found}
 use Rattle.model.specs.Enclosure.{Every}
-use Rattle.geometry.specs.Slots.{wordsOf, pieceAt, Held, Fit}
+use Rattle.geometry.specs.Slots.{wordsOf, depthFrom, word, pieceAt, depthAt, Held, DepthIs, Fit}
 use Rattle.geometry.specs.Ring.{waiting, Ring, Beside}
 use Rattle.geometry.specs.declared.slots.Shape.{Shape}
 use Rattle.geometry.specs.declared.subdivide.Outcome.{Outcome}
@@ -49,6 +50,27 @@ pub record Visited (see : Visit) (s : Shape) (a b : ℕ) (l m : List Float) (o :
   pub is : outcomeOf s m a b o ≡ see
   pub beside : Beside s a b l m
   pub holding : HandedOn s m a b o
+
+-- The memory l with the depths of what the visit of a piece of depth d hands on, in its slots at a and b: a piece that was cut down has the same, and halves have one more.
+abbrev pub withDepths : Shape → List Float → ℕ → ℕ → ℕ → Outcome → List Float
+withDepths s l a b d Dropped = l
+withDepths s l a b d (Reported t) = l
+withDepths s l a b d (Restricted n) = put l (depthFrom s a) (word d ∷ [])
+withDepths s l a b d Halved = put (put l (depthFrom s a) (word (suc d) ∷ [])) (depthFrom s b) (word (suc d) ∷ [])
+withDepths s l a b d BadWeight = l
+
+-- These depths stand there.
+abbrev pub DepthsOn : Shape → List Float → ℕ → ℕ → ℕ → Outcome → Type 0
+DepthsOn s l a b d Dropped = Unit {0}
+DepthsOn s l a b d (Reported t) = Unit {0}
+DepthsOn s l a b d (Restricted n) = DepthIs s l a d
+DepthsOn s l a b d Halved = DepthIs s l a (suc d) × DepthIs s l b (suc d)
+DepthsOn s l a b d BadWeight = Unit {0}
+
+-- The visit of a piece of depth d, with the depths of what it handed on.
+pub record Turned (see : Visit) (s : Shape) (a b d : ℕ) (l m : List Float) (o : Outcome) : Type 0 where
+  pub visited : Visited see s a b l m o
+  pub depths : DepthsOn s m a b d o
 
 -- How many pieces a visit hands on.
 abbrev pub children : Outcome → ℕ
@@ -88,24 +110,20 @@ stateOf s l slots x = record { queue = waiting s l slots (x .head) (x .pending);
 
 -- The search that began in the memory l₀, with the piece in slot 0, stands at x, in the memory l. What a visit makes of a piece is `see`.
 pub record Going (see : Piece → Visit) (nodes : ℕ) (s : Shape) (l₀ l : List Float) (x : Search) : Type 0 where
-  -- The pieces that wait stand in the ring,
+  -- The pieces that wait stand in the ring.
   pub ring : Ring s l (nodes + 3) (x .head) (x .pending)
-  -- and at most one more than were visited, so that there is room for what a visit hands on.
-  pub low : x .pending ≤ x .counts .visited + 1
   pub within : x .counts .visited ≤ nodes
-  -- No visit makes more than two cuts.
-  pub cuts : x .counts .cuts ≤ 2 * x .counts .visited
   pub long : length l ≡ length l₀
   -- What is left to search from here is what was to search from the start.
   pub same : (k : ℕ) → advance see nodes (x .counts .visited + k) (begun (pieceAt s l₀ 0)) ≡ advance see nodes k (stateOf s l (nodes + 3) x)
   -- Behind the ring nothing has changed.
   pub rest : drop ((nodes + 3) * wordsOf s) l ≡ drop ((nodes + 3) * wordsOf s) l₀
 
--- Where the search stands after a visit that came out as o.
-pub record Next (slots : ℕ) (x : Search) (o : Outcome) (y : Search) : Type 0 where
+-- Where the search stands after the visit of a piece of depth d that came out as o.
+pub record Next (slots : ℕ) (x : Search) (d : ℕ) (o : Outcome) (y : Search) : Type 0 where
   pub head : y .head ≡ wrapped slots (x .head + 1)
   pub pending : y .pending ≡ x .pending - 1 + children o
-  pub counts : y .counts ≡ withCuts (cutsOf o) (withVisit (x .counts))
+  pub counts : y .counts ≡ withCuts (cutsOf o) (withVisit d (x .counts))
   pub found : foundOf (y .found) ≡ withReport (foundOf (x .found)) o
 
 -- ---- a search over the ring
@@ -117,12 +135,13 @@ askedOf s box resolution nodes =
 
 -- Where a search stands, every piece that waits is such a piece.
 abbrev pub AllFit : Shape → Step → Type 0
-AllFit s (going t) = Every (Fit s) (t .queue)
+AllFit s (going t) = Every (λ w. Fit s (w .piece)) (t .queue)
 AllFit s (over r) = Unit {0}
 
--- The first slot of the ring holds the piece to search, and every piece that the search comes to can be visited.
+-- The first slot of the ring holds the piece to search, of depth 0, and every piece that the search comes to can be visited.
 pub record Begins (s : Shape) (q : Question) (l : List Float) : Type 0 where
   pub ring : Ring s l (q .nodes + 3) 0 1
+  pub whole : depthAt s l 0 ≡ 0
   pub few : q .nodes ≤ 4096
   pub fits : (k : ℕ) → AllFit s (advance (visit geop q) (q .nodes) k (begun (pieceAt s l 0)))
 

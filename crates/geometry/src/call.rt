@@ -285,7 +285,7 @@ pub(crate) fn slot_words(dim: usize, degree: usize, count: usize) -> usize
     requires { ⌜ (dim ≤ 3) × ((degree ≤ 7) × (count ≤ 32)) ⌝ }
     ensures { λ r. ⌜ r ≡ slotWords dim degree count ⌝ }
 {
-    2 * (dim + 1) * (count + degree + 1) + 2 * (count + 2 * degree + 2)
+    2 * (dim + 1) * (count + degree + 1) + 2 * (count + 2 * degree + 2) + 1
 }
 
 // The stated words of a work area, and 0 for sizes that 1, 2, 3 or 9 refuse.

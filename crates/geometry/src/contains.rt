@@ -5,8 +5,10 @@ use crate::call::refusal;
 use crate::call::slot_words;
 use crate::call::stated_words;
 use crate::slots::Shape;
+use crate::slots::depth_at;
 use crate::slots::fill;
 use crate::slots::load;
+use crate::slots::set_depth;
 use crate::slots::slot_base;
 use crate::subdivide::Outcome;
 use crate::subdivide::Reports;
@@ -28,9 +30,9 @@ ghost use Rattle.model.specs.Call.{lent};
 ghost use Rattle.model.specs.Enclosure.{Doubles, Accepted};
 ghost use Rattle.model.specs.Promise.{Answers};
 ghost use Rattle.geometry.specs.Call.{Searches};
-ghost use Rattle.geometry.specs.Slots.{wordsOf, pieceAt, Fit};
+ghost use Rattle.geometry.specs.Slots.{wordsOf, pieceAt, depthAt, Inside, Waits, Fit};
 ghost use Rattle.geometry.specs.Ring.{baseOf, ringBase, Ring};
-ghost use Rattle.geometry.specs.State.{foundOf, askedOf, Visited, Begins, RingSearched};
+ghost use Rattle.geometry.specs.State.{foundOf, withDepths, askedOf, Turned, Begins, RingSearched};
 
 // ---- the answer
 
@@ -47,14 +49,46 @@ fn completed(f: Reports, v: Counts) -> Found
 {
     let t = f.all;
     if f.any == 0 {
-        return Found::Nothing(v.visited, v.cuts);
+        return Found::Nothing(v.visited, v.cuts, v.depth);
     }
-    Found::Enclosed(positive_zero(t.lo), positive_zero(t.hi), v.visited, v.cuts)
+    Found::Enclosed(
+        positive_zero(t.lo),
+        positive_zero(t.hi),
+        v.visited,
+        v.cuts,
+        v.depth,
+    )
 }
 
 // ---- the search
 
-// The visit of the first piece that waits, in a ring of so many slots of w words.
+// The depth of the first piece that waits, in slots of w words.
+fn next_depth(work: &[f64], q: Search, s: Shape, w: usize) -> usize
+    requires { ⌜ Waits s (now work) (baseOf s (q .head)) × (w ≡ wordsOf s) ⌝ }
+    requires { ⌜ depthAt s (now work) (baseOf s (q .head)) ≤ 0x1000 ⌝ }
+    ensures { λ r. ⌜ r ≡ depthAt s (now (work .entry)) (baseOf s (q .head)) ⌝ }
+{
+    depth_at(work, slot_base(0, w, q.head), w)
+}
+
+// The depths of what the visit of a piece of depth d hands on, into its slots at a and b, of w words: halves are one deeper.
+fn set_depths(work: &mut [f64], a: usize, b: usize, s: Shape, w: usize, d: usize, o: Outcome)
+    requires { ⌜ Inside s (now work) a × Inside s (now work) b × (w ≡ wordsOf s) × (d ≤ 0x1000) ⌝ }
+    ensures { λ _. ⌜ now (work .exit) ≡ withDepths s (now (work .entry)) a b d o ⌝ }
+{
+    match o {
+        Outcome::Dropped => {}
+        Outcome::Reported(_) => {}
+        Outcome::Restricted(_) => set_depth(work, a, w, d),
+        Outcome::Halved => {
+            set_depth(work, a, w, d + 1);
+            set_depth(work, b, w, d + 1);
+        }
+        Outcome::BadWeight => {}
+    }
+}
+
+// The visit of the first piece that waits, whose depth is d, in a ring of so many slots of w words.
 fn visit_next(
     work: &mut [f64],
     q: Search,
@@ -63,22 +97,25 @@ fn visit_next(
     resolution: f64,
     slots: usize,
     w: usize,
+    d: usize,
 ) -> Outcome
     requires { ⌜ Ring s (now work) slots (q .head) (q .pending) × (1 ≤ q .pending) × (q .pending + 1 < slots) ⌝ }
-    requires { ⌜ (slots ≤ 0x1000_0000) × (w ≡ wordsOf s) ⌝ }
+    requires { ⌜ (slots ≤ 0x1000_0000) × (w ≡ wordsOf s) × (d ≤ 0x1000) ⌝ }
     requires { ⌜ Fit s (pieceAt s (now work) (baseOf s (q .head))) × (2 * s .dim ≤ length (now «point_box»)) ⌝ }
     ensures { λ r.
         let l = now (work .entry) in
         let seen = visit geop (askedOf s (now («point_box» .entry)) resolution 0) (pieceAt s l (baseOf s (q .head))) in
         let a = ringBase s slots (q .head) (q .pending) in
         let b = ringBase s slots (q .head) (q .pending + 1) in
-        ⌜ Visited seen s a b l (now (work .exit)) r ⌝ }
+        ⌜ Turned seen s a b d l (now (work .exit)) r ⌝ }
 {
     let head = q.head;
     let pending = q.pending;
     let a = slot_base(0, w, wrap(head + pending, slots));
     let b = slot_base(0, w, wrap(head + (pending + 1), slots));
-    visit(work, slot_base(0, w, head), a, b, s, point_box, resolution)
+    let o = visit(work, slot_base(0, w, head), a, b, s, point_box, resolution);
+    set_depths(work, a, b, s, w, d, o);
+    o
 }
 
 // The search of the piece in slot 0, over a ring of nodes + 3 slots.
@@ -103,6 +140,7 @@ fn search_ring(
         counts: Counts {
             visited: 0,
             cuts: 0,
+            depth: 0,
         },
         found: Reports {
             any: 0,
@@ -112,13 +150,15 @@ fn search_ring(
     while 0 < q.pending {
         let v = q.counts;
         if v.visited == nodes {
-            return Found::Spent(q.pending, v.visited, v.cuts);
+            return Found::Spent(q.pending, v.visited, v.cuts, v.depth);
         }
-        let o = visit_next(work, q, s, point_box, resolution, slots, w);
+        let d = next_depth(work, q, s, w);
+        let o = visit_next(work, q, s, point_box, resolution, slots, w, d);
+        q = after_visit(q, d, o, slots);
         if has_bad_weight(o) {
-            return Found::Refused(11, v.visited + 1, v.cuts);
+            let v = q.counts;
+            return Found::Refused(11, v.visited, v.cuts, v.depth);
         }
-        q = after_visit(q, o, slots);
     }
     let f = q.found;
     let v = q.counts;
@@ -147,10 +187,11 @@ fn search_lent(
     let words = stated_words(dim, degree, count, nodes);
     if !curve_could_meet_aabb(points, point_box, dim, degree, count) {
         fill(work, 0, words, 0.0);
-        return Found::Nothing(0, 0);
+        return Found::Nothing(0, 0, 0);
     }
     let s = Shape { dim, degree, count };
     load(work, 0, s, knots, points);
+    set_depth(work, 0, slot_words(dim, degree, count), 0);
     let r = search_ring(work, s, point_box, resolution, nodes);
     fill(work, 0, words, 0.0);
     r
@@ -197,7 +238,7 @@ pub fn curve_could_contain(
         work.len(),
     );
     if number != 0 {
-        return Found::Refused(number as u64, 0, 0);
+        return Found::Refused(number as u64, 0, 0, 0);
     }
     search_lent(
         dim,

@@ -2,7 +2,7 @@
 ghost use mathlib.Core.Path.{_≡_};
 ghost use mathlib.Core.Logic.{_⊎_};
 ghost use mathlib.Core.List.{[], _∷_};
-ghost use Prim.Native.Nat.{suc, _+_, _*_, _≤_, _<_};
+ghost use Prim.Native.Nat.{suc, _+_, _-_, _*_, _≤_, _<_};
 ghost use lib.ListN.{length, getD, replicate};
 ghost use lib.Dec.{T};
 ghost use lib.Ieee.{nan, inUnsigned, binary64};
@@ -18,21 +18,21 @@ pub struct Shape {
     pub count: usize,
 }
 
-// The number of points of the slot at base.
-pub(crate) fn count_at(work: &[f64], base: usize) -> usize
-    requires { ⌜ base < length (now work) ⌝ }
-    requires { ⌜ T (inUnsigned binary64 64 (getD (now work) base nan)) ⌝ }
-    ensures { λ r. ⌜ r ≡ countAt (now (work .entry)) base ⌝ }
+// The count at index i: at the base of a slot it is the number of its points, in its last word its depth.
+pub(crate) fn count_at(work: &[f64], i: usize) -> usize
+    requires { ⌜ i < length (now work) ⌝ }
+    requires { ⌜ T (inUnsigned binary64 64 (getD (now work) i nan)) ⌝ }
+    ensures { λ r. ⌜ r ≡ countAt (now (work .entry)) i ⌝ }
 {
-    work[base] as usize
+    work[i] as usize
 }
 
-// The number of points of the slot at base becomes n.
-pub(crate) fn set_count(work: &mut [f64], base: usize, n: usize)
-    requires { ⌜ (base < length (now work)) × (n ≤ 64) ⌝ }
-    ensures { λ _. ⌜ now (work .exit) ≡ put (now (work .entry)) base (word n ∷ []) ⌝ }
+// The count at index i becomes n.
+pub(crate) fn set_count(work: &mut [f64], i: usize, n: usize)
+    requires { ⌜ (i < length (now work)) × (n ≤ 0x1_0000) ⌝ }
+    ensures { λ _. ⌜ now (work .exit) ≡ put (now (work .entry)) i (word n ∷ []) ⌝ }
 {
-    work[base] = n as f64;
+    work[i] = n as f64;
 }
 
 // Where slot number j begins, of slots of w words from an origin on.
@@ -57,6 +57,23 @@ pub(crate) fn place_of(s: Shape, base: usize, i: usize) -> usize
     ensures { λ r. ⌜ r ≡ placeOf s base i ⌝ }
 {
     base + (s.count + 2 * s.degree + 3) + 2 * (s.dim + 1) * i
+}
+
+// The depth of the slot at base, of slots of w words: it stands in the last one.
+pub(crate) fn depth_at(work: &[f64], base: usize, w: usize) -> usize
+    requires { ⌜ (0 < w) × (base + w ≤ length (now work)) ⌝ }
+    requires { ⌜ T (inUnsigned binary64 64 (getD (now work) (base + (w - 1)) nan)) ⌝ }
+    ensures { λ r. ⌜ r ≡ countAt (now (work .entry)) (base + (w - 1)) ⌝ }
+{
+    count_at(work, base + (w - 1))
+}
+
+// That depth becomes d.
+pub(crate) fn set_depth(work: &mut [f64], base: usize, w: usize, d: usize)
+    requires { ⌜ (0 < w) × (base + w ≤ length (now work)) × (d ≤ 0x1_0000) ⌝ }
+    ensures { λ _. ⌜ now (work .exit) ≡ put (now (work .entry)) (base + (w - 1)) (word d ∷ []) ⌝ }
+{
+    set_count(work, base + (w - 1), d);
 }
 
 // The w words at b become those at a, which lie in front of them or begin at or behind the first of them.

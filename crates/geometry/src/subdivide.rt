@@ -3,7 +3,7 @@ use math::scalars::Scalar;
 use model::subdivide::Counts;
 ghost use mathlib.Core.Path.{_≡_};
 ghost use mathlib.Core.Option.{some};
-ghost use Prim.Native.Nat.{_+_, _≤_, _<_};
+ghost use Prim.Native.Nat.{_+_, _≤_, _<_, max};
 ghost use Rattle.lists.specs.Ring.{wrapped};
 ghost use Rattle.model.specs.Subdivide.{withVisit, withCuts, joined};
 ghost use Rattle.geometry.specs.State.{foundOf, children, cutsOf, withReport, hasBadWeight, Next};
@@ -85,14 +85,26 @@ fn cuts_of(o: Outcome) -> usize
     }
 }
 
-// The counts, with a visit that came out as o.
-fn counted(v: Counts, o: Outcome) -> Counts
+// The deeper of two depths.
+fn deeper(a: usize, b: usize) -> usize
+    ensures { λ r. ⌜ r ≡ max a b ⌝ }
+{
+    if a < b { b } else { a }
+}
+
+// The counts, with the visit of a piece of depth d that came out as o.
+fn counted(v: Counts, d: usize, o: Outcome) -> Counts
     requires { ⌜ (v .visited ≤ 0x1000_0000) × (v .cuts ≤ 0x1000_0000) × (cutsOf o ≤ 2) ⌝ }
-    ensures { λ r. ⌜ r ≡ withCuts (cutsOf o) (withVisit v) ⌝ }
+    ensures { λ r. ⌜ r ≡ withCuts (cutsOf o) (withVisit d v) ⌝ }
 {
     let visited = v.visited + 1;
     let cuts = v.cuts + cuts_of(o);
-    Counts { visited, cuts }
+    let depth = deeper(v.depth, d);
+    Counts {
+        visited,
+        cuts,
+        depth,
+    }
 }
 
 // What was reported, with what a visit reports.
@@ -121,16 +133,16 @@ pub(crate) fn has_bad_weight(o: Outcome) -> bool
     }
 }
 
-// Where the search stands after a visit that came out as o, in a ring of so many slots.
-pub(crate) fn after_visit(q: Search, o: Outcome, slots: usize) -> Search
+// Where the search stands after the visit of a piece of depth d that came out as o, in a ring of so many slots.
+pub(crate) fn after_visit(q: Search, d: usize, o: Outcome, slots: usize) -> Search
     requires { ⌜ (q .head < slots) × (1 ≤ q .pending) × (q .pending < slots) × (slots ≤ 0x1000_0000) ⌝ }
     requires { ⌜ (q .counts .visited ≤ 0x1000_0000) × (q .counts .cuts ≤ 0x1000_0000) × (cutsOf o ≤ 2) ⌝ }
-    ensures { λ r. ⌜ Next slots q o r ⌝ }
+    ensures { λ r. ⌜ Next slots q d o r ⌝ }
 {
     let head = wrap(q.head + 1, slots);
     let pending = q.pending - 1 + children(o);
     let so_far = q.counts;
-    let counts = counted(so_far, o);
+    let counts = counted(so_far, d, o);
     let before = q.found;
     let found = with_report(before, o);
     Search {

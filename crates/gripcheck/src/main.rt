@@ -1,4 +1,4 @@
-// Reads a question from standard input and prints the answer in six lines.
+// Reads a question from standard input and prints the answer in seven lines.
 // Where the question cannot be read, nothing is answered; this, and an answer that cannot be written, is said on standard error.
 use text::respond::respond;
 ghost use Prim.Native.Nat.{_≤_};
@@ -44,7 +44,7 @@ fn read_input(buf: &mut [u8]) -> Input
 
 fn main() {
     let mut question = [0u8; 65537];
-    let mut lines = [0u8; 160];
+    let mut lines = [0u8; 192];
     let input = read_input(&mut question);
     if input.failed {
         io::write_all(

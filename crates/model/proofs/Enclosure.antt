@@ -36,7 +36,7 @@ use Rattle.model.specs.Call.{Call, asPiece, boxOf, question, refusal, se
 use Rattle.model.specs.Enclosure.{OneSpan, HitAt, Doubles, Accepted, Completes, BoundsHold, NotOutside, BoundsInDomain, NoNegativeZero, BoundsPositiveZero, BoundsInOrder, Enclosure, PieceOf, Every, OnlyWeights, PiecesKept, Pieces}
 use Rattle.model.specs.declared.contains.Found.{Found}
 use Rattle.model.specs.declared.contains.Found.the-variants.{Nothing, Enclosed, Spent, Refused}
-use Rattle.model.proofs.Every.{every-at}
+use Rattle.model.proofs.Every.{every-at, every-imp}
 use Rattle.model.proofs.Sound.Base.{values, Known, Knots, Carries, Lined}
 use Rattle.model.proofs.Sound.Known.{le-known, le-value, eq-known}
 use Rattle.model.proofs.Sound.Search.{Right, Hit, Fine, Kept, Stands, stands, answers, lives, answers-hit}
@@ -197,7 +197,7 @@ module _ (c : Call) (d : Doubles c) (acc : Accepted c) where
       -- a search whose visits are fine gives an answer that is right
       right-by : ((s t : Scalar) → In s → In t → In (unionS s t)) → (Good : Piece → Type 0) → Good (asPiece (c .curve)) → ((s : Piece) → Good s → Fine In Good (visit ar (question c) s)) → Right In (couldContain ar (question c) (asPiece (c .curve)))
       unfolding couldContain
-      right-by join Good w f = pick (Right In) (couldMeet ar (c .curve .dim) p (asPiece (c .curve) .points) (boxOf c)) _ (Nothing 0 0)
+      right-by join Good w f = pick (Right In) (couldMeet ar (c .curve .dim) p (asPiece (c .curve) .points) (boxOf c)) _ (Nothing 0 0 0)
           (λ _. answers (visit ar q) (c .nodes) In Good join f (advance (visit ar q) (c .nodes) (c .nodes) (begun (asPiece (c .curve))))
           (stands (visit ar q) (c .nodes) In Good join f (c .nodes) (begun (asPiece (c .curve))) (record { pieces = (w, tt); inside = tt }))) (λ _. tt)
 
@@ -239,7 +239,7 @@ module _ (c : Call) (d : Doubles c) (acc : Accepted c) where
           → ((s : Piece) → Good s → Has s → Kept (λ s. Holds s t) Has (visit ar (question c) s))
           → T (couldMeet ar (c .curve .dim) (c .curve .degree) (asPiece (c .curve) .points) (boxOf c)) → Hit (λ s. Holds s t) (couldContain ar (question c) (asPiece (c .curve)))
       unfolding couldContain
-      hit-by Good Has w g f k m = taken (Hit At) (couldMeet ar (c .curve .dim) p (asPiece (c .curve) .points) (boxOf c)) _ (Nothing 0 0) m
+      hit-by Good Has w g f k m = taken (Hit At) (couldMeet ar (c .curve .dim) p (asPiece (c .curve) .points) (boxOf c)) _ (Nothing 0 0 0) m
           (answers-hit (visit ar q) (c .nodes) (Inner a b) Good (inner-union a b) f At Has lefts rights k (advance (visit ar q) (c .nodes) (c .nodes) (begun (asPiece (c .curve))))
           (lives (visit ar q) (c .nodes) (Inner a b) Good (inner-union a b) f At Has lefts rights k (c .nodes) (begun (asPiece (c .curve))) (record { pieces = (w, tt); inside = tt }) (inl (inl g))))
         where
@@ -280,42 +280,38 @@ module _ (c : Call) (d : Doubles c) (acc : Accepted c) where
 
     -- ---- what the answers say
     bounds-right : (r : Found) → Right Told r → BoundsInDomain (c .curve) r
-    bounds-right (Nothing v k) h = tt
-    bounds-right (Enclosed lo hi v k) h =
+    bounds-right (Nothing v k e) h = tt
+    bounds-right (Enclosed lo hi v k e) h =
         let at = plain-lies (start p (asPiece (c .curve))) (end (asPiece (c .curve))) in
         let i = h .1 .0 .0 in
         (subst (NotOutside (start p (asPiece (c .curve))) (end (asPiece (c .curve)))) (sym (h .1 .1 .0)) (at (h .0 .lo) first final (i .low)), subst (NotOutside (start p (asPiece (c .curve))) (end (asPiece (c .curve)))) (sym (h .1 .1 .1)) (at (h .0 .hi) first final (i .high)))
-    bounds-right (Spent m v k) h = tt
-    bounds-right (Refused m v k) h = tt
+    bounds-right (Spent m v k e) h = tt
+    bounds-right (Refused m v k e) h = tt
 
     order-right : (r : Found) → Right Told r → BoundsInOrder r
-    order-right (Nothing v k) h = tt
-    order-right (Enclosed lo hi v k) h =
+    order-right (Nothing v k e) h = tt
+    order-right (Enclosed lo hi v k e) h =
         let i = h .1 .0 .0 in
         subst (λ (l : Float). T (lt (inf true) l && le l hi && lt hi (inf false))) (sym (h .1 .1 .0))
         (subst (λ (u : Float). T (lt (inf true) (positiveZero (h .0 .lo)) && le (positiveZero (h .0 .lo)) u && lt u (inf false))) (sym (h .1 .1 .1)) (plain-order (h .0 .lo) (h .0 .hi) (i .low .known) (i .high .known) (h .1 .0 .1 .order)))
-    order-right (Spent m v k) h = tt
-    order-right (Refused m v k) h = tt
+    order-right (Spent m v k e) h = tt
+    order-right (Refused m v k e) h = tt
 
     bounds-hit : (t : ℚ) (r : Found) → Hit (λ s. Holds s t) r → Completes r → BoundsHold r t
-    bounds-hit t (Nothing v j) h k = h
-    bounds-hit t (Enclosed lo hi v j) h k = record { low = subst (λ (z : Float). Below z t) (sym (h .1 .1 .0)) (plain-low (h .0 .lo) t (h .1 .0 .low)); high = subst (λ (z : Float). Above z t) (sym (h .1 .1 .1)) (plain-high (h .0 .hi) t (h .1 .0 .high)) }
-    bounds-hit t (Spent m v j) h k = k
-    bounds-hit t (Refused m v j) h k = k
+    bounds-hit t (Nothing v j e) h k = h
+    bounds-hit t (Enclosed lo hi v j e) h k = record { low = subst (λ (z : Float). Below z t) (sym (h .1 .1 .0)) (plain-low (h .0 .lo) t (h .1 .0 .low)); high = subst (λ (z : Float). Above z t) (sym (h .1 .1 .1)) (plain-high (h .0 .hi) t (h .1 .0 .high)) }
+    bounds-hit t (Spent m v j e) h k = k
+    bounds-hit t (Refused m v j e) h k = k
 
     -- ---- the pieces
     ok-piece : (s : Piece) → Ok (c .curve .dim) (c .curve .degree) (c .curve .count) (value (start (c .curve .degree) (asPiece (c .curve)))) (value (end (asPiece (c .curve)))) s → PieceOf c s
     ok-piece s k = record { long = omega (arith, k .knots .long); knots = good-counted p (length (s .points)) (values (s .knots)) (k .knots .good); small = k .small; weights = k .weights }
 
-    every-piece : (l : List Piece) → Every (Ok (c .curve .dim) (c .curve .degree) (c .curve .count) (value (start (c .curve .degree) (asPiece (c .curve)))) (value (end (asPiece (c .curve))))) l → Every (PieceOf c) l
-    every-piece [] h = tt
-    every-piece (s ∷ l) h = (ok-piece s (h .0), every-piece l (h .1))
-
     only-weights : (r : Found) → Right (Inner (value (start (c .curve .degree) (asPiece (c .curve)))) (value (end (asPiece (c .curve))))) r → OnlyWeights r
-    only-weights (Nothing v k) h = tt
-    only-weights (Enclosed lo hi v k) h = tt
-    only-weights (Spent m v k) h = tt
-    only-weights (Refused m v k) h = h
+    only-weights (Nothing v k e) h = tt
+    only-weights (Enclosed lo hi v k e) h = tt
+    only-weights (Spent m v k e) h = tt
+    only-weights (Refused m v k e) h = h
 
     pieces : 1 ≤ c .curve .degree → (k : ℕ) → PiecesKept c (advance (visit ar (question c)) (c .nodes) k (begun (asPiece (c .curve))))
     pieces one k =
@@ -326,15 +322,15 @@ module _ (c : Call) (d : Doubles c) (acc : Accepted c) where
         Good s = Ok (c .curve .dim) (c .curve .degree) (c .curve .count) (value (start (c .curve .degree) (asPiece (c .curve)))) (value (end (asPiece (c .curve)))) s
 
         go : (z : Step) → Stands (visit ar q) (c .nodes) (Inner a b) Good (inner-union a b) (visit-fine ar E q n a b) z → PiecesKept c z
-        go (going s) h = every-piece (s .queue) (h .pieces)
+        go (going s) h = every-imp (λ w. Good (w .piece)) (λ w. PieceOf c (w .piece)) (λ w k. ok-piece (w .piece) k) (s .queue) (h .pieces)
         go (over r) h = only-weights r h
 
 -- ---- whatever the arithmetic and the curve, bounds are given out plain
 plain-bounds : (r : Found) → Right (λ _. Unit {0}) r → BoundsPositiveZero r
-plain-bounds (Nothing v k) h = tt
-plain-bounds (Enclosed lo hi v k) h = (subst NoNegativeZero (sym (h .1 .1 .0)) (plain-zero (h .0 .lo)), subst NoNegativeZero (sym (h .1 .1 .1)) (plain-zero (h .0 .hi)))
-plain-bounds (Spent m v k) h = tt
-plain-bounds (Refused m v k) h = tt
+plain-bounds (Nothing v k e) h = tt
+plain-bounds (Enclosed lo hi v k e) h = (subst NoNegativeZero (sym (h .1 .1 .0)) (plain-zero (h .0 .lo)), subst NoNegativeZero (sym (h .1 .1 .1)) (plain-zero (h .0 .hi)))
+plain-bounds (Spent m v k e) h = tt
+plain-bounds (Refused m v k e) h = tt
 
 any-fine : (w : Visit) → Fine (λ _. Unit {0}) (λ _. Unit {0}) w
 any-fine dropped = tt
@@ -345,7 +341,7 @@ any-fine badWeight = tt
 
 plain-search : (ar : Arithmetic) (q : Question) (s : Piece) → Right (λ _. Unit {0}) (couldContain ar q s)
 unfolding couldContain
-plain-search ar q s = pick (Right (λ _. Unit {0})) (couldMeet ar (q .dim) (q .degree) (s .points) (q .box)) _ (Nothing 0 0)
+plain-search ar q s = pick (Right (λ _. Unit {0})) (couldMeet ar (q .dim) (q .degree) (s .points) (q .box)) _ (Nothing 0 0 0)
     (λ _. answers (visit ar q) (q .nodes) (λ _. Unit {0}) (λ _. Unit {0}) (λ _ _ _ _. tt) (λ r _. any-fine (visit ar q r)) (advance (visit ar q) (q .nodes) (q .nodes) (begun s))
     (stands (visit ar q) (q .nodes) (λ _. Unit {0}) (λ _. Unit {0}) (λ _ _ _ _. tt) (λ r _. any-fine (visit ar q r)) (q .nodes) (begun s) (record { pieces = (tt, tt); inside = tt }))) (λ _. tt)
 

@@ -48,7 +48,7 @@ unfolding foldl
 fold-keeps P Q g keep b [] h k = h
 fold-keeps P Q g keep b (x ∷ l) h k = fold-keeps P Q g keep (g b x) l (keep b x h (k .0)) (k .1)
 
--- ---- of one element, from each of them, and from nothing
+-- ---- of one element, from each of them, from something else, and from nothing
 pub every-at : {A : Type 0} (P : A → Type 0) (l : List A) (i : ℕ) (d : A) → Every P l → i < length l → P (getD l i d)
 every-at P [] i d h k = absurd (omega arith)
 every-at P (x ∷ l) zero d h k = h .0
@@ -57,6 +57,10 @@ every-at P (x ∷ l) (suc i) d h k = every-at P l i d (h .1) (omega arith)
 pub every-of : {A : Type 0} (P : A → Type 0) (l : List A) (d : A) → ((i : ℕ) → i < length l → P (getD l i d)) → Every P l
 every-of P [] d h = tt
 every-of P (x ∷ l) d h = (h zero (omega arith), every-of P l d (λ i k. h (suc i) (omega arith)))
+
+pub every-imp : {A : Type 0} (P Q : A → Type 0) → ((x : A) → P x → Q x) → (l : List A) → Every P l → Every Q l
+every-imp P Q f [] h = tt
+every-imp P Q f (x ∷ l) h = (f x (h .0), every-imp P Q f l (h .1))
 
 pub every-any : {A : Type 0} (l : List A) → Every (λ _. Unit {0}) l
 every-any [] = tt

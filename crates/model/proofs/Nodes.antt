@@ -14,7 +14,7 @@ use Rattle.math.specs.Scalars.{Arithmetic}
 use Rattle.model.specs.NurbCurve.{Piece}
 use Rattle.model.specs.Aabb.{aabb, couldOverlap, couldMeet}
 use Rattle.model.specs.FatLine.{greville}
-use Rattle.model.specs.Subdivide.{Question, Visit, dropped, State, Step, going, over, complete, ended, step, advance, resumed, answered}
+use Rattle.model.specs.Subdivide.{Question, Visit, dropped, Waiting, State, Step, going, over, complete, spentWith, ended, step, advance, resumed, answered}
 use Rattle.model.specs.Contains.{shrink, clipped, visit, begun, couldContain}
 use Rattle.model.specs.Call.{Call, boxOf, question, asPiece, areaFits, stated, refusal, searchedBy, searched, areaBy, areaAfter}
 use Rattle.model.specs.Enclosure.{Accepted, Completes}
@@ -28,7 +28,7 @@ use Rattle.model.proofs.Pause.{goes, spends, ends, once, fails, waits, 
 use Rattle.model.proofs.Checks.{accepted-by, curve-accepted}
 
 module _ (see : Piece → Visit) (n m : ℕ) (h : n ≤ m) where
-  abbrev at : List Piece → Counts → Option Scalar → State
+  abbrev at : List Waiting → Counts → Option Scalar → State
   at q v f = record { queue = q; counts = v; found = f }
 
   -- with no piece left both are over
@@ -36,13 +36,13 @@ module _ (see : Piece → Visit) (n m : ℕ) (h : n ≤ m) where
   done k v f = ends see m k (at [] v f) (complete f v) (unfold ended in refl) ∙ sym (ends see n k (at [] v f) (complete f v) (unfold ended in refl))
 
   -- with a piece, and no node left of n, the search is spent
-  spent : (k : ℕ) (c : Piece) (cs : List Piece) (v : Counts) (f : Option Scalar) → n ≤ v .visited → NodesLeft (advance see n k (at (c ∷ cs) v f)) → ⊥
-  spent k c cs v f l = subst (λ (z : Step). NodesLeft z → ⊥) (sym (ends see n k (at (c ∷ cs) v f) (Spent (suc (length cs)) (v .visited) (v .cuts)) (spends n c cs v f l))) (λ e. e)
+  spent : (k : ℕ) (c : Waiting) (cs : List Waiting) (v : Counts) (f : Option Scalar) → n ≤ v .visited → NodesLeft (advance see n k (at (c ∷ cs) v f)) → ⊥
+  spent k c cs v f l = subst (λ (z : Step). NodesLeft z → ⊥) (sym (ends see n k (at (c ∷ cs) v f) (spentWith (suc (length cs)) v) (spends n c cs v f l))) (λ e. e)
 
   steps : (k : ℕ) (s : State) → NodesLeft (advance see n k s) → advance see m k s ≡ advance see n k s
   steps zero s left = by (s .queue) (s .counts) (s .found) left
     where
-      by : (q : List Piece) (v : Counts) (f : Option Scalar) → NodesLeft (advance see n zero (at q v f)) → advance see m zero (at q v f) ≡ advance see n zero (at q v f)
+      by : (q : List Waiting) (v : Counts) (f : Option Scalar) → NodesLeft (advance see n zero (at q v f)) → advance see m zero (at q v f) ≡ advance see n zero (at q v f)
       by [] v f left = done zero v f
       by (c ∷ cs) v f left = go (decLt (v .visited) n)
         where
@@ -54,7 +54,7 @@ module _ (see : Piece → Visit) (n m : ℕ) (h : n ≤ m) where
       Rest : Type 0
       Rest = (s′ : State) → NodesLeft (advance see n k s′) → advance see m k s′ ≡ advance see n k s′
 
-      by : Rest → (q : List Piece) (v : Counts) (f : Option Scalar) → NodesLeft (advance see n (suc k) (at q v f)) → advance see m (suc k) (at q v f) ≡ advance see n (suc k) (at q v f)
+      by : Rest → (q : List Waiting) (v : Counts) (f : Option Scalar) → NodesLeft (advance see n (suc k) (at q v f)) → advance see m (suc k) (at q v f) ≡ advance see n (suc k) (at q v f)
       by rest [] v f left = done (suc k) v f
       by rest (c ∷ cs) v f left = go (decLt (v .visited) n)
         where
@@ -114,8 +114,8 @@ module _ (ar : Arithmetic) (c : Call) (m words : ℕ) where
       see : visit ar q′ ≡ visit ar q
       see = λ i s. visit-nodes s i
 
-      by : (b : Bool) → NotSpent (cond b (answered (advance (visit ar q) (c .nodes) (c .nodes) (begun (asPiece (c .curve))))) (Nothing 0 0))
-          → cond b (answered (advance (visit ar q′) m m (begun (asPiece (c .curve))))) (Nothing 0 0) ≡ cond b (answered (advance (visit ar q) (c .nodes) (c .nodes) (begun (asPiece (c .curve))))) (Nothing 0 0)
+      by : (b : Bool) → NotSpent (cond b (answered (advance (visit ar q) (c .nodes) (c .nodes) (begun (asPiece (c .curve))))) (Nothing 0 0 0))
+          → cond b (answered (advance (visit ar q′) m m (begun (asPiece (c .curve))))) (Nothing 0 0 0) ≡ cond b (answered (advance (visit ar q) (c .nodes) (c .nodes) (begun (asPiece (c .curve))))) (Nothing 0 0 0)
       by true d = ap (λ (f : Piece → Visit). answered (advance f m m (begun (asPiece (c .curve))))) see ∙ enough (visit ar q) (c .nodes) m h (begun (asPiece (c .curve))) d
       by false d = refl
 
@@ -126,10 +126,10 @@ still c m words w e = accepted-by (withNodes c m words) (curve-accepted c e) (le
 
 -- ---- THE LAW
 not-spent : (r : Found) → Completes r → NotSpent r
-not-spent (Nothing v k) h = tt
-not-spent (Enclosed lo hi v k) h = tt
-not-spent (Spent n v k) h = h
-not-spent (Refused n v k) h = tt
+not-spent (Nothing v k e) h = tt
+not-spent (Enclosed lo hi v k e) h = tt
+not-spent (Spent n v k e) h = h
+not-spent (Refused n v k e) h = tt
 
 pub more-nodes : (ar : Arithmetic) → MoreNodes ar
 unfolding searched searchedBy areaAfter areaBy

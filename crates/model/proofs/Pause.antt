@@ -10,15 +10,14 @@ use Rattle.math.specs.declared.scalars.Scalar.{Scalar}
 use Rattle.model.specs.NurbCurve.{Piece}
 use Rattle.model.specs.declared.subdivide.Counts.{Counts}
 use Rattle.model.specs.declared.contains.Found.{Found}
-use Rattle.model.specs.declared.contains.Found.the-variants.{Spent}
-use Rattle.model.specs.Subdivide.{Visit, State, Step, going, over, ended, step, stop, advance, resumed}
+use Rattle.model.specs.Subdivide.{Visit, Waiting, State, Step, going, over, spentWith, ended, step, stop, advance, resumed}
 
 -- ---- before a visit: one is left, or none
-pub goes : (nodes : ℕ) (c : Piece) (cs : List Piece) (v : Counts) (f : Option Scalar) → v .visited < nodes → ended nodes (c ∷ cs) v f ≡ none
+pub goes : (nodes : ℕ) (c : Waiting) (cs : List Waiting) (v : Counts) (f : Option Scalar) → v .visited < nodes → ended nodes (c ∷ cs) v f ≡ none
 unfolding ended
 goes nodes c cs v f h = rw (lt-ltb (v .visited) nodes h)
 
-pub spends : (nodes : ℕ) (c : Piece) (cs : List Piece) (v : Counts) (f : Option Scalar) → nodes ≤ v .visited → ended nodes (c ∷ cs) v f ≡ some (Spent (suc (length cs)) (v .visited) (v .cuts))
+pub spends : (nodes : ℕ) (c : Waiting) (cs : List Waiting) (v : Counts) (f : Option Scalar) → nodes ≤ v .visited → ended nodes (c ∷ cs) v f ≡ some (spentWith (suc (length cs)) v)
 unfolding ended
 spends nodes c cs v f h = rw (le-ltb (v .visited) nodes h)
 

@@ -36,7 +36,7 @@ pub record Text : Type 0 where
 
 -- A row of the table.
 pub data Row : Type 0 where
-  -- The call of a text, and the six values that it prints. The first is 0 for none, 1 for enclosed, 2 for spent and 100 + N for refused-N; then come visited, cuts, pending, lo and hi,
+  -- The call of a text, and the seven values that it prints. The first is 0 for none, 1 for enclosed, 2 for spent and 100 + N for refused-N; then come visited, cuts, depth, pending, lo and hi,
   -- where 0 stands for `-`.
   prints : Text → List ℕ → Row
   -- The path of a text, cut down to two parameters: the number of cuts.
@@ -72,7 +72,7 @@ ends none = 0 ∷ 0 ∷ []
 ends (some x) = toBits binary64 (x .lo) ∷ toBits binary64 (x .hi) ∷ []
 
 abbrev printed : Paper → List ℕ
-printed a = word (a .result) ∷ a .visited ∷ a .cuts ∷ a .pending ∷ ends (a .bounds)
+printed a = word (a .result) ∷ a .visited ∷ a .cuts ∷ a .depth ∷ a .pending ∷ ends (a .bounds)
 
 abbrev alike : List ℕ → List ℕ → Bool
 alike [] [] = true

@@ -1,9 +1,9 @@
--- The scope's cases P1 to P10, and cases C1 to C14 of request E2: one table, and one proposition for all its rows, by computation. A row reads as Rows.antt says. Doubles are their
--- bits.
+-- The scope's cases P1 to P10, cases C1 to C14 of request E2 and D1 to D7 of request E5: one table, and one proposition for all its rows, by computation. A row reads as Rows.antt
+-- says. Doubles are their bits.
 use Prim.Native.Nat.{ℕ}
 use mathlib.Core.Path.{_≡_, refl}
 use mathlib.Core.Bool.{true}
-use mathlib.Core.List.{List, [], _∷_}
+use mathlib.Core.List.{List, [], _∷_, _++_}
 use Rattle.lists.specs.Lists.{all}
 use Rattle.model.proofs.Rows.{Text, Row, prints, cuts, sums, products, roots, right}
 
@@ -20,18 +20,22 @@ single nodes x = record {
   box = x ∷ x ∷ 0x4014000000000000 ∷ 0x4014000000000000 ∷ [];
 }
 
--- A text of degree 1 on 0, 0, 1, 1.
-abbrev line : ℕ → ℕ → List ℕ → List ℕ → Text
-line nodes resolution points box = record {
+-- A text of degree 1 on 0, 0, e, e.
+abbrev lineTo : ℕ → ℕ → ℕ → List ℕ → List ℕ → Text
+lineTo e nodes resolution points box = record {
   dim = 2;
   degree = 1;
   count = 2;
   nodes = nodes;
   resolution = resolution;
-  knots = 0 ∷ 0 ∷ 0x3ff0000000000000 ∷ 0x3ff0000000000000 ∷ [];
+  knots = 0 ∷ 0 ∷ e ∷ e ∷ [];
   points = points;
   box = box;
 }
+
+-- The same on 0, 0, 1, 1.
+abbrev line : ℕ → ℕ → List ℕ → List ℕ → Text
+line nodes resolution points box = lineTo 0x3ff0000000000000 nodes resolution points box
 
 -- P6: both points (2, 0), weights 1, and the box (2, 0).
 abbrev twice : Text
@@ -41,13 +45,17 @@ twice = line 1 0
     ∷ [])
     (0x4000000000000000 ∷ 0x4000000000000000 ∷ 0 ∷ 0 ∷ [])
 
--- The line from (0, 0) to (1, 1), weights 1, resolution 1/2, and the box from a to b on both axes.
-abbrev diagonal : ℕ → ℕ → ℕ → Text
-diagonal nodes a b = line nodes 0x3fe0000000000000
+-- The line from (0, 0) to (1, 1) on 0, 0, e, e, weights 1, and the box from a to b on both axes.
+abbrev slope : ℕ → ℕ → ℕ → ℕ → ℕ → Text
+slope e resolution nodes a b = lineTo e nodes resolution
     (0 ∷ 0 ∷ 0 ∷ 0 ∷ 0x3ff0000000000000 ∷ 0x3ff0000000000000
     ∷ 0x3ff0000000000000 ∷ 0x3ff0000000000000 ∷ 0x3ff0000000000000 ∷ 0x3ff0000000000000 ∷ 0x3ff0000000000000 ∷ 0x3ff0000000000000
     ∷ [])
     (a ∷ b ∷ a ∷ b ∷ [])
+
+-- The same on 0, 0, 1, 1, resolution 1/2.
+abbrev diagonal : ℕ → ℕ → ℕ → Text
+diagonal nodes a b = slope 0x3ff0000000000000 0x3fe0000000000000 nodes a b
 
 -- The numbers -1, 0 and 1, 0 beside the weights 2 ^ -1074 and 2 ^ -1073, and the box (0, 0).
 abbrev light : Text
@@ -57,9 +65,9 @@ light = line 1 0
     ∷ [])
     (0 ∷ 0 ∷ 0 ∷ 0 ∷ [])
 
--- A text of degree 2 on 0, 0, 0, e, e, e from (0, 0) to (4, y), with the control point (x, z) between them, weights 1, resolution 0, and a box that is the point (a, b).
-abbrev bend : ℕ → ℕ → ℕ → ℕ → ℕ → ℕ → ℕ → Text
-bend e nodes x z y a b = record {
+-- A text of degree 2 on 0, 0, 0, e, e, e from (0, 0) by (x, z) to (w, y), weights 1, resolution 0.
+abbrev curved : ℕ → ℕ → ℕ → ℕ → ℕ → ℕ → List ℕ → Text
+curved e nodes x z w y box = record {
   dim = 2;
   degree = 2;
   count = 3;
@@ -69,10 +77,14 @@ bend e nodes x z y a b = record {
   points =
       0 ∷ 0 ∷ 0 ∷ 0 ∷ 0x3ff0000000000000 ∷ 0x3ff0000000000000
       ∷ x ∷ x ∷ z ∷ z ∷ 0x3ff0000000000000 ∷ 0x3ff0000000000000
-      ∷ 0x4010000000000000 ∷ 0x4010000000000000 ∷ y ∷ y ∷ 0x3ff0000000000000 ∷ 0x3ff0000000000000
+      ∷ w ∷ w ∷ y ∷ y ∷ 0x3ff0000000000000 ∷ 0x3ff0000000000000
       ∷ [];
-  box = a ∷ a ∷ b ∷ b ∷ [];
+  box = box;
 }
+
+-- The same to (4, y), and a box that is the point (a, b).
+abbrev bend : ℕ → ℕ → ℕ → ℕ → ℕ → ℕ → ℕ → Text
+bend e nodes x z y a b = curved e nodes x z 0x4010000000000000 y (a ∷ a ∷ b ∷ b ∷ [])
 
 -- The arc by (2, 4) to (4, 0), and the box (2, 3), which lies above it.
 abbrev arc : Text
@@ -82,29 +94,53 @@ arc = bend 0x3ff0000000000000 4 0x4000000000000000 0x4010000000000000 0 0x400000
 abbrev rise : ℕ → ℕ → Text
 rise e nodes = bend e nodes 0x3ff0000000000000 0 0x4010000000000000 0x3ff8000000000000 0x3ff0000000000000
 
+-- The bend by (1, 0) to (1, 2) on 0, 0, 0, 1, 1, 1, and the box from 1/2 to 3/4 on both axes.
+abbrev hook : ℕ → Text
+hook nodes = curved 0x3ff0000000000000 nodes 0x3ff0000000000000 0 0x3ff0000000000000 0x4000000000000000
+    (0x3fe0000000000000 ∷ 0x3fe8000000000000 ∷ 0x3fe0000000000000 ∷ 0x3fe8000000000000 ∷ [])
+
+-- A cubic of four points, all of them (0, 0, 0), and the box (1, 1, 1), which misses it.
+abbrev still : ℕ → Text
+still nodes = record {
+  dim = 3;
+  degree = 3;
+  count = 4;
+  nodes = nodes;
+  resolution = 0;
+  knots = 0 ∷ 0 ∷ 0 ∷ 0 ∷ one ∷ one ∷ one ∷ one ∷ [];
+  points = origin ++ origin ++ origin ++ origin;
+  box = one ∷ one ∷ one ∷ one ∷ one ∷ one ∷ [];
+}
+  where
+    one : ℕ
+    one = 0x3ff0000000000000
+
+    origin : List ℕ
+    origin = 0 ∷ 0 ∷ 0 ∷ 0 ∷ 0 ∷ 0 ∷ 0x3ff0000000000000 ∷ 0x3ff0000000000000 ∷ []
+
 -- enclosed, visited 1, pending 0, from 0 to 1
 abbrev P1 : Row
-P1 = prints (single 1 0x4008000000000000) (1 ∷ 1 ∷ 0 ∷ 0 ∷ 0 ∷ 0x3ff0000000000000 ∷ [])
+P1 = prints (single 1 0x4008000000000000) (1 ∷ 1 ∷ 0 ∷ 0 ∷ 0 ∷ 0 ∷ 0x3ff0000000000000 ∷ [])
 
 -- nodes 0: spent, visited 0, pending 1
 abbrev P2 : Row
-P2 = prints (single 0 0x4008000000000000) (2 ∷ 0 ∷ 0 ∷ 1 ∷ 0 ∷ 0 ∷ [])
+P2 = prints (single 0 0x4008000000000000) (2 ∷ 0 ∷ 0 ∷ 0 ∷ 1 ∷ 0 ∷ 0 ∷ [])
 
 -- nodes 0, the box at 4: none, visited 0
 abbrev P3 : Row
-P3 = prints (single 0 0x4010000000000000) (0 ∷ 0 ∷ 0 ∷ 0 ∷ 0 ∷ 0 ∷ [])
+P3 = prints (single 0 0x4010000000000000) (0 ∷ 0 ∷ 0 ∷ 0 ∷ 0 ∷ 0 ∷ 0 ∷ [])
 
 -- the box three doubles above 3: enclosed
 abbrev P4 : Row
-P4 = prints (single 1 0x4008000000000003) (1 ∷ 1 ∷ 0 ∷ 0 ∷ 0 ∷ 0x3ff0000000000000 ∷ [])
+P4 = prints (single 1 0x4008000000000003) (1 ∷ 1 ∷ 0 ∷ 0 ∷ 0 ∷ 0 ∷ 0x3ff0000000000000 ∷ [])
 
 -- the box four doubles above 3: none
 abbrev P5 : Row
-P5 = prints (single 1 0x4008000000000004) (0 ∷ 0 ∷ 0 ∷ 0 ∷ 0 ∷ 0 ∷ [])
+P5 = prints (single 1 0x4008000000000004) (0 ∷ 0 ∷ 0 ∷ 0 ∷ 0 ∷ 0 ∷ 0 ∷ [])
 
 -- enclosed, from 0 to 1
 abbrev P6 : Row
-P6 = prints twice (1 ∷ 1 ∷ 0 ∷ 0 ∷ 0 ∷ 0x3ff0000000000000 ∷ [])
+P6 = prints twice (1 ∷ 1 ∷ 0 ∷ 0 ∷ 0 ∷ 0 ∷ 0x3ff0000000000000 ∷ [])
 
 -- 1 + 1
 abbrev P7 : Row
@@ -144,43 +180,72 @@ C5 = cuts (diagonal 0 0 0) 0x3fe0000000000000 0x3fe0000000000000 1
 
 -- The box in the middle: cut down at both ends, and then reported: enclosed, visited 2, cuts 2
 abbrev C6 : Row
-C6 = prints (diagonal 2 0x3fe0000000000000 0x3fe0000000000000) (1 ∷ 2 ∷ 2 ∷ 0 ∷ 0x3fdfffffffffffc1 ∷ 0x3fe0000000000029 ∷ [])
+C6 = prints (diagonal 2 0x3fe0000000000000 0x3fe0000000000000) (1 ∷ 2 ∷ 2 ∷ 0 ∷ 0 ∷ 0x3fdfffffffffffc1 ∷ 0x3fe0000000000029 ∷ [])
 
 -- with one node: the piece waits, and its cuts count: spent, visited 1, cuts 2, pending 1
 abbrev C7 : Row
-C7 = prints (diagonal 1 0x3fe0000000000000 0x3fe0000000000000) (2 ∷ 1 ∷ 2 ∷ 1 ∷ 0 ∷ 0 ∷ [])
+C7 = prints (diagonal 1 0x3fe0000000000000 0x3fe0000000000000) (2 ∷ 1 ∷ 2 ∷ 0 ∷ 1 ∷ 0 ∷ 0 ∷ [])
 
 -- the box at the start: the hat begins where the domain does, and only what is behind it is cut off: cuts 1
 abbrev C8 : Row
-C8 = prints (diagonal 1 0 0) (2 ∷ 1 ∷ 1 ∷ 1 ∷ 0 ∷ 0 ∷ [])
+C8 = prints (diagonal 1 0 0) (2 ∷ 1 ∷ 1 ∷ 0 ∷ 1 ∷ 0 ∷ 0 ∷ [])
 
 -- the box at the end: only what is in front of the hat is cut off: cuts 1
 abbrev C9 : Row
-C9 = prints (diagonal 1 0x3ff0000000000000 0x3ff0000000000000) (2 ∷ 1 ∷ 1 ∷ 1 ∷ 0 ∷ 0 ∷ [])
+C9 = prints (diagonal 1 0x3ff0000000000000 0x3ff0000000000000) (2 ∷ 1 ∷ 1 ∷ 0 ∷ 1 ∷ 0 ∷ 0 ∷ [])
 
 -- the box as wide as the path: a halving, and two reports: enclosed, visited 3, cuts 0
 abbrev C10 : Row
-C10 = prints (diagonal 3 0 0x3ff0000000000000) (1 ∷ 3 ∷ 0 ∷ 0 ∷ 0 ∷ 0x3ff0000000000000 ∷ [])
+C10 = prints (diagonal 3 0 0x3ff0000000000000) (1 ∷ 3 ∷ 0 ∷ 1 ∷ 0 ∷ 0 ∷ 0x3ff0000000000000 ∷ [])
 
 -- cut down at both ends, and then dropped: none, visited 2, cuts 2
 abbrev C11 : Row
-C11 = prints arc (0 ∷ 2 ∷ 2 ∷ 0 ∷ 0 ∷ 0 ∷ [])
+C11 = prints arc (0 ∷ 2 ∷ 2 ∷ 0 ∷ 0 ∷ 0 ∷ 0 ∷ [])
 
 -- cut down at both ends twice: spent, visited 2, cuts 4, pending 1
 abbrev C12 : Row
-C12 = prints (rise 0x3ff0000000000000 2) (2 ∷ 2 ∷ 4 ∷ 1 ∷ 0 ∷ 0 ∷ [])
+C12 = prints (rise 0x3ff0000000000000 2) (2 ∷ 2 ∷ 4 ∷ 0 ∷ 1 ∷ 0 ∷ 0 ∷ [])
 
 -- two cuts, and a weight of what they leave is not above zero: refused by 11, visited 1, cuts 0
 abbrev C13 : Row
-C13 = prints light (111 ∷ 1 ∷ 0 ∷ 0 ∷ 0 ∷ 0 ∷ [])
+C13 = prints light (111 ∷ 1 ∷ 0 ∷ 0 ∷ 0 ∷ 0 ∷ 0 ∷ [])
 
 -- on the domain from 0 to 2 ^ -1018, the same after four cuts that count: refused by 11, visited 3, cuts 4
 abbrev C14 : Row
-C14 = prints (rise 0x0050000000000000 3) (111 ∷ 3 ∷ 4 ∷ 0 ∷ 0 ∷ 0 ∷ [])
+C14 = prints (rise 0x0050000000000000 3) (111 ∷ 3 ∷ 4 ∷ 0 ∷ 0 ∷ 0 ∷ 0 ∷ [])
+
+-- Request E5. The path is halved, and both halves wait; pieces that only wait do not count: spent, visited 1, depth 0, pending 2
+abbrev D1 : Row
+D1 = prints (diagonal 1 0 0x3ff0000000000000) (2 ∷ 1 ∷ 0 ∷ 0 ∷ 2 ∷ 0 ∷ 0 ∷ [])
+
+-- the left half is visited: spent, visited 2, depth 1, pending 1
+abbrev D2 : Row
+D2 = prints (diagonal 2 0 0x3ff0000000000000) (2 ∷ 2 ∷ 0 ∷ 1 ∷ 1 ∷ 0 ∷ 0 ∷ [])
+
+-- the box from 3/4 to 1: the left half is dropped, the right one halved, and the first of its halves visited: spent, visited 4, depth 2, pending 3
+abbrev D3 : Row
+D3 = prints (slope 0x3ff0000000000000 0 4 0x3fe8000000000000 0x3ff0000000000000) (2 ∷ 4 ∷ 0 ∷ 2 ∷ 3 ∷ 0 ∷ 0 ∷ [])
+
+-- both halves of the left half are visited, and then the right half, which was cut down and is less deep; deeper pieces wait: spent, visited 6, cuts 1, depth 2, pending 4
+abbrev D4 : Row
+D4 = prints (hook 6) (2 ∷ 6 ∷ 1 ∷ 2 ∷ 4 ∷ 0 ∷ 0 ∷ [])
+
+-- on the domain from 0 to 2 ^ -1023, the visit of the left half ends in 11, and counts: refused by 11, visited 2, depth 1
+abbrev D5 : Row
+D5 = prints (slope 0x0008000000000000 0 2 0 0x3fd0000000000000) (111 ∷ 2 ∷ 0 ∷ 1 ∷ 0 ∷ 0 ∷ 0 ∷ [])
+
+-- A slot has a word for the depth: of a cubic of four points in space 8,192 numbers run 89 nodes,
+abbrev D6 : Row
+D6 = prints (still 89) (0 ∷ 0 ∷ 0 ∷ 0 ∷ 0 ∷ 0 ∷ 0 ∷ [])
+
+-- and 90 are refused by 10.
+abbrev D7 : Row
+D7 = prints (still 90) (110 ∷ 0 ∷ 0 ∷ 0 ∷ 0 ∷ 0 ∷ 0 ∷ [])
 
 -- The table.
 abbrev pub table : List Row
-table = P1 ∷ P2 ∷ P3 ∷ P4 ∷ P5 ∷ P6 ∷ P7 ∷ P8 ∷ P9 ∷ P10 ∷ C1 ∷ C2 ∷ C3 ∷ C4 ∷ C5 ∷ C6 ∷ C7 ∷ C8 ∷ C9 ∷ C10 ∷ C11 ∷ C12 ∷ C13 ∷ C14 ∷ []
+table = P1 ∷ P2 ∷ P3 ∷ P4 ∷ P5 ∷ P6 ∷ P7 ∷ P8 ∷ P9 ∷ P10 ∷ C1 ∷ C2 ∷ C3 ∷ C4 ∷ C5 ∷ C6 ∷ C7 ∷ C8 ∷ C9 ∷ C10 ∷ C11 ∷ C12 ∷ C13 ∷ C14
+    ∷ D1 ∷ D2 ∷ D3 ∷ D4 ∷ D5 ∷ D6 ∷ D7 ∷ []
 
 right-P1 : right P1 ≡ true
 unfolding right
@@ -278,6 +343,34 @@ right-C14 : right C14 ≡ true
 unfolding right
 right-C14 = refl
 
+right-D1 : right D1 ≡ true
+unfolding right
+right-D1 = refl
+
+right-D2 : right D2 ≡ true
+unfolding right
+right-D2 = refl
+
+right-D3 : right D3 ≡ true
+unfolding right
+right-D3 = refl
+
+right-D4 : right D4 ≡ true
+unfolding right
+right-D4 = refl
+
+right-D5 : right D5 ≡ true
+unfolding right
+right-D5 = refl
+
+right-D6 : right D6 ≡ true
+unfolding right
+right-D6 = refl
+
+right-D7 : right D7 ≡ true
+unfolding right
+right-D7 = refl
+
 -- Every row is right.
 pub all-right : all right table ≡ true
 unfolding all
@@ -307,4 +400,11 @@ all-right =
       right-C12,
       right-C13,
       right-C14,
+      right-D1,
+      right-D2,
+      right-D3,
+      right-D4,
+      right-D5,
+      right-D6,
+      right-D7,
     )

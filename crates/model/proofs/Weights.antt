@@ -13,6 +13,7 @@ use Rattle.model.specs.Contains.{visit, begun}
 use Rattle.model.specs.Call.{Call, asPiece, question}
 use Rattle.model.specs.Enclosure.{Doubles, Accepted, Every}
 use Rattle.model.specs.Weights.{CutWeights, CutsWeighed, PanicsAlike}
+use Rattle.model.proofs.Every.{every-imp}
 use Rattle.model.proofs.Sound.Restrict.{Both}
 use Rattle.model.proofs.Sound.Search.{Fine, Stands, stands}
 use Rattle.model.proofs.Sound.Visit.Within.{clip-within}
@@ -38,10 +39,6 @@ module _ (ar : Arithmetic) (E : Encloses ar) (q : Question) (n : ℕ) (a b : ℚ
       p : ℕ
       p = q .degree
 
-  each : (l : List Piece) → Every (Well (q .dim) (q .degree) n a b) l → Every (CutWeights ar q) l
-  each [] h = tt
-  each (s ∷ l) h = (cut-weights s (h .0), each l (h .1))
-
 -- ---- an accepted call
 module _ (ar : Arithmetic) (E : Encloses ar) (c : Call) (d : Doubles c) (acc : Accepted c) where
   abbrev q : Question
@@ -63,7 +60,7 @@ module _ (ar : Arithmetic) (E : Encloses ar) (c : Call) (d : Doubles c) (acc : A
 
   weighed : (z : Step) → Stands (visit ar q) (c .nodes) (Told c d acc ar E) Good (told-union c d acc ar E) fine z → CutsWeighed ar q z
   unfolding Good
-  weighed (going s) h = each ar E q (c .curve .count) a b (s .queue) (h .pieces)
+  weighed (going s) h = every-imp (λ w. Good (w .piece)) (λ w. CutWeights ar q (w .piece)) (λ w k. cut-weights ar E q (c .curve .count) a b (w .piece) k) (s .queue) (h .pieces)
   weighed (over r) h = tt
 
   reached : 1 ≤ c .curve .degree → (k : ℕ) → CutsWeighed ar q (advance (visit ar q) (c .nodes) k (begun (asPiece (c .curve))))

@@ -183,7 +183,7 @@ statedWords dim degree count nodes =
 -- The result, where the refusal is known; nothing is counted with a refusal by 1 to 10.
 unfoldable pub searchedBy : Arithmetic → Call → ℕ → Found
 searchedBy ar c zero = couldContain ar (question c) (asPiece (c .curve))
-searchedBy ar c (suc n) = Refused (suc n) 0 0
+searchedBy ar c (suc n) = Refused (suc n) 0 0 0
 
 -- The result of a call.
 unfoldable pub searched : Arithmetic → Call → Found

@@ -13,7 +13,7 @@ use Rattle.model.specs.NurbCurve.{Piece, start, end, domain, weightsPosi
 use Rattle.model.specs.Split.{Halves, uncut, both, splitMid, Restricted, restrict}
 use Rattle.model.specs.Aabb.{aabb, couldOverlap, couldMeet}
 use Rattle.model.specs.FatLine.{greville, fatLineZeros, extent, toF64, widest, carriedWidth, restricts, halves}
-use Rattle.model.specs.Subdivide.{Question, Visit, dropped, reported, restricted, halved, badWeight, State, noCounts, advance, answered}
+use Rattle.model.specs.Subdivide.{Question, Visit, dropped, reported, restricted, halved, badWeight, State, atDepth, noCounts, advance, answered}
 use Rattle.model.specs.declared.fat_line.Hat.{Hat}
 use Rattle.model.specs.declared.fat_line.Hat.the-variants.{Over, Missing}
 use Rattle.model.specs.declared.contains.Found.{Found}
@@ -76,13 +76,13 @@ visit ar q c =
 
 -- ---- the search
 
--- The search begins with the whole curve, nothing counted.
+-- The search begins with the whole curve, of depth 0, nothing counted.
 abbrev pub begun : Piece → State
-begun c = record { queue = c ∷ []; counts = noCounts; found = none }
+begun c = record { queue = atDepth 0 c ∷ []; counts = noCounts; found = none }
 
 -- curve_could_contain: a box that misses gives nothing, even with nodes 0 (the scope); else the search takes at most all its nodes.
 unfoldable pub couldContain : Arithmetic → Question → Piece → Found
 couldContain ar q c =
     cond (couldMeet ar (q .dim) (q .degree) (c .points) (q .box))
     (answered (advance (visit ar q) (q .nodes) (q .nodes) (begun c)))
-    (Nothing 0 0)
+    (Nothing 0 0 0)

@@ -26,7 +26,7 @@ use Rattle.model.specs.Split.{Halves, uncut, both, Restricted}
 use Rattle.model.specs.Aabb.{couldOverlap}
 use Rattle.model.specs.FatLine.{window, extent}
 use Rattle.model.specs.Subdivide as subdivide
-use Rattle.model.specs.Subdivide.{Question, Visit, dropped, reported, restricted, halved, badWeight, State, Step, going, over, withVisit, complete, ended, stop, answered}
+use Rattle.model.specs.Subdivide.{Question, Visit, dropped, reported, restricted, halved, badWeight, Waiting, State, Step, going, over, withVisit, complete, ended, stop, answered}
 use Rattle.model.specs.Contains as contains
 use Rattle.model.specs.Contains.{begun}
 use Rattle.model.specs.Layout.{scalarsOf}
@@ -356,17 +356,17 @@ joined (some s) t = tested.union s t
 -- ---- solvers/subdivide.rs, which forms no interval of its own; the union of reports, which a visit of the Rust makes, is in `after` as in Subdivide
 
 -- What a visit leaves.
-unfoldable pub after : List Piece → Counts → Option Scalar → Visit → Tested Step
-after cs v f dropped = fine (subdivide.after cs v f dropped)
-after cs v f (reported t) = do fine (going (record { queue = cs; counts = v; found = some (← joined f t) }))
-after cs v f (restricted n c) = fine (subdivide.after cs v f (restricted n c))
-after cs v f (halved l r) = fine (subdivide.after cs v f (halved l r))
-after cs v f badWeight = fine (subdivide.after cs v f badWeight)
+unfoldable pub after : List Waiting → ℕ → Counts → Option Scalar → Visit → Tested Step
+after cs d v f dropped = fine (subdivide.after cs d v f dropped)
+after cs d v f (reported t) = do fine (going (record { queue = cs; counts = v; found = some (← joined f t) }))
+after cs d v f (restricted n c) = fine (subdivide.after cs d v f (restricted n c))
+after cs d v f (halved l r) = fine (subdivide.after cs d v f (halved l r))
+after cs d v f badWeight = fine (subdivide.after cs d v f badWeight)
 
 -- The visit of the first piece that waits.
-unfoldable pub step : (Piece → Tested Visit) → List Piece → Counts → Option Scalar → Tested Step
+unfoldable pub step : (Piece → Tested Visit) → List Waiting → Counts → Option Scalar → Tested Step
 step visit [] v f = fine (over (complete f v))
-step visit (c ∷ cs) v f = do after cs (withVisit v) f (← visit c)
+step visit (c ∷ cs) v f = do after cs (c .depth) (withVisit (c .depth) v) f (← visit (c .piece))
 
 -- At most k visits.
 unfoldable pub advance : (Piece → Tested Visit) → ℕ → ℕ → State → Tested Step
@@ -385,7 +385,7 @@ advance visit nodes (suc k) s =
 unfoldable pub couldContain : Question → Piece → Tested Found
 couldContain q c = do
   m ← couldMeet (q .dim) (q .degree) (c .points) (q .box)
-  cond m (do fine (answered (← advance (visit q) (q .nodes) (q .nodes) (begun c)))) (fine (Nothing 0 0))
+  cond m (do fine (answered (← advance (visit q) (q .nodes) (q .nodes) (begun c)))) (fine (Nothing 0 0 0))
 
 -- Of a call that is refused by 1 to 10 nothing is formed; of any other, first the intervals that are lent: points, box, knots and resolution.
 unfoldable pub searchedBy : Call → ℕ → Tested Found
@@ -395,7 +395,7 @@ searchedBy c zero = do
   _ ← tested.map tested.sharp (c .curve .knots)
   _ ← tested.sharp (c .resolution)
   couldContain (question c) (asPiece (c .curve))
-searchedBy c (suc n) = fine (Refused (suc n) 0 0)
+searchedBy c (suc n) = fine (Refused (suc n) 0 0 0)
 
 -- The result of a call.
 unfoldable pub searched : Call → Tested Found

@@ -78,10 +78,10 @@ Accepted c = refusal c ≡ 0
 
 -- "Its search completes when the result is none or enclosed."
 abbrev pub Completes : Found → Type 0
-Completes (Nothing v k) = Unit {0}
-Completes (Enclosed lo hi v k) = Unit {0}
-Completes (Spent n v k) = ⊥
-Completes (Refused n v k) = ⊥
+Completes (Nothing v k d) = Unit {0}
+Completes (Enclosed lo hi v k d) = Unit {0}
+Completes (Spent n v k d) = ⊥
+Completes (Refused n v k d) = ⊥
 
 -- The result has bounds, and P holds of them.
 abbrev pub WithBounds : (Scalar → Type 0) → Option Scalar → Type 0
@@ -149,14 +149,14 @@ Every P (x ∷ l) = P x × Every P l
 
 -- A search itself refuses only by 11.
 abbrev pub OnlyWeights : Found → Type 0
-OnlyWeights (Nothing v k) = Unit {0}
-OnlyWeights (Enclosed lo hi v k) = Unit {0}
-OnlyWeights (Spent n v k) = Unit {0}
-OnlyWeights (Refused n v k) = n ≡ 11
+OnlyWeights (Nothing v k d) = Unit {0}
+OnlyWeights (Enclosed lo hi v k d) = Unit {0}
+OnlyWeights (Spent n v k d) = Unit {0}
+OnlyWeights (Refused n v k d) = n ≡ 11
 
 -- Where a search stands, every piece that waits is such a piece; or it is over.
 abbrev pub PiecesKept : Call → Step → Type 0
-PiecesKept c (going s) = Every (PieceOf c) (s .queue)
+PiecesKept c (going s) = Every (λ w. PieceOf c (w .piece)) (s .queue)
 PiecesKept c (over r) = OnlyWeights r
 
 -- After any number of visits.

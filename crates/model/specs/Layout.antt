@@ -28,9 +28,9 @@ pointAt D l i = tab D (λ k. scalarAt l (D * i + k))
 unfoldable pub pointsOf : ℕ → ℕ → List Float → List Vector
 pointsOf D n l = tab n (λ i. pointAt D l i)
 
--- The scope: W, the words of a slot, for a curve of n points of degree p.
+-- The scope: W, the words of a slot, for a curve of n points of degree p, with one word for the depth (request E5).
 unfoldable pub slotWords : ℕ → ℕ → ℕ → ℕ
-slotWords dim p n = 2 * suc dim * (n + p + 1) + 2 * (n + 2 * p + 2)
+slotWords dim p n = 2 * suc dim * (n + p + 1) + 2 * (n + 2 * p + 2) + 1
 
 -- The scope: the stated words of the work area, for so many nodes.
 abbrev pub areaWords : ℕ → ℕ → ℕ → ℕ → ℕ

@@ -10,8 +10,8 @@ pub mod Contains
 pub mod Layout
 pub mod Call
 pub mod Paper
-pub mod Counts
 pub mod Enclosure
+pub mod Counts
 pub mod Weights
 pub mod Nodes
 pub mod Tested

@@ -14,10 +14,10 @@ use Rattle.model.specs.declared.contains.Found.the-variants.{Nothing, En
 
 -- A result other than spent: of a call that is accepted, its search completed or was refused by 11.
 abbrev pub NotSpent : Found → Type 0
-NotSpent (Nothing v k) = Unit {0}
-NotSpent (Enclosed lo hi v k) = Unit {0}
-NotSpent (Spent n v k) = ⊥
-NotSpent (Refused n v k) = Unit {0}
+NotSpent (Nothing v k d) = Unit {0}
+NotSpent (Enclosed lo hi v k d) = Unit {0}
+NotSpent (Spent n v k d) = ⊥
+NotSpent (Refused n v k d) = Unit {0}
 
 -- Where a search stands, it has not run out of nodes.
 abbrev pub NodesLeft : Step → Type 0

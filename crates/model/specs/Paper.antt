@@ -12,11 +12,12 @@ pub data Result : Type 0 where
   none-found enclosed spent : Result
   refused : ℕ → Result
 
--- What the scope and request E2 say of an answer: the six values that the program prints.
+-- What the scope and the requests E2 and E5 say of an answer: the seven values that the program prints.
 pub record Paper : Type 0 where
   pub result : Result
   pub visited : ℕ
   pub cuts : ℕ
+  pub depth : ℕ
   -- 0 unless spent
   pub pending : ℕ
   -- lo and hi, which are `-` unless enclosed
@@ -24,10 +25,10 @@ pub record Paper : Type 0 where
 
 -- The answer of a search.
 abbrev pub paper : Found → Paper
-paper (Nothing v k) = record { result = none-found; visited = v; cuts = k; pending = 0; bounds = none }
-paper (Enclosed lo hi v k) = record { result = enclosed; visited = v; cuts = k; pending = 0; bounds = some (record { lo = lo; hi = hi }) }
-paper (Spent n v k) = record { result = spent; visited = v; cuts = k; pending = n; bounds = none }
-paper (Refused n v k) = record { result = refused n; visited = v; cuts = k; pending = 0; bounds = none }
+paper (Nothing v k d) = record { result = none-found; visited = v; cuts = k; depth = d; pending = 0; bounds = none }
+paper (Enclosed lo hi v k d) = record { result = enclosed; visited = v; cuts = k; depth = d; pending = 0; bounds = some (record { lo = lo; hi = hi }) }
+paper (Spent n v k d) = record { result = spent; visited = v; cuts = k; depth = d; pending = n; bounds = none }
+paper (Refused n v k d) = record { result = refused n; visited = v; cuts = k; depth = d; pending = 0; bounds = none }
 
 -- The answer of a clip: the hat, or no hat, which leaves the visit early.
 abbrev pub hatOf : Hat → Option Scalar

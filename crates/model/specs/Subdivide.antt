@@ -1,6 +1,6 @@
 -- solvers/subdivide.rs: the search around the visits, breadth-first. Definitions only.
 -- What a visit makes of a piece is an argument. Between two visits the search is a state, so that it can pause there.
-use Prim.Native.Nat.{ℕ, zero, suc, _+_}
+use Prim.Native.Nat.{ℕ, zero, suc, _+_, max}
 use mathlib.Core.Bool.{cond}
 use mathlib.Core.List.{List, [], _∷_, _++_}
 use mathlib.Core.Option.{Option, none, some}
@@ -37,21 +37,30 @@ pub data Visit : Type 0 where
 
 -- ---- the state between two visits
 
+-- A piece that waits for its visit, and its depth: the number of halvings between it and the whole curve (request E5).
+pub record Waiting : Type 0 where
+  pub piece : Piece
+  pub depth : ℕ
+
+-- A piece of that depth.
+abbrev pub atDepth : ℕ → Piece → Waiting
+atDepth d c = record { piece = c; depth = d }
+
 -- The counts at the start.
 abbrev pub noCounts : Counts
-noCounts = record { visited = 0; cuts = 0 }
+noCounts = record { visited = 0; cuts = 0; depth = 0 }
 
--- One visit more (the scope: visited).
-abbrev pub withVisit : Counts → Counts
-withVisit v = record { visited = suc (v .visited); cuts = v .cuts }
+-- One visit more, of a piece of depth d (the scope: visited; request E5: depth is the greatest of those visited).
+abbrev pub withVisit : ℕ → Counts → Counts
+withVisit d v = record { visited = suc (v .visited); cuts = v .cuts; depth = max (v .depth) d }
 
 -- So many cuts more.
 abbrev pub withCuts : ℕ → Counts → Counts
-withCuts n v = record { visited = v .visited; cuts = v .cuts + n }
+withCuts n v = record { visited = v .visited; cuts = v .cuts + n; depth = v .depth }
 
 -- The pieces that wait, the first in front; the counts; and the union of what was reported so far.
 pub record State : Type 0 where
-  pub queue : List Piece
+  pub queue : List Waiting
   pub counts : Counts
   pub found : Option Scalar
 
@@ -71,27 +80,35 @@ joined (some s) t = unionS s t
 
 -- The result when every piece was visited.
 unfoldable pub complete : Option Scalar → Counts → Found
-complete none v = Nothing (v .visited) (v .cuts)
-complete (some t) v = Enclosed (positiveZero (t .lo)) (positiveZero (t .hi)) (v .visited) (v .cuts)
+complete none v = Nothing (v .visited) (v .cuts) (v .depth)
+complete (some t) v = Enclosed (positiveZero (t .lo)) (positiveZero (t .hi)) (v .visited) (v .cuts) (v .depth)
 
--- What a visit leaves, which v already counts, where cs wait behind its piece: what it hands on goes behind them. Cuts are counted here, when the piece that was cut down is handed
--- on; nothing else adds to them (request E2).
-unfoldable pub after : List Piece → Counts → Option Scalar → Visit → Step
-after cs v f dropped = going (record { queue = cs; counts = v; found = f })
-after cs v f (reported t) = going (record { queue = cs; counts = v; found = some (joined f t) })
-after cs v f (restricted n c) = going (record { queue = cs ++ (c ∷ []); counts = withCuts n v; found = f })
-after cs v f (halved l r) = going (record { queue = cs ++ (l ∷ r ∷ []); counts = v; found = f })
-after cs v f badWeight = over (Refused 11 (v .visited) (v .cuts))
+-- The result when the nodes are used up and n pieces are left.
+abbrev pub spentWith : ℕ → Counts → Found
+spentWith n v = Spent n (v .visited) (v .cuts) (v .depth)
+
+-- The result when a weight is not above zero.
+abbrev pub failedWith : Counts → Found
+failedWith v = Refused 11 (v .visited) (v .cuts) (v .depth)
+
+-- What the visit of a piece of depth d leaves, which v already counts, where cs wait behind that piece: what it hands on goes behind them. What was cut down keeps the depth, and both
+-- halves have one more (request E5). Cuts are counted here, when the piece that was cut down is handed on; nothing else adds to them (request E2).
+unfoldable pub after : List Waiting → ℕ → Counts → Option Scalar → Visit → Step
+after cs d v f dropped = going (record { queue = cs; counts = v; found = f })
+after cs d v f (reported t) = going (record { queue = cs; counts = v; found = some (joined f t) })
+after cs d v f (restricted n c) = going (record { queue = cs ++ (atDepth d c ∷ []); counts = withCuts n v; found = f })
+after cs d v f (halved l r) = going (record { queue = cs ++ (atDepth (suc d) l ∷ atDepth (suc d) r ∷ []); counts = v; found = f })
+after cs d v f badWeight = over (failedWith v)
 
 -- Whether the search is over before its next visit: no piece waits, or no visit is left for the first of them. The scope: pending counts that piece and those behind it.
-unfoldable pub ended : ℕ → List Piece → Counts → Option Scalar → Option Found
+unfoldable pub ended : ℕ → List Waiting → Counts → Option Scalar → Option Found
 ended nodes [] v f = some (complete f v)
-ended nodes (c ∷ cs) v f = cond (ltb (v .visited) nodes) none (some (Spent (suc (length cs)) (v .visited) (v .cuts)))
+ended nodes (c ∷ cs) v f = cond (ltb (v .visited) nodes) none (some (spentWith (suc (length cs)) v))
 
--- The visit of the first piece that waits.
-unfoldable pub step : (Piece → Visit) → List Piece → Counts → Option Scalar → Step
+-- The visit of the first piece that waits. It does not look at the depth.
+unfoldable pub step : (Piece → Visit) → List Waiting → Counts → Option Scalar → Step
 step visit [] v f = over (complete f v)
-step visit (c ∷ cs) v f = after cs (withVisit v) f (visit c)
+step visit (c ∷ cs) v f = after cs (c .depth) (withVisit (c .depth) v) f (visit (c .piece))
 
 -- The search is over with a result, or stands at the state s.
 unfoldable pub stop : State → Option Found → Step
@@ -115,4 +132,4 @@ resumed visit nodes k (going s) = advance visit nodes k s
 -- The result where a search stands. A search that may take all its nodes in one go is over.
 unfoldable pub answered : Step → Found
 answered (over r) = r
-answered (going s) = Spent (length (s .queue)) (s .counts .visited) (s .counts .cuts)
+answered (going s) = spentWith (length (s .queue)) (s .counts)

@@ -48,7 +48,7 @@ pub record CutWeights (ar : Arithmetic) (q : Question) (s : Piece) : Type 0 wher
 
 -- Where a search stands, this holds of every piece that waits; or it is over.
 abbrev pub CutsWeighed : Arithmetic → Question → Step → Type 0
-CutsWeighed ar q (going s) = Every (CutWeights ar q) (s .queue)
+CutsWeighed ar q (going s) = Every (λ w. CutWeights ar q (w .piece)) (s .queue)
 CutsWeighed ar q (over r) = Unit {0}
 
 -- After any number of visits. (At degree 0 no piece is cut.)

@@ -6,4 +6,6 @@ pub struct Counts {
     pub visited: usize,
     // The cuts of all pieces that were cut down to a hat and handed on.
     pub cuts: usize,
+    // The greatest depth of a piece that was visited: the halvings between it and the whole curve.
+    pub depth: usize,
 }

@@ -14,37 +14,37 @@ use Rattle.model.specs.declared.contains.Found.the-variants.{Nothing, Enclosed,
 
 -- The number of the refusal, and 0 where there is none.
 abbrev pub numberOf : Found → ℕ
-numberOf (Nothing v k) = 0
-numberOf (Enclosed lo hi v k) = 0
-numberOf (Spent n v k) = 0
-numberOf (Refused n v k) = n
+numberOf (Nothing v k d) = 0
+numberOf (Enclosed lo hi v k d) = 0
+numberOf (Spent n v k d) = 0
+numberOf (Refused n v k d) = n
 
--- The kind of the answer (0 none, 1 enclosed, 2 spent, 3 refused), visited, pending, which is 0 unless spent, and cuts.
+-- The kind of the answer (0 none, 1 enclosed, 2 spent, 3 refused), visited, pending, which is 0 unless spent, cuts, and depth.
 unfoldable pub countsOf : Found → List ℕ
-countsOf (Nothing v k) = 0 ∷ v ∷ 0 ∷ k ∷ []
-countsOf (Enclosed lo hi v k) = 1 ∷ v ∷ 0 ∷ k ∷ []
-countsOf (Spent n v k) = 2 ∷ v ∷ n ∷ k ∷ []
-countsOf (Refused n v k) = 3 ∷ v ∷ 0 ∷ k ∷ []
+countsOf (Nothing v k d) = 0 ∷ v ∷ 0 ∷ k ∷ d ∷ []
+countsOf (Enclosed lo hi v k d) = 1 ∷ v ∷ 0 ∷ k ∷ d ∷ []
+countsOf (Spent n v k d) = 2 ∷ v ∷ n ∷ k ∷ d ∷ []
+countsOf (Refused n v k d) = 3 ∷ v ∷ 0 ∷ k ∷ d ∷ []
 
 -- lo and hi, and 0 twice unless enclosed.
 unfoldable pub boundsOf : Found → List Float
-boundsOf (Nothing v k) = zeroF ∷ zeroF ∷ []
-boundsOf (Enclosed lo hi v k) = lo ∷ hi ∷ []
-boundsOf (Spent n v k) = zeroF ∷ zeroF ∷ []
-boundsOf (Refused n v k) = zeroF ∷ zeroF ∷ []
+boundsOf (Nothing v k d) = zeroF ∷ zeroF ∷ []
+boundsOf (Enclosed lo hi v k d) = lo ∷ hi ∷ []
+boundsOf (Spent n v k d) = zeroF ∷ zeroF ∷ []
+boundsOf (Refused n v k d) = zeroF ∷ zeroF ∷ []
 
 -- ---- and back
 
 -- The answer of this kind.
-abbrev pub ofKind : ℕ → ℕ → ℕ → ℕ → ℕ → Float → Float → Found
-ofKind zero number visited pending cuts lo hi = Nothing visited cuts
-ofKind (suc zero) number visited pending cuts lo hi = Enclosed lo hi visited cuts
-ofKind (suc (suc zero)) number visited pending cuts lo hi = Spent pending visited cuts
-ofKind (suc (suc (suc k))) number visited pending cuts lo hi = Refused number visited cuts
+abbrev pub ofKind : ℕ → ℕ → ℕ → ℕ → ℕ → ℕ → Float → Float → Found
+ofKind zero number visited pending cuts depth lo hi = Nothing visited cuts depth
+ofKind (suc zero) number visited pending cuts depth lo hi = Enclosed lo hi visited cuts depth
+ofKind (suc (suc zero)) number visited pending cuts depth lo hi = Spent pending visited cuts depth
+ofKind (suc (suc (suc k))) number visited pending cuts depth lo hi = Refused number visited cuts depth
 
 -- The answer that a caller reads off the numbers that it was given.
 abbrev pub readBack : ℕ → List ℕ → List Float → Found
-readBack number counts bounds = ofKind (getD counts 0 0) number (getD counts 1 0) (getD counts 2 0) (getD counts 3 0) (getD bounds 0 nan) (getD bounds 1 nan)
+readBack number counts bounds = ofKind (getD counts 0 0) number (getD counts 1 0) (getD counts 2 0) (getD counts 3 0) (getD counts 4 0) (getD bounds 0 nan) (getD bounds 1 nan)
 
 -- ---- the promises
 

@@ -12,22 +12,22 @@ fn number_of(f: Found) -> u64
     ensures { λ r. ⌜ r ≡ numberOf f ⌝ }
 {
     match f {
-        Found::Nothing(_, _) => 0,
-        Found::Enclosed(_, _, _, _) => 0,
-        Found::Spent(_, _, _) => 0,
-        Found::Refused(number, _, _) => number,
+        Found::Nothing(_, _, _) => 0,
+        Found::Enclosed(_, _, _, _, _) => 0,
+        Found::Spent(_, _, _, _) => 0,
+        Found::Refused(number, _, _, _) => number,
     }
 }
 
-// The kind of the answer, visited, pending, and cuts.
-fn counts_of(f: Found) -> [u64; 4]
+// The kind of the answer, visited, pending, cuts, and depth.
+fn counts_of(f: Found) -> [u64; 5]
     ensures { λ r. ⌜ r ≡ countsOf f ⌝ }
 {
     match f {
-        Found::Nothing(visited, cuts) => [0, visited as u64, 0, cuts as u64],
-        Found::Enclosed(_, _, visited, cuts) => [1, visited as u64, 0, cuts as u64],
-        Found::Spent(pending, visited, cuts) => [2, visited as u64, pending as u64, cuts as u64],
-        Found::Refused(_, visited, cuts) => [3, visited as u64, 0, cuts as u64],
+        Found::Nothing(v, k, d) => [0, v as u64, 0, k as u64, d as u64],
+        Found::Enclosed(_, _, v, k, d) => [1, v as u64, 0, k as u64, d as u64],
+        Found::Spent(n, v, k, d) => [2, v as u64, n as u64, k as u64, d as u64],
+        Found::Refused(_, v, k, d) => [3, v as u64, 0, k as u64, d as u64],
     }
 }
 
@@ -36,15 +36,15 @@ fn bounds_of(f: Found) -> [f64; 2]
     ensures { λ r. ⌜ r ≡ boundsOf f ⌝ }
 {
     match f {
-        Found::Nothing(_, _) => [0.0, 0.0],
-        Found::Enclosed(lo, hi, _, _) => [lo, hi],
-        Found::Spent(_, _, _) => [0.0, 0.0],
-        Found::Refused(_, _, _) => [0.0, 0.0],
+        Found::Nothing(_, _, _) => [0.0, 0.0],
+        Found::Enclosed(lo, hi, _, _, _) => [lo, hi],
+        Found::Spent(_, _, _, _) => [0.0, 0.0],
+        Found::Refused(_, _, _, _) => [0.0, 0.0],
     }
 }
 
 // `curve_could_contain` of crates/geometry, with its answer in lent memory: the result is the number of the refusal or 0, `counts` the kind of the answer,
-// visited, pending and cuts, `bounds` lo and hi.
+// visited, pending, cuts and depth, `bounds` lo and hi.
 // of-number, of-counts and of-bounds say what is given out, to the last word. answers: read back as an answer, it keeps the promises of that function, each a field of `Answers`.
 // Nothing is asked of the caller but what the types say.
 #[no_mangle]
@@ -58,7 +58,7 @@ pub extern "C" fn puhlwazo_curve_could_contain(
     resolution: f64,
     nodes: usize,
     work: &mut [f64],
-    counts: &mut [u64; 4],
+    counts: &mut [u64; 5],
     bounds: &mut [f64; 2],
 ) -> u64
     ensures { λ r.

@@ -20,7 +20,7 @@ fn end_of(texts: &[u8], at: usize) -> usize
 
 // The answer to one text.
 fn one(text: &[u8]) {
-    let mut lines = [0u8; 160];
+    let mut lines = [0u8; 192];
     let k = respond(text, &mut lines);
     io::write_all(1, &lines[..k]);
 }

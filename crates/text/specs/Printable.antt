@@ -1,4 +1,4 @@
--- What the code says of the bytes that it writes, and which answers it prints. Definitions only.
+-- What the code says of the bytes that it writes and of the answers that it prints. Definitions only.
 use Prim.Native.Nat.{ℕ, _+_}
 use mathlib.Core.Path.{_≡_}
 use mathlib.Core.Bool.{not}
@@ -8,13 +8,18 @@ use lib.Dec.{T}
 use lib.Ieee.{isNan}
 use Rattle.lists.specs.Lists.{put}
 use Rattle.model.specs.Enclosure.{OfBounds}
-use Rattle.model.specs.Paper.{paper}
+use Rattle.model.specs.Paper.{Paper, paper}
 use Rattle.model.specs.declared.contains.Found.{Found}
+use Rattle.model.specs.declared.subdivide.Counts.{Counts}
 
 -- The bytes ws were written to the memory l from `at` on, which became m; they end in front of r.
 pub record Written (l : List ℕ) (at : ℕ) (ws m : List ℕ) (r : ℕ) : Type 0 where
   pub memory : m ≡ put l at ws
   pub end : r ≡ at + length ws
+
+-- What the search counted, of an answer.
+abbrev pub countsOf : Paper → Counts
+countsOf a = record { visited = a .visited; cuts = a .cuts; depth = a .depth }
 
 -- Neither bound of an answer is a NaN, which has no bits of its own to print.
 abbrev pub Printable : Found → Type 0

@@ -1,4 +1,4 @@
--- The answer to a text, and the six lines that are printed for it. Definitions only.
+-- The answer to a text, and the seven lines that are printed for it. Definitions only.
 use Prim.Native.Nat.{ℕ}
 use mathlib.Core.Bool.{cond}
 use mathlib.Core.List.{List, [], _++_}
@@ -14,9 +14,9 @@ use Rattle.text.specs.Bytes.{bytes}
 use Rattle.text.specs.Numerals.{decimal, hexadecimal}
 use Rattle.text.specs.Question.{Reading, refusedBy, asks, callOf, reading}
 
--- The answer to what was read: "A refusal other than 11 prints visited=0", and cuts=0 (request E2).
+-- The answer to what was read: "A refusal other than 11 prints visited=0", cuts=0 (request E2) and depth=0 (request E5).
 unfoldable pub answeredBy : Reading → Found
-answeredBy (refusedBy n) = Refused n 0 0
+answeredBy (refusedBy n) = Refused n 0 0 0
 answeredBy (asks s q) = searched geop (callOf s q)
 
 -- The answer to a text.
@@ -35,15 +35,16 @@ unfoldable pub boundLines : Option Scalar → List ℕ
 boundLines none = bytes "lo=-\nhi=-\n"
 boundLines (some x) = bytes "lo=" ++ hexadecimal (x .lo) ++ bytes "\nhi=" ++ hexadecimal (x .hi) ++ bytes "\n"
 
--- The lines of the counts, with the end of the line before them: cuts stands between the two of the scope (request E2).
+-- The lines of the counts, with the end of the line before them: cuts (request E2) and depth (request E5) stand between the two of the scope.
 unfoldable pub countLines : Paper → List ℕ
 countLines a =
     (bytes "\nvisited=" ++ decimal (a .visited))
     ++ (bytes "\ncuts=" ++ decimal (a .cuts))
+    ++ (bytes "\ndepth=" ++ decimal (a .depth))
     ++ (bytes "\npending=" ++ decimal (a .pending))
     ++ bytes "\n"
 
--- The six lines.
+-- The seven lines.
 unfoldable pub printed : Paper → List ℕ
 printed a = bytes "result=" ++ resultWord (a .result) ++ countLines a ++ boundLines (a .bounds)
 
@@ -51,6 +52,6 @@ printed a = bytes "result=" ++ resultWord (a .result) ++ countLines a ++ boundLi
 unfoldable pub response : List ℕ → List ℕ
 response text = printed (paper (answered text))
 
--- What is written of it where there are n bytes for it: all of it, or nothing where they are fewer than 160.
+-- What is written of it where there are n bytes for it: all of it, or nothing where they are fewer than 192.
 abbrev pub fitting : ℕ → List ℕ → List ℕ
-fitting n text = cond (leb 160 n) (response text) []
+fitting n text = cond (leb 192 n) (response text) []

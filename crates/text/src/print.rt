@@ -1,5 +1,6 @@
-// The six lines of an answer.
+// The seven lines of an answer.
 use model::contains::Found;
+use model::subdivide::Counts;
 ghost use mathlib.Core.Path.{_≡_};
 ghost use mathlib.Core.Bool.{not};
 ghost use mathlib.Core.List.{_++_};
@@ -10,7 +11,7 @@ ghost use lib.Ieee.{isNan};
 ghost use Rattle.model.specs.Paper.{paper};
 ghost use Rattle.text.specs.Numerals.{digitOf, lastDigits, decimalLength, decimal, hexadecimal};
 ghost use Rattle.text.specs.Respond.{resultWord, countLines, boundLines, printed};
-ghost use Rattle.text.specs.Printable.{Written, Printable};
+ghost use Rattle.text.specs.Printable.{countsOf, Written, Printable};
 
 // ---- words and numbers
 
@@ -93,19 +94,19 @@ fn put_result(out: &mut [u8], at: usize, f: Found) -> usize
         ⌜ Written l at (resultWord (paper f .result)) m r × (r ≤ at + 28) ⌝ }
 {
     match f {
-        Found::Nothing(_, _) => {
+        Found::Nothing(_, _, _) => {
             let none = [b'n', b'o', b'n', b'e'];
             put_word(out, at, &none)
         }
-        Found::Enclosed(_, _, _, _) => {
+        Found::Enclosed(_, _, _, _, _) => {
             let enclosed = [b'e', b'n', b'c', b'l', b'o', b's', b'e', b'd'];
             put_word(out, at, &enclosed)
         }
-        Found::Spent(_, _, _) => {
+        Found::Spent(_, _, _, _) => {
             let spent = [b's', b'p', b'e', b'n', b't'];
             put_word(out, at, &spent)
         }
-        Found::Refused(n, _, _) => {
+        Found::Refused(n, _, _, _) => {
             let refused = [b'r', b'e', b'f', b'u', b's', b'e', b'd', b'-'];
             let i = put_word(out, at, &refused);
             put_decimal(out, i, n)
@@ -113,27 +114,31 @@ fn put_result(out: &mut [u8], at: usize, f: Found) -> usize
     }
 }
 
-// How many pieces were visited.
-fn visited_of(f: Found) -> u64
-    ensures { λ r. ⌜ r ≡ paper f .visited ⌝ }
+// What the search counted.
+fn counts_of(f: Found) -> Counts
+    ensures { λ r. ⌜ r ≡ countsOf (paper f) ⌝ }
 {
     match f {
-        Found::Nothing(v, _) => v as u64,
-        Found::Enclosed(_, _, v, _) => v as u64,
-        Found::Spent(_, v, _) => v as u64,
-        Found::Refused(_, v, _) => v as u64,
-    }
-}
-
-// How many cuts were made.
-fn cuts_of(f: Found) -> u64
-    ensures { λ r. ⌜ r ≡ paper f .cuts ⌝ }
-{
-    match f {
-        Found::Nothing(_, k) => k as u64,
-        Found::Enclosed(_, _, _, k) => k as u64,
-        Found::Spent(_, _, k) => k as u64,
-        Found::Refused(_, _, k) => k as u64,
+        Found::Nothing(visited, cuts, depth) => Counts {
+            visited,
+            cuts,
+            depth,
+        },
+        Found::Enclosed(_, _, visited, cuts, depth) => Counts {
+            visited,
+            cuts,
+            depth,
+        },
+        Found::Spent(_, visited, cuts, depth) => Counts {
+            visited,
+            cuts,
+            depth,
+        },
+        Found::Refused(_, visited, cuts, depth) => Counts {
+            visited,
+            cuts,
+            depth,
+        },
     }
 }
 
@@ -142,10 +147,10 @@ fn pending_of(f: Found) -> u64
     ensures { λ r. ⌜ r ≡ paper f .pending ⌝ }
 {
     match f {
-        Found::Nothing(_, _) => 0,
-        Found::Enclosed(_, _, _, _) => 0,
-        Found::Spent(n, _, _) => n as u64,
-        Found::Refused(_, _, _) => 0,
+        Found::Nothing(_, _, _) => 0,
+        Found::Enclosed(_, _, _, _, _) => 0,
+        Found::Spent(n, _, _, _) => n as u64,
+        Found::Refused(_, _, _, _) => 0,
     }
 }
 
@@ -162,19 +167,22 @@ fn put_count(out: &mut [u8], at: usize, key: &[u8], n: u64) -> usize
 
 // The lines of the counts, from `at` on, where the line before them has to end.
 fn put_counts(out: &mut [u8], at: usize, f: Found) -> usize
-    requires { ⌜ at + 85 ≤ length (now out) ⌝ }
+    requires { ⌜ at + 112 ≤ length (now out) ⌝ }
     ensures { λ r.
         let l = now (out .entry) in let m = now (out .exit) in
-        ⌜ Written l at (countLines (paper f)) m r × (r ≤ at + 85) ⌝ }
+        ⌜ Written l at (countLines (paper f)) m r × (r ≤ at + 112) ⌝ }
 {
+    let counts = counts_of(f);
     let visited = [b'\n', b'v', b'i', b's', b'i', b't', b'e', b'd', b'='];
-    let i = put_count(out, at, &visited, visited_of(f));
+    let i = put_count(out, at, &visited, counts.visited as u64);
     let cuts = [b'\n', b'c', b'u', b't', b's', b'='];
-    let j = put_count(out, i, &cuts, cuts_of(f));
+    let j = put_count(out, i, &cuts, counts.cuts as u64);
+    let depth = [b'\n', b'd', b'e', b'p', b't', b'h', b'='];
+    let k = put_count(out, j, &depth, counts.depth as u64);
     let pending = [b'\n', b'p', b'e', b'n', b'd', b'i', b'n', b'g', b'='];
-    let k = put_count(out, j, &pending, pending_of(f));
+    let l = put_count(out, k, &pending, pending_of(f));
     let end = [b'\n'];
-    put_word(out, k, &end)
+    put_word(out, l, &end)
 }
 
 // The lines of the two bounds, from `at` on.
@@ -184,7 +192,7 @@ fn put_bounds(out: &mut [u8], at: usize, f: Found) -> usize
         let l = now (out .entry) in let m = now (out .exit) in
         ⌜ Written l at (boundLines (paper f .bounds)) m r × (r ≤ at + 40) ⌝ }
 {
-    let Found::Enclosed(lo, hi, _, _) = f else {
+    let Found::Enclosed(lo, hi, _, _, _) = f else {
         let dashes = [b'l', b'o', b'=', b'-', b'\n', b'h', b'i', b'=', b'-', b'\n'];
         return put_word(out, at, &dashes);
     };
@@ -198,10 +206,10 @@ fn put_bounds(out: &mut [u8], at: usize, f: Found) -> usize
     put_word(out, l, &end)
 }
 
-// The six lines of an answer, written to the front of `out`. The result is how many bytes they are.
+// The seven lines of an answer, written to the front of `out`. The result is how many bytes they are.
 pub(crate) fn write(f: Found, out: &mut [u8]) -> usize
-    requires { ⌜ (160 ≤ length (now out)) × Printable f ⌝ }
-    ensures { λ r. ⌜ Written (now (out .entry)) 0 (printed (paper f)) (now (out .exit)) r × (r ≤ 160) ⌝ }
+    requires { ⌜ (192 ≤ length (now out)) × Printable f ⌝ }
+    ensures { λ r. ⌜ Written (now (out .entry)) 0 (printed (paper f)) (now (out .exit)) r × (r ≤ 192) ⌝ }
 {
     let result = [b'r', b'e', b's', b'u', b'l', b't', b'='];
     let i = put_word(out, 0, &result);

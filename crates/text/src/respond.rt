@@ -68,13 +68,13 @@ fn asked(text: &[u8], at: usize, dim: usize, degree: usize, count: usize) -> Fou
 {
     let mut lines = room();
     let Small::Number(nodes, end) = numbers(text, at, dim, degree, count, &mut lines) else {
-        return Found::Refused(12, 0, 0);
+        return Found::Refused(12, 0, 0, 0);
     };
     if 65536 < text.len() {
-        return Found::Refused(12, 0, 0);
+        return Found::Refused(12, 0, 0, 0);
     }
     if end < text.len() {
-        return Found::Refused(12, 0, 0);
+        return Found::Refused(12, 0, 0, 0);
     }
     ask_lines(&lines, dim, degree, count, nodes)
 }
@@ -85,24 +85,24 @@ fn answered(text: &[u8]) -> Found
     ensures numbers { λ r. ⌜ Printable r ⌝ }
 {
     let Head::Heads(dim, degree, count, at) = sizes(text) else {
-        return Found::Refused(12, 0, 0);
+        return Found::Refused(12, 0, 0, 0);
     };
     let number = sizes_refusal(dim, degree, count);
     if number != 0 {
-        return Found::Refused(number as u64, 0, 0);
+        return Found::Refused(number as u64, 0, 0, 0);
     }
     asked(text, at, dim, degree, count)
 }
 
 // What the program writes for a text, written to the front of `out`. The result is how many bytes that is.
-// Where `out` has fewer than 160 bytes nothing is written, and the result is 0.
+// Where `out` has fewer than 192 bytes nothing is written, and the result is 0.
 pub fn respond(text: &[u8], out: &mut [u8]) -> usize
     ensures written { λ r.
         let l = now (out .entry) in
         ⌜ Written l 0 (fitting (length l) (now (text .entry))) (now (out .exit)) r ⌝ }
     ensures within { λ r. ⌜ Counts r (now (out .exit)) ⌝ }
 {
-    if out.len() < 160 {
+    if out.len() < 192 {
         return 0;
     }
     write(answered(text), out)

@@ -25,7 +25,7 @@ same-length : tie.Need-same-length
 same-length c = search needs
 
 returns : tie.Need-returns
-returns c = let searched = c .before .before .before .before in clear _ _ _ _ (searched .curve-could-contain .ensures) _ _ (c .enum-told .given .1)
+returns c = let searched = c .before .before .before .before in clear _ _ _ _ (searched .curve-could-contain .ensures) _ _ _ (c .enum-told .given .1)
 
 same-length-2 : tie.Need-same-length-2
 same-length-2 c = search needs

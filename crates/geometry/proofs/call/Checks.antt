@@ -100,9 +100,9 @@ module _ (p n : ℕ) (knots : List Float) where
   unfolding knotsValid
   knots-rest e f = and-go (rising knots && lt a b) fine (and-both (rising knots) (lt a b) e f)
 
-pub slot-words : (d p n : ℕ) → 2 * (d + 1) * (n + p + 1) + 2 * (n + 2 * p + 2) ≡ slotWords d p n
+pub slot-words : (d p n : ℕ) → 2 * (d + 1) * (n + p + 1) + 2 * (n + 2 * p + 2) + 1 ≡ slotWords d p n
 unfolding slotWords
-slot-words d p n = ap (λ (k : ℕ). 2 * k * (n + p + 1) + 2 * (n + 2 * p + 2)) eq
+slot-words d p n = ap (λ (k : ℕ). 2 * k * (n + p + 1) + 2 * (n + 2 * p + 2) + 1) eq
   where
     eq : d + 1 ≡ suc d
     eq = omega arith

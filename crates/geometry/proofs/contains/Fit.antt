@@ -22,6 +22,7 @@ use Rattle.model.specs.Enclosure.{Doubles, Accepted, Every}
 use Rattle.geometry.specs.Slots.{within, Whole, Fit}
 use Rattle.geometry.specs.State.{AllFit}
 use Rattle.geometry.specs.declared.slots.Shape.{Shape}
+use Rattle.model.proofs.Every.{every-imp}
 use Rattle.model.proofs.Sound.Search.{Fine, Ready, Stands, stands}
 use Rattle.model.proofs.Sound.Accepted.{checked}
 use Rattle.model.proofs.Sound.Restrict.{Sub, sub-self, from-sub, strict}
@@ -76,10 +77,6 @@ module _ (c : Call) (d : Doubles c) (acc : Accepted c) where
       let e : length (asPiece (c .curve) .points) ≡ c .curve .count = length-points (suc (c .curve .dim)) (c .curve .count) (c .curve .points) in
       record { whole = record { enough = omega (arith, e, checked c d acc .room); bounded = omega (arith, e) }; again = λ one. absurd (omega (arith, z, one)) }
 
-  every-fit : (l : List Piece) → Every (Ok (c .curve .dim) (c .curve .degree) (c .curve .count) a b) l → Every (Fit shapeOf) l
-  every-fit [] h = tt
-  every-fit (s ∷ l) h = (ok-fit s (h .0), every-fit l (h .1))
-
   -- EVERY PIECE CAN BE VISITED
   pub all-fit : (k : ℕ) → AllFit shapeOf (advance (visit geop (question c)) (c .nodes) k (begun (asPiece (c .curve))))
   all-fit k = go (c .curve .degree) refl
@@ -91,7 +88,7 @@ module _ (c : Call) (d : Doubles c) (acc : Accepted c) where
           (record { pieces = (whole-ok c d acc (omega (arith, e)), tt); inside = tt }))
         where
           by : (z : Step) → Stands (visit geop (question c)) (c .nodes) (Inner a b) (Ok (c .curve .dim) (c .curve .degree) (c .curve .count) a b) (inner-union a b) (visit-fine geop geop-encloses (question c) (c .curve .count) a b) z → AllFit shapeOf z
-          by (going s) h = every-fit (s .queue) (h .pieces)
+          by (going s) h = every-imp (λ w. Ok (c .curve .dim) (c .curve .degree) (c .curve .count) a b (w .piece)) (λ w. Fit shapeOf (w .piece)) (λ w k. ok-fit (w .piece) k) (s .queue) (h .pieces)
           by (over r) h = tt
       go zero e =
           by (advance (visit geop (question c)) (c .nodes) k (begun (asPiece (c .curve))))

@@ -1,8 +1,8 @@
 -- What a call gives and leaves: a refused one; and an accepted one, whose search begins with the curve in the first slot. Leans on Enclosure.antt, and on the laws of slots and of the search.
 use mathlib.Core.Path.{_≡_, refl, sym, ap, _∙_, subst}
 use mathlib.Core.Bool.{Bool, true, false}
-use mathlib.Core.List.{List}
-use Prim.Native.Nat.{ℕ, zero, suc, _+_, _*_, _≤_, _<_}
+use mathlib.Core.List.{List, [], _∷_}
+use Prim.Native.Nat.{ℕ, zero, suc, _+_, _-_, _*_, _≤_, _<_}
 use native.Mathlib.Nat.{mul-assoc, zero-mul}
 use native.Mathlib.Omega.{arith}
 use lib.ListN.{length, drop, replicate}
@@ -22,7 +22,7 @@ use Rattle.model.specs.Enclosure.{Doubles, Accepted, HitsEnclosed, BoundsInDoma
 use Rattle.model.specs.Paper.{paper}
 use Rattle.model.specs.Promise.{Answers}
 use Rattle.geometry.specs.Call.{Searches}
-use Rattle.geometry.specs.Slots.{wordsOf, pieceAt, placed, Fits, Inside, Held}
+use Rattle.geometry.specs.Slots.{wordsOf, word, pieceAt, placed, Fits, Inside, Held, DepthIs, Waits}
 use Rattle.geometry.specs.Ring.{ringBase, Ring}
 use Rattle.geometry.specs.State.{AllFit, Begins}
 use Rattle.model.specs.declared.contains.Found.{Found}
@@ -30,7 +30,9 @@ use Rattle.model.specs.declared.contains.Found.the-variants.{Nothing, Refused}
 use Rattle.model.proofs.Checks.{stated-is}
 use Rattle.model.proofs.Sound.Accepted.{Sizes, sizes}
 use Rattle.geometry.proofs.Lists.Numbers.{length-points, wide-points}
+use Rattle.geometry.proofs.slots.Counts.{inside-of}
 use Rattle.geometry.proofs.slots.Piece.{length-placed, piece-placed, held-placed}
+use Rattle.geometry.proofs.slots.Depth.{depth-back, waits-by, depth-is, depth-room, deepened, deep-long, deep-is, deep-held, deep-piece, deep-outside}
 use Rattle.geometry.proofs.slots.Ring.{beside-placed, beside-behind}
 use Rattle.model.proofs.Enclosure.{geop-enclosure}
 use Rattle.model.proofs.Debug.Call.{debug-says}
@@ -39,7 +41,7 @@ use Rattle.geometry.proofs.contains.Fit.{shapeOf, all-fit}
 -- ---- the promises of a call
 
 -- A call that is refused gives its number, and writes nothing.
-pub refused : (c : Call) (area : List Float) (n : ℕ) → n ≡ refusal c → (n ≡ 0 → ⊥) → Answers c area area (Refused n 0 0)
+pub refused : (c : Call) (area : List Float) (n : ℕ) → n ≡ refusal c → (n ≡ 0 → ⊥) → Answers c area area (Refused n 0 0 0)
 unfolding searched searchedBy areaAfter areaBy
 refused c area zero e h = absurd (h refl)
 refused c area (suc n) e h = record {
@@ -53,7 +55,7 @@ refused c area (suc n) e h = record {
   debug = debug-says c _ (λ acc. absurd (h (e ∙ acc))) result;
 }
   where
-    result : Refused (suc n) 0 0 ≡ searchedBy geop c (refusal c)
+    result : Refused (suc n) 0 0 0 ≡ searchedBy geop c (refusal c)
     result = ap (searchedBy geop c) e
 
 -- Any other is searched, and its answer keeps demand 3.
@@ -115,7 +117,7 @@ module _ (c : Call) (acc : Accepted c) (area : List Float) (long : length area �
         behind : drop (stated c) l ≡ drop (stated c) area
         behind = unfold stated in e
 
-  pub missed : (b : Bool) → b ≡ couldMeet geop (c .curve .dim) (c .curve .degree) (asPiece (c .curve) .points) (boxOf c) → b ≡ false → Nothing 0 0 ≡ searched geop c
+  pub missed : (b : Bool) → b ≡ couldMeet geop (c .curve .dim) (c .curve .degree) (asPiece (c .curve) .points) (boxOf c) → b ≡ false → Nothing 0 0 0 ≡ searched geop c
   unfolding searched searchedBy couldContain
   missed b B e = pick-no _ _ _ (sym B ∙ e) ∙ sym (ap (searchedBy geop c) acc)
 
@@ -127,41 +129,73 @@ module _ (c : Call) (acc : Accepted c) (area : List Float) (long : length area �
         let n : length (asPiece (c .curve) .points) ≡ c .curve .count = length-points (suc (c .curve .dim)) (c .curve .count) (c .curve .points) in
         record { knots = omega (arith, z .knots, n); points = omega (arith, n); wide = wide-points (suc (c .curve .dim)) (c .curve .count) (c .curve .points) }
 
+    -- the first slot holds the curve, and then its depth, which is 0
     module _ (l : List Float) (L : l ≡ placed (shapeOf c d acc) area 0 (asPiece (c .curve))) where
-      piece : pieceAt (shapeOf c d acc) l 0 ≡ asPiece (c .curve)
-      piece = ap (λ (m : List Float). pieceAt (shapeOf c d acc) m 0) L ∙ piece-placed (shapeOf c d acc) area 0 first-slot (asPiece (c .curve)) fits
+      loaded-long : length l ≡ length area
+      loaded-long = ap length L ∙ length-placed (shapeOf c d acc) area 0 first-slot (asPiece (c .curve)) fits
 
-      held : Held (shapeOf c d acc) l 0
-      held = subst (λ (m : List Float). Held (shapeOf c d acc) m 0) (sym L) (held-placed (shapeOf c d acc) area 0 first-slot (asPiece (c .curve)) fits)
+      loaded-slot : Inside (shapeOf c d acc) l 0
+      loaded-slot = inside-of (shapeOf c d acc) area l 0 loaded-long first-slot
 
-      placed-long : length l ≡ length area
-      placed-long = ap length L ∙ length-placed (shapeOf c d acc) area 0 first-slot (asPiece (c .curve)) fits
+      loaded-held : Held (shapeOf c d acc) l 0
+      loaded-held = subst (λ (m : List Float). Held (shapeOf c d acc) m 0) (sym L) (held-placed (shapeOf c d acc) area 0 first-slot (asPiece (c .curve)) fits)
 
-      ring : Ring (shapeOf c d acc) l (c .nodes + 3) 0 1
-      ring = record {
-        sized = first-slot .sized;
-        fits = omega (arith, ring-in, placed-long);
-        start = omega arith;
-        full = omega arith;
-        held = λ j h. subst (Held (shapeOf c d acc) l) (sym (at j h)) held;
-      }
-        where
-          at : (j : ℕ) → j < 1 → ringBase (shapeOf c d acc) (c .nodes + 3) 0 j ≡ 0
-          at zero h = ap (λ (k : ℕ). k * wordsOf (shapeOf c d acc)) (wrapped-head (c .nodes + 3) 0 (omega arith)) ∙ zero-mul (wordsOf (shapeOf c d acc))
-          at (suc j) h = absurd (omega arith)
+      pub loaded-room : (w : ℕ) → w ≡ wordsOf (shapeOf c d acc) → (0 < w) × (0 + w ≤ length l)
+      loaded-room w W = depth-room (shapeOf c d acc) 0 w 0 W refl l loaded-slot
 
-      pub begins : Begins (shapeOf c d acc) (question c) l
-      begins = record { ring = ring; few = z .nodes; fits = λ k. subst (λ (p : Piece). AllFit (shapeOf c d acc) (advance (visit geop (question c)) (c .nodes) k (begun p))) (sym piece) (all-fit c d acc k) }
+      module _ (w : ℕ) (W : w ≡ wordsOf (shapeOf c d acc)) (m : List Float) (M : m ≡ put l (0 + (w - 1)) (word 0 ∷ [])) where
+        deepens : m ≡ deepened (shapeOf c d acc) l 0 0 loaded-slot
+        deepens = M ∙ ap (λ (i : ℕ). put l i (word 0 ∷ [])) (depth-is (shapeOf c d acc) 0 w 0 W refl)
 
-      -- what is behind the stated words is as it was
-      pub placed-behind : drop (areaWords (c .curve .dim) (c .curve .degree) (c .curve .count) (c .nodes)) l ≡ drop (areaWords (c .curve .dim) (c .curve .degree) (c .curve .count) (c .nodes)) area
-      placed-behind =
-          ap (drop (areaWords (c .curve .dim) (c .curve .degree) (c .curve .count) (c .nodes))) L
-          ∙ beside-behind (shapeOf c d acc) 0 0 area _ (beside-placed (shapeOf c d acc) 0 area (asPiece (c .curve)) first-slot fits) (areaWords (c .curve .dim) (c .curve .degree) (c .curve .count) (c .nodes)) (omega arith) (omega arith)
+        piece : pieceAt (shapeOf c d acc) m 0 ≡ asPiece (c .curve)
+        piece =
+            ap (λ (k : List Float). pieceAt (shapeOf c d acc) k 0) deepens
+            ∙ deep-piece (shapeOf c d acc) l 0 0 loaded-slot loaded-held
+            ∙ ap (λ (k : List Float). pieceAt (shapeOf c d acc) k 0) L
+            ∙ piece-placed (shapeOf c d acc) area 0 first-slot (asPiece (c .curve)) fits
 
-      pub answers : (b : Bool) (r : Found) → b ≡ couldMeet geop (c .curve .dim) (c .curve .degree) (asPiece (c .curve) .points) (boxOf c) → b ≡ true
-          → r ≡ answered (advance (visit geop (question c)) (c .nodes) (c .nodes) (begun (pieceAt (shapeOf c d acc) l 0))) → r ≡ searched geop c
-      unfolding searched searchedBy couldContain
-      answers b r B e R =
-          R ∙ ap (λ (p : Piece). answered (advance (visit geop (question c)) (c .nodes) (c .nodes) (begun p))) piece
-          ∙ pick-yes _ _ _ (sym B ∙ e) ∙ sym (ap (searchedBy geop c) acc)
+        held : Held (shapeOf c d acc) m 0
+        held = subst (λ (k : List Float). Held (shapeOf c d acc) k 0) (sym deepens) (deep-held (shapeOf c d acc) l 0 0 loaded-slot loaded-held)
+
+        deep : DepthIs (shapeOf c d acc) m 0 0
+        deep = subst (λ (k : List Float). DepthIs (shapeOf c d acc) k 0 0) (sym deepens) (deep-is (shapeOf c d acc) l 0 0 loaded-slot)
+
+        ready-long : length m ≡ length area
+        ready-long = ap length deepens ∙ deep-long (shapeOf c d acc) l 0 0 loaded-slot ∙ loaded-long
+
+        ring : Ring (shapeOf c d acc) m (c .nodes + 3) 0 1
+        ring = record {
+          sized = first-slot .sized;
+          fits = omega (arith, ring-in, ready-long);
+          start = omega arith;
+          full = omega arith;
+          waits = λ j h. subst (Waits (shapeOf c d acc) m) (sym (at j h)) (waits-by (shapeOf c d acc) m 0 0 held deep (omega arith));
+        }
+          where
+            at : (j : ℕ) → j < 1 → ringBase (shapeOf c d acc) (c .nodes + 3) 0 j ≡ 0
+            at zero h = ap (λ (k : ℕ). k * wordsOf (shapeOf c d acc)) (wrapped-head (c .nodes + 3) 0 (omega arith)) ∙ zero-mul (wordsOf (shapeOf c d acc))
+            at (suc j) h = absurd (omega arith)
+
+        pub begins : Begins (shapeOf c d acc) (question c) m
+        begins = record {
+          ring = ring;
+          whole = depth-back (shapeOf c d acc) m 0 0 deep (omega arith);
+          few = z .nodes;
+          fits = λ k. subst (λ (p : Piece). AllFit (shapeOf c d acc) (advance (visit geop (question c)) (c .nodes) k (begun p))) (sym piece) (all-fit c d acc k);
+        }
+
+        -- what is behind the stated words is as it was
+        pub placed-behind : drop (areaWords (c .curve .dim) (c .curve .degree) (c .curve .count) (c .nodes)) m ≡ drop (areaWords (c .curve .dim) (c .curve .degree) (c .curve .count) (c .nodes)) area
+        placed-behind =
+            let words : ℕ = areaWords (c .curve .dim) (c .curve .degree) (c .curve .count) (c .nodes) in
+            ap (drop words) deepens
+            ∙ beside-behind (shapeOf c d acc) 0 0 l _ (deep-outside (shapeOf c d acc) l 0 0 loaded-slot) words (omega arith) (omega arith)
+            ∙ ap (drop words) L
+            ∙ beside-behind (shapeOf c d acc) 0 0 area _ (beside-placed (shapeOf c d acc) 0 area (asPiece (c .curve)) first-slot fits) words (omega arith) (omega arith)
+
+        pub answers : (b : Bool) (r : Found) → b ≡ couldMeet geop (c .curve .dim) (c .curve .degree) (asPiece (c .curve) .points) (boxOf c) → b ≡ true
+            → r ≡ answered (advance (visit geop (question c)) (c .nodes) (c .nodes) (begun (pieceAt (shapeOf c d acc) m 0))) → r ≡ searched geop c
+        unfolding searched searchedBy couldContain
+        answers b r B e R =
+            R ∙ ap (λ (p : Piece). answered (advance (visit geop (question c)) (c .nodes) (c .nodes) (begun p))) piece
+            ∙ pick-yes _ _ _ (sym B ∙ e) ∙ sym (ap (searchedBy geop c) acc)

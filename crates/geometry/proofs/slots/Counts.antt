@@ -16,20 +16,20 @@ use Rattle.geometry.specs.declared.slots.Shape.{Shape}
 
 -- ---- the count
 
-pub in-float : (n : ℕ) → n ≤ 64 → T (inFloat binary64 (pos n))
+pub in-float : (n : ℕ) → n ≤ 0x1_0000 → T (inFloat binary64 (pos n))
 unfolding inFloat
 in-float n h = le→leb n (2 ^ 53) (omega arith)
 
-back : (n : ℕ) → n ≤ 64 → T (inUnsigned binary64 64 (word n)) × (toUnsigned 64 (word n) ≡ n)
+back : (n : ℕ) → n ≤ 0x1_0000 → T (inUnsigned binary64 64 (word n)) × (toUnsigned 64 (word n) ≡ n)
 unfolding word
 back n h = unsigned-back binary64 64 n (in-float n h) (lt-of-le-of-lt h (lit< tt))
 
 -- a word that stands for a count can be read
-pub readable : (x : Float) (n : ℕ) → x ≡ word n → n ≤ 64 → T (inUnsigned binary64 64 x)
+pub readable : (x : Float) (n : ℕ) → x ≡ word n → n ≤ 0x1_0000 → T (inUnsigned binary64 64 x)
 readable x n e h = rw e (back n h .0)
 
 -- and what is read is the count
-pub count-back : (l : List Float) (base n : ℕ) → getD l base nan ≡ word n → n ≤ 64 → countAt l base ≡ n
+pub count-back : (l : List Float) (base n : ℕ) → getD l base nan ≡ word n → n ≤ 0x1_0000 → countAt l base ≡ n
 unfolding countAt
 count-back l base n e h = rw e (back n h .1)
 

@@ -22,8 +22,8 @@ use Rattle.geometry.proofs.Lists.Copies.{put-cover, drop-written}
 use Rattle.geometry.proofs.slots.Counts.{count-back}
 use Rattle.geometry.proofs.Lists.Numbers.{length-numbers, length-points, wide-points, numbers-points, points-numbers}
 
--- n points for which there is room, and their knots, lie in the slot
-pub room : (s : Shape) (n : ℕ) → n ≤ s .count + s .degree + 1 → s .count + 2 * s .degree + 3 + pointWords s * n ≤ wordsOf s
+-- n points for which there is room, and their knots, lie in the slot, in front of its last word
+pub room : (s : Shape) (n : ℕ) → n ≤ s .count + s .degree + 1 → s .count + 2 * s .degree + 3 + pointWords s * n < wordsOf s
 unfolding slotWords
 room s n h = let e : pointWords s * n ≤ pointWords s * (s .count + s .degree + 1) = mul-le-mul-left (pointWords s) h in omega arith
 
@@ -48,7 +48,7 @@ module _ (s : Shape) (l : List Float) (base : ℕ) (i : Inside s l base) where
     pub fits-points : pointsFrom s base + length (numbers (c .points)) ≤ length l
     fits-points = omega (arith, long, room s (length (c .points)) (f .points), i .within)
 
-    few : length (c .points) ≤ 64
+    few : length (c .points) ≤ 0x1_0000
     few = omega (arith, f .points, i .sized .degree, i .sized .count)
 
     first : List Float

@@ -50,7 +50,7 @@ module _ (c : Call) (d : Doubles c) (acc : Accepted c) where
   unfolding debug.couldContain couldContain
   by Good w sees fines = rw (door-fine (c .curve .dim) (c .curve .degree) (s .points) (boxOf c) (curve-held c d acc) (asked c d acc .long) (box-bounded c d acc)) (go (couldMeet geop (c .curve .dim) (c .curve .degree) (s .points) (boxOf c)))
     where
-      go : (z : Bool) → cond z (debug.advance (debug.visit q) (c .nodes) (c .nodes) (begun s) >>= λ t. fine (answered t)) (fine (Nothing 0 0)) ≡ fine (cond z (answered (advance (visit geop q) (c .nodes) (c .nodes) (begun s))) (Nothing 0 0))
+      go : (z : Bool) → cond z (debug.advance (debug.visit q) (c .nodes) (c .nodes) (begun s) >>= λ t. fine (answered t)) (fine (Nothing 0 0 0)) ≡ fine (cond z (answered (advance (visit geop q) (c .nodes) (c .nodes) (begun s))) (Nothing 0 0 0))
       go true = rw (advance-fine (visit geop q) (debug.visit q) (c .nodes) (Told c d acc geop geop-encloses) Good (λ _ t. t .1) (told-union c d acc geop geop-encloses) sees fines (c .nodes) (begun s) (record { pieces = (w, tt); inside = tt })) refl
       go false = refl
 

@@ -7,7 +7,7 @@ use Rattle.math.specs.declared.scalars.Scalar.{Scalar}
 use Rattle.math.specs.Scalars.{unionS}
 use Rattle.math.specs.Values.{Proper}
 use Rattle.model.specs.NurbCurve.{Piece}
-use Rattle.model.specs.Subdivide.{Visit, dropped, reported, restricted, halved, badWeight, State, Step, going, over, withVisit, joined, after, ended, step, advance}
+use Rattle.model.specs.Subdivide.{Visit, dropped, reported, restricted, halved, badWeight, Waiting, State, Step, going, over, withVisit, joined, after, ended, step, advance}
 use Rattle.model.specs.declared.subdivide.Counts.{Counts}
 use Rattle.model.specs.declared.contains.Found.{Found}
 use Rattle.model.specs.Tested.{Tested, fine, _>>=_}
@@ -18,7 +18,7 @@ use Rattle.model.proofs.Debug.Ops.{union-fine}
 -- what is reported has the property In, and is in order
 module _ (see : Piece → Visit) (see′ : Piece → Tested Visit) (nodes : ℕ) (In : Scalar → Type 0) (Good : Piece → Type 0) (proper : (s : Scalar) → In s → Proper s) (join : (s t : Scalar) → In s → In t → In (unionS s t))
     (sees : (c : Piece) → Good c → see′ c ≡ fine (see c)) (fines : (c : Piece) → Good c → Fine In Good (see c)) where
-  abbrev Ok : List Piece → Option Scalar → Type 0
+  abbrev Ok : List Waiting → Option Scalar → Type 0
   Ok = Ready see nodes In Good join fines
 
   joined-fine : (f : Option Scalar) (t : Scalar) → Reported In (Unit {0}) f → In t → debug.joined f t ≡ fine (joined f t)
@@ -26,18 +26,18 @@ module _ (see : Piece → Visit) (see′ : Piece → Tested Visit) (nodes : ℕ)
   joined-fine none t h k = refl
   joined-fine (some s) t h k = union-fine s t (proper s h) (proper t k)
 
-  after-fine : (cs : List Piece) (v : Counts) (f : Option Scalar) (w : Visit) → Reported In (Unit {0}) f → Fine In Good w → debug.after cs v f w ≡ fine (after cs v f w)
+  after-fine : (cs : List Waiting) (d : ℕ) (v : Counts) (f : Option Scalar) (w : Visit) → Reported In (Unit {0}) f → Fine In Good w → debug.after cs d v f w ≡ fine (after cs d v f w)
   unfolding debug.after after
-  after-fine cs v f dropped i h = refl
-  after-fine cs v f (reported t) i h = rw (joined-fine f t i h) refl
-  after-fine cs v f (restricted n c) i h = refl
-  after-fine cs v f (halved l r) i h = refl
-  after-fine cs v f badWeight i h = refl
+  after-fine cs d v f dropped i h = refl
+  after-fine cs d v f (reported t) i h = rw (joined-fine f t i h) refl
+  after-fine cs d v f (restricted n c) i h = refl
+  after-fine cs d v f (halved l r) i h = refl
+  after-fine cs d v f badWeight i h = refl
 
-  step-fine : (l : List Piece) (v : Counts) (f : Option Scalar) → Ok l f → debug.step see′ l v f ≡ fine (step see l v f)
+  step-fine : (l : List Waiting) (v : Counts) (f : Option Scalar) → Ok l f → debug.step see′ l v f ≡ fine (step see l v f)
   unfolding debug.step step
   step-fine [] v f r = refl
-  step-fine (c ∷ cs) v f r = rw (sees c (r .pieces .0)) (after-fine cs (withVisit v) f (see c) (r .inside) (fines c (r .pieces .0)))
+  step-fine (c ∷ cs) v f r = rw (sees (c .piece) (r .pieces .0)) (after-fine cs (c .depth) (withVisit (c .depth) v) f (see (c .piece)) (r .inside) (fines (c .piece) (r .pieces .0)))
 
   -- THE SEARCH
   pub advance-fine : (k : ℕ) (s : State) → Ready see nodes In Good join fines (s .queue) (s .found) → debug.advance see′ nodes k s ≡ fine (advance see nodes k s)

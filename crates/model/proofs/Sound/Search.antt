@@ -11,7 +11,7 @@ use Rattle.math.specs.declared.scalars.Scalar.{Scalar}
 use Rattle.math.specs.Scalars.{unionS}
 use Rattle.math.proofs.Bools.{pick}
 use Rattle.model.specs.NurbCurve.{Piece}
-use Rattle.model.specs.Subdivide.{Visit, dropped, reported, restricted, halved, badWeight, State, Step, going, over, withVisit, positiveZero, joined, complete, after, ended, step, stop, advance, answered}
+use Rattle.model.specs.Subdivide.{Visit, dropped, reported, restricted, halved, badWeight, Waiting, State, Step, going, over, positiveZero, joined, complete, spentWith, after, ended, step, stop, advance, answered}
 use Rattle.model.specs.Enclosure.{Every}
 use Rattle.model.specs.declared.subdivide.Counts.{Counts}
 use Rattle.model.specs.declared.contains.Found.{Found}
@@ -34,17 +34,17 @@ some-right P (x ∷ l) m h = inr (some-right P l m h)
 
 -- ---- what is asked of an answer, where In is asked of what is reported
 abbrev pub Right : (Scalar → Type 0) → Found → Type 0
-Right In (Nothing v k) = Unit {0}
-Right In (Enclosed lo hi v k) = (t : Scalar) × (In t × ((lo ≡ positiveZero (t .lo)) × (hi ≡ positiveZero (t .hi))))
-Right In (Spent n v k) = Unit {0}
-Right In (Refused n v k) = n ≡ 11
+Right In (Nothing v k e) = Unit {0}
+Right In (Enclosed lo hi v k e) = (t : Scalar) × (In t × ((lo ≡ positiveZero (t .lo)) × (hi ≡ positiveZero (t .hi))))
+Right In (Spent n v k e) = Unit {0}
+Right In (Refused n v k e) = n ≡ 11
 
 -- and what is asked of it besides, where there is a hit
 abbrev pub Hit : (Scalar → Type 0) → Found → Type 0
-Hit At (Nothing v k) = ⊥
-Hit At (Enclosed lo hi v k) = (t : Scalar) × (At t × ((lo ≡ positiveZero (t .lo)) × (hi ≡ positiveZero (t .hi))))
-Hit At (Spent n v k) = Unit {0}
-Hit At (Refused n v k) = Unit {0}
+Hit At (Nothing v k e) = ⊥
+Hit At (Enclosed lo hi v k e) = (t : Scalar) × (At t × ((lo ≡ positiveZero (t .lo)) × (hi ≡ positiveZero (t .hi))))
+Hit At (Spent n v k e) = Unit {0}
+Hit At (Refused n v k e) = Unit {0}
 
 -- ---- what is asked of a visit
 abbrev pub Fine : (Scalar → Type 0) → (Piece → Type 0) → Visit → Type 0
@@ -76,8 +76,12 @@ Reported P before (some t) = P t
 
 -- ---- every state is ready: accepted pieces, and reports inside the domain
 module _ (visit : Piece → Visit) (nodes : ℕ) (In : Scalar → Type 0) (Ok : Piece → Type 0) (join : (s t : Scalar) → In s → In t → In (unionS s t)) (fine : (c : Piece) → Ok c → Fine In Ok (visit c)) where
-  pub record Ready (l : List Piece) (f : Option Scalar) : Type 0 where
-    pub pieces : Every Ok l
+  -- what is asked of a piece is asked of one that waits, whatever its depth
+  abbrev OkW : Waiting → Type 0
+  OkW w = Ok (w .piece)
+
+  pub record Ready (l : List Waiting) (f : Option Scalar) : Type 0 where
+    pub pieces : Every (λ w. Ok (w .piece)) l
     pub inside : Reported In (Unit {0}) f
 
   abbrev pub Stands : Step → Type 0
@@ -98,23 +102,23 @@ module _ (visit : Piece → Visit) (nodes : ℕ) (In : Scalar → Type 0) (Ok : 
   Ends none = Unit {0}
   Ends (some r) = Right In r
 
-  ends : (l : List Piece) (v : Counts) (f : Option Scalar) → Ready l f → Ends (ended nodes l v f)
+  ends : (l : List Waiting) (v : Counts) (f : Option Scalar) → Ready l f → Ends (ended nodes l v f)
   unfolding ended Ends
   ends [] v f r = completes f v (r .inside)
-  ends (c ∷ cs) v f r = pick Ends (ltb (v .visited) nodes) none (some (Spent (suc (length cs)) (v .visited) (v .cuts))) (λ _. tt) (λ _. tt)
+  ends (c ∷ cs) v f r = pick Ends (ltb (v .visited) nodes) none (some (spentWith (suc (length cs)) v)) (λ _. tt) (λ _. tt)
 
-  afters : (cs : List Piece) (v : Counts) (f : Option Scalar) (w : Visit) → Every Ok cs → Reported In (Unit {0}) f → Fine In Ok w → Stands (after cs v f w)
+  afters : (cs : List Waiting) (d : ℕ) (v : Counts) (f : Option Scalar) (w : Visit) → Every (λ w. Ok (w .piece)) cs → Reported In (Unit {0}) f → Fine In Ok w → Stands (after cs d v f w)
   unfolding after
-  afters cs v f dropped e i h = record { pieces = e; inside = i }
-  afters cs v f (reported t) e i h = record { pieces = e; inside = joins f t i h }
-  afters cs v f (restricted n c) e i h = record { pieces = every-append Ok cs (c ∷ []) e (h, tt); inside = i }
-  afters cs v f (halved l r) e i h = record { pieces = every-append Ok cs (l ∷ r ∷ []) e (h .0, (h .1, tt)); inside = i }
-  afters cs v f badWeight e i h = refl
+  afters cs d v f dropped e i h = record { pieces = e; inside = i }
+  afters cs d v f (reported t) e i h = record { pieces = e; inside = joins f t i h }
+  afters cs d v f (restricted n c) e i h = record { pieces = every-append OkW cs _ e (h, tt); inside = i }
+  afters cs d v f (halved l r) e i h = record { pieces = every-append OkW cs _ e (h .0, (h .1, tt)); inside = i }
+  afters cs d v f badWeight e i h = refl
 
-  pub steps : (l : List Piece) (v : Counts) (f : Option Scalar) → Ready l f → Stands (step visit l v f)
+  pub steps : (l : List Waiting) (v : Counts) (f : Option Scalar) → Ready l f → Stands (step visit l v f)
   unfolding step
   steps [] v f r = completes f v (r .inside)
-  steps (c ∷ cs) v f r = afters cs (withVisit v) f (visit c) (r .pieces .1) (r .inside) (fine c (r .pieces .0))
+  steps (c ∷ cs) v f r = afters cs _ _ f (visit (c .piece)) (r .pieces .1) (r .inside) (fine (c .piece) (r .pieces .0))
 
   pub stands : (k : ℕ) (s : State) → Ready (s .queue) (s .found) → Stands (advance visit nodes k s)
   unfolding advance stop Ends
@@ -143,8 +147,11 @@ module _ (visit : Piece → Visit) (nodes : ℕ) (In : Scalar → Type 0) (Ok : 
 
   -- ---- and nothing is lost: a hit that is held by a piece that waits, or by what was reported, stays held
   module _ (At : Scalar → Type 0) (Has : Piece → Type 0) (left : (s t : Scalar) → At s → At (unionS s t)) (right : (s t : Scalar) → At t → At (unionS s t)) (kept : (c : Piece) → Ok c → Has c → Kept At Has (visit c)) where
-    abbrev pub Alive : List Piece → Option Scalar → Type 0
-    Alive l f = Some Has l ⊎ Reported At ⊥ f
+    abbrev HasW : Waiting → Type 0
+    HasW w = Has (w .piece)
+
+    abbrev pub Alive : List Waiting → Option Scalar → Type 0
+    Alive l f = Some (λ w. Has (w .piece)) l ⊎ Reported At ⊥ f
 
     abbrev pub Lives : Step → Type 0
     Lives (going s) = Alive (s .queue) (s .found)
@@ -169,36 +176,36 @@ module _ (visit : Piece → Visit) (nodes : ℕ) (In : Scalar → Type 0) (Ok : 
     Ended none = Unit {0}
     Ended (some r) = Hit At r
 
-    last : (l : List Piece) (v : Counts) (f : Option Scalar) → Alive l f → Ended (ended nodes l v f)
+    last : (l : List Waiting) (v : Counts) (f : Option Scalar) → Alive l f → Ended (ended nodes l v f)
     unfolding ended Ended
     last [] v f (inl h) = absurd h
     last [] v f (inr h) = completed f v h
-    last (c ∷ cs) v f h = pick Ended (ltb (v .visited) nodes) none (some (Spent (suc (length cs)) (v .visited) (v .cuts))) (λ _. tt) (λ _. tt)
+    last (c ∷ cs) v f h = pick Ended (ltb (v .visited) nodes) none (some (spentWith (suc (length cs)) v)) (λ _. tt) (λ _. tt)
 
     -- the visit of a piece that may hold the hit, where another piece or a report may hold it too
-    next : (cs : List Piece) (v : Counts) (f : Option Scalar) (w : Visit) → Kept At Has w ⊎ Alive cs f → Lives (after cs v f w)
+    next : (cs : List Waiting) (d : ℕ) (v : Counts) (f : Option Scalar) (w : Visit) → Kept At Has w ⊎ Alive cs f → Lives (after cs d v f w)
     unfolding after
-    next cs v f dropped (inl h) = absurd h
-    next cs v f dropped (inr h) = h
-    next cs v f (reported t) (inl h) = inr (latest f t h)
-    next cs v f (reported t) (inr (inl h)) = inl h
-    next cs v f (reported t) (inr (inr h)) = inr (earlier f t h)
-    next cs v f (restricted n c) (inl h) = inl (some-right Has cs (c ∷ []) (inl h))
-    next cs v f (restricted n c) (inr (inl h)) = inl (some-left Has cs (c ∷ []) h)
-    next cs v f (restricted n c) (inr (inr h)) = inr h
-    next cs v f (halved l r) (inl (inl h)) = inl (some-right Has cs (l ∷ r ∷ []) (inl h))
-    next cs v f (halved l r) (inl (inr h)) = inl (some-right Has cs (l ∷ r ∷ []) (inr (inl h)))
-    next cs v f (halved l r) (inr (inl h)) = inl (some-left Has cs (l ∷ r ∷ []) h)
-    next cs v f (halved l r) (inr (inr h)) = inr h
-    next cs v f badWeight h = tt
+    next cs d v f dropped (inl h) = absurd h
+    next cs d v f dropped (inr h) = h
+    next cs d v f (reported t) (inl h) = inr (latest f t h)
+    next cs d v f (reported t) (inr (inl h)) = inl h
+    next cs d v f (reported t) (inr (inr h)) = inr (earlier f t h)
+    next cs d v f (restricted n c) (inl h) = inl (some-right HasW cs _ (inl h))
+    next cs d v f (restricted n c) (inr (inl h)) = inl (some-left HasW cs _ h)
+    next cs d v f (restricted n c) (inr (inr h)) = inr h
+    next cs d v f (halved l r) (inl (inl h)) = inl (some-right HasW cs _ (inl h))
+    next cs d v f (halved l r) (inl (inr h)) = inl (some-right HasW cs _ (inr (inl h)))
+    next cs d v f (halved l r) (inr (inl h)) = inl (some-left HasW cs _ h)
+    next cs d v f (halved l r) (inr (inr h)) = inr h
+    next cs d v f badWeight h = tt
 
-    visits : (l : List Piece) (v : Counts) (f : Option Scalar) → Every Ok l → Alive l f → Lives (step visit l v f)
+    visits : (l : List Waiting) (v : Counts) (f : Option Scalar) → Every (λ w. Ok (w .piece)) l → Alive l f → Lives (step visit l v f)
     unfolding step
     visits [] v f e (inl h) = absurd h
     visits [] v f e (inr h) = completed f v h
-    visits (c ∷ cs) v f e (inl (inl h)) = next cs (withVisit v) f (visit c) (inl (kept c (e .0) h))
-    visits (c ∷ cs) v f e (inl (inr h)) = next cs (withVisit v) f (visit c) (inr (inl h))
-    visits (c ∷ cs) v f e (inr h) = next cs (withVisit v) f (visit c) (inr (inr h))
+    visits (c ∷ cs) v f e (inl (inl h)) = next cs _ _ f (visit (c .piece)) (inl (kept (c .piece) (e .0) h))
+    visits (c ∷ cs) v f e (inl (inr h)) = next cs _ _ f (visit (c .piece)) (inr (inl h))
+    visits (c ∷ cs) v f e (inr h) = next cs _ _ f (visit (c .piece)) (inr (inr h))
 
     pub lives : (k : ℕ) (s : State) → Ready (s .queue) (s .found) → Alive (s .queue) (s .found) → Lives (advance visit nodes k s)
     unfolding advance stop Ended

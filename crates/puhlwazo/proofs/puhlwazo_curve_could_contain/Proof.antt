@@ -26,10 +26,10 @@ same-length c = search needs
 -- What is given out can be read back.
 read-back : (f : Found) → f ≡ readBack (numberOf f) (countsOf f) (boundsOf f)
 unfolding countsOf boundsOf
-read-back (Nothing v k) = refl
-read-back (Enclosed lo hi v k) = refl
-read-back (Spent n v k) = refl
-read-back (Refused n v k) = refl
+read-back (Nothing v k d) = refl
+read-back (Enclosed lo hi v k d) = refl
+read-back (Spent n v k d) = refl
+read-back (Refused n v k d) = refl
 
 returns : tie.Need-returns
 returns c =

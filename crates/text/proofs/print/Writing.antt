@@ -151,15 +151,15 @@ written-as of {l = l} {m = m} {at = at} {r = r} e w h = (subst (λ (x : Found). 
 -- an answer that is not Enclosed has no bounds
 unbounded : (f : Found) → (tagOf the-type f ≡ 0) ⊎ ((tagOf the-type f ≡ 2) ⊎ (tagOf the-type f ≡ 3))
     → paper f .bounds ≡ none
-unbounded (Nothing v k) h = refl
-unbounded (Enclosed lo hi v c) h = absurd (other 1 (omega arith) (omega arith) h)
+unbounded (Nothing v k d) h = refl
+unbounded (Enclosed lo hi v c d) h = absurd (other 1 (omega arith) (omega arith) h)
   where
     other : (k : ℕ) → 0 < k → k < 2 → (k ≡ 0) ⊎ ((k ≡ 2) ⊎ (k ≡ 3)) → ⊥
     other k a b h =
         ⊎-elim (λ (e : k ≡ 0). omega arith)
         (λ (g : (k ≡ 2) ⊎ (k ≡ 3)). ⊎-elim (λ (e : k ≡ 2). omega arith) (λ (e : k ≡ 3). omega arith) g) h
-unbounded (Spent n v k) h = refl
-unbounded (Refused n v k) h = refl
+unbounded (Spent n v k d) h = refl
+unbounded (Refused n v k d) h = refl
 
 -- their lines
 pub dashes-written : (f : Found) {l m : List ℕ} {at r : ℕ}
@@ -182,19 +182,21 @@ pub five-joined : {l m₁ m₂ m₃ m₄ m₅ : List ℕ} {at p q r s t : ℕ} {
     → Written l at (a ++ b ++ c ++ d ++ e) m₅ t
 five-joined h u v w x y = joined (omega arith) (four-joined (omega arith) u v w x) y
 
--- The lines of the counts: the three counts behind their keys, and the end of the last line.
-pub counts-written : (f : Found) (v k n : ℕ) {l m₁ m₂ m₃ m₄ : List ℕ} {at p q r s : ℕ}
-    → v ≡ paper f .visited → k ≡ paper f .cuts → n ≡ paper f .pending → s ≤ length l
+-- The lines of the counts: the four counts behind their keys, and the end of the last line.
+pub counts-written : (f : Found) (v k d n : ℕ) {l m₁ m₂ m₃ m₄ m₅ : List ℕ} {at p q r s t : ℕ}
+    → v ≡ paper f .visited → k ≡ paper f .cuts → d ≡ paper f .depth → n ≡ paper f .pending → t ≤ length l
     → Written l at (bytes "\nvisited=" ++ decimal v) m₁ p → Written m₁ p (bytes "\ncuts=" ++ decimal k) m₂ q
-    → Written m₂ q (bytes "\npending=" ++ decimal n) m₃ r → Written m₃ r (bytes "\n") m₄ s
-    → Written l at (countLines (paper f)) m₄ s
+    → Written m₂ q (bytes "\ndepth=" ++ decimal d) m₃ r → Written m₃ r (bytes "\npending=" ++ decimal n) m₄ s
+    → Written m₄ s (bytes "\n") m₅ t → Written l at (countLines (paper f)) m₅ t
 unfolding countLines
-counts-written f v k n {l} {m₄ = m₄} {at = at} {s = s} a b c h w x y z =
-    subst (λ (ws : List ℕ). Written l at ws m₄ s)
-    (λ i. (bytes "\nvisited=" ++ decimal (a i)) ++ (bytes "\ncuts=" ++ decimal (b i)) ++ (bytes "\npending=" ++ decimal (c i)) ++ bytes "\n")
-    (four-joined h w x y z)
+counts-written f v k d n {l} {m₅ = m₅} {at = at} {t = t} a b c e h u w x y z =
+    subst (λ (ws : List ℕ). Written l at ws m₅ t)
+    (λ i.
+    (bytes "\nvisited=" ++ decimal (a i)) ++ (bytes "\ncuts=" ++ decimal (b i)) ++ (bytes "\ndepth=" ++ decimal (c i))
+    ++ (bytes "\npending=" ++ decimal (e i)) ++ bytes "\n")
+    (five-joined h u w x y z)
 
--- The six lines: the word of the result behind its key, the lines of the counts, and those of the bounds.
+-- The seven lines: the word of the result behind its key, the lines of the counts, and those of the bounds.
 pub printed-written : (f : Found) {l m₁ m₂ m₃ m₄ : List ℕ} {p q r s : ℕ} → s ≤ length l
     → Written l 0 (bytes "result=") m₁ p → Written m₁ p (resultWord (paper f .result)) m₂ q
     → Written m₂ q (countLines (paper f)) m₃ r → Written m₃ r (boundLines (paper f .bounds)) m₄ s

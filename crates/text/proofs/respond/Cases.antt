@@ -38,7 +38,7 @@ module _ (s : Sizes) (text : List ℕ) (spec : Read Numbers) (l m : List Float) 
   after x = answeredBy (completeBy s (length text) x)
 
   -- they are of another form
-  pub numbers-bad : r ≡ NoNumber → Refused 12 0 0 ≡ after spec
+  pub numbers-bad : r ≡ NoNumber → Refused 12 0 0 0 ≡ after spec
   unfolding completeBy answeredBy
   numbers-bad e = sym (ap after (subst (NumbersRead text spec s l m) e h))
 
@@ -54,12 +54,12 @@ module _ (s : Sizes) (text : List ℕ) (spec : Read Numbers) (l m : List Float) 
         sym (λ j. answeredBy (cond (A j && B j) (asks s (seen .says)) (refusedBy 12))) ∙ ap after (sym (seen .reads))
 
     -- the text is too long
-    pub numbers-long : 65536 < length text → Refused 12 0 0 ≡ after spec
+    pub numbers-long : 65536 < length text → Refused 12 0 0 0 ≡ after spec
     unfolding answeredBy
     numbers-long a = by-tests (lt-leb (length text) 65536 a) refl
 
     -- something stands behind the last line
-    pub numbers-more : length text ≤ 65536 → i < length text → Refused 12 0 0 ≡ after spec
+    pub numbers-more : length text ≤ 65536 → i < length text → Refused 12 0 0 0 ≡ after spec
     unfolding answeredBy
     numbers-more a b =
         by-tests (le-leb (length text) 65536 a)
@@ -81,7 +81,7 @@ module _ (text : List ℕ) (r : Head) (h : HeadRead text (sizes text) r) where
   abbrev from : Read Sizes → Found
   from x = answeredBy (readBy (length text) x)
 
-  pub head-bad : r ≡ NoHead → Refused 12 0 0 ≡ answered text
+  pub head-bad : r ≡ NoHead → Refused 12 0 0 0 ≡ answered text
   unfolding answered reading readBy answeredBy
   head-bad e = sym (ap from (subst (HeadRead text (sizes text)) e h))
 
@@ -103,11 +103,11 @@ module _ (text : List ℕ) (r : Head) (h : HeadRead text (sizes text) r) where
     unfolding answered reading readBy
     same k K = ap opened K ∙ sym (ap from (head-seen .1))
 
-    pub head-refused : (k : ℕ) → k ≡ sizesRefusal d p n → (k ≡ 0 → ⊥) → Refused k 0 0 ≡ answered text
+    pub head-refused : (k : ℕ) → k ≡ sizesRefusal d p n → (k ≡ 0 → ⊥) → Refused k 0 0 0 ≡ answered text
     head-refused zero K never = absurd (never refl)
     head-refused (suc k) K never = one ∙ same (suc k) K
       where
-        one : Refused (suc k) 0 0 ≡ opened (suc k)
+        one : Refused (suc k) 0 0 0 ≡ opened (suc k)
         one = unfold answeredBy openedBy in refl
 
     pub head-asked : (k : ℕ) (f : Found) → k ≡ sizesRefusal d p n → k ≡ 0
@@ -120,21 +120,21 @@ module _ (text : List ℕ) (r : Head) (h : HeadRead text (sizes text) r) where
 -- ---- what is written
 
 -- All of it, where there is room.
-pub responds : (text : List ℕ) {l m : List ℕ} {f : Found} {r : ℕ} → f ≡ answered text → 160 ≤ length l
-    → length m ≡ length l → r ≤ 160
+pub responds : (text : List ℕ) {l m : List ℕ} {f : Found} {r : ℕ} → f ≡ answered text → 192 ≤ length l
+    → length m ≡ length l → r ≤ 192
     → Written l 0 (printed (paper f)) m r → Written l 0 (fitting (length l) text) m r × Counts r m
 responds text {l} {m} {f} {r} F room long few w =
     let whole : printed (paper f) ≡ fitting (length l) text =
-    same ∙ pick-yes (leb 160 (length l)) (response text) [] (le-leb 160 (length l) room) in
+    same ∙ pick-yes (leb 192 (length l)) (response text) [] (le-leb 192 (length l) room) in
     (subst (λ (x : List ℕ). Written l 0 x m r) whole w, (omega arith, sym (length-take-le r m (omega arith))))
   where
     same : printed (paper f) ≡ response text
     same = unfold response in ap (λ (x : Found). printed (paper x)) F
 
 -- Nothing, where there is not.
-pub too-short : (text l : List ℕ) → length l < 160 → Written l 0 (fitting (length l) text) l 0 × Counts 0 l
+pub too-short : (text l : List ℕ) → length l < 192 → Written l 0 (fitting (length l) text) l 0 × Counts 0 l
 too-short text l h =
     let nothing : [] ≡ fitting (length l) text =
-    pick-no (leb 160 (length l)) (response text) [] (lt-leb 160 (length l) h) in
+    pick-no (leb 192 (length l)) (response text) [] (lt-leb 192 (length l) h) in
     let w : Written l 0 [] l 0 = record { memory = sym (put-nil l 0); end = refl } in
     (subst (λ (x : List ℕ). Written l 0 x l 0) nothing w, (omega arith, sym (length-take-le 0 l (omega arith))))

@@ -35,6 +35,9 @@ mul-result-4 c = search needs
 add-result-6 : tie.Need-add-result-6
 add-result-6 c = omega (arith, few-points (c .args .dim) (c .args .count) (c .args .degree) (omega arith) (omega arith) (omega arith) .1)
 
+add-result-7 : tie.Need-add-result-7
+add-result-7 c = omega (arith, few-points (c .args .dim) (c .args .count) (c .args .degree) (omega arith) (omega arith) (omega arith) .1)
+
 returns : tie.Need-returns
 returns c = slot-words (c .args .dim) (c .args .degree) (c .args .count)
 
@@ -52,4 +55,5 @@ slot-words-spec =
     add-result-5
     mul-result-4
     add-result-6
+    add-result-7
     returns)

@@ -22,7 +22,7 @@ unfolding complete
 returns-2 c =
     let n = c .before .before in
     let a = n .before .before .before .args in
-    (λ i. Enclosed (c .before .positive-zero .ensures i) (c .positive-zero2 .ensures i) (a .v .visited) (a .v .cuts)) ∙ ap (λ f. complete f (a .v)) (sym (found-some (a .f) (n .if1 .left)))
+    (λ i. Enclosed (c .before .positive-zero .ensures i) (c .positive-zero2 .ensures i) (a .v .visited) (a .v .cuts) (a .v .depth)) ∙ ap (λ f. complete f (a .v)) (sym (found-some (a .f) (n .if1 .left)))
 
 pub completed-spec : {M : Type 1} → statement M
 completed-spec = tie.close (tie.spec returns positive-zero-requires positive-zero-requires-2 returns-2)

@@ -6,7 +6,7 @@ use lib.Ieee.{ofBits}
 use borrow.Author.Tests.{not-true, not-false}
 use Rattle.model.specs.Call.{Call, lent}
 use Rattle.model.proofs.Sound.Accepted.{Sizes, sizes}
-use Rattle.geometry.proofs.contains.Lent.{words-in, first-slot, door-asks, box-long, area-left, missed, begins, placed-behind, answers}
+use Rattle.geometry.proofs.contains.Lent.{words-in, first-slot, door-asks, box-long, area-left, missed, loaded-room, begins, placed-behind, answers}
 use borrow.Author.Needs.{needs}
 use Rattle.geometry.proofs.contains.search_lent.Statement.{statement}
 use Rattle.geometry.proofs.contains.search_lent.Tie as tie
@@ -26,7 +26,10 @@ from-words c = c .before .before .before .before .before
 abbrev from-door : tie.After-curve-could-meet-aabb → tie.Start
 from-door c = from-words (c .before)
 
-abbrev loaded : tie.After-search-ring → tie.After-load
+abbrev ready : tie.After-search-ring → tie.After-set-depth
+ready c = c .before .before .before .before
+
+abbrev loaded : tie.After-slot-words → tie.After-load
 loaded c = c .before .before .before .before
 
 abbrev door : tie.After-load → tie.Else1
@@ -64,19 +67,34 @@ returns c =
 load-requires : tie.Need-load-requires
 load-requires c κs = let k = from-door (c .before .before) in (first-slot (asked k) (k .pre .0) (k .args .work .now) refl, of k .knots, of k .points)
 
+slot-words-requires : tie.Need-slot-words-requires
+slot-words-requires c κs =
+    let k = from-door (door (c .before .before .before) .before) in
+    let z = first-slot (asked k) (k .pre .0) (k .args .work .now) refl .sized in
+    (z .dim, (z .degree, z .count))
+
+set-depth-requires : tie.Need-set-depth-requires
+set-depth-requires c κs =
+    let at-load = loaded c in
+    let k = from-door (door at-load .before) in
+    let room = loaded-room (asked k) (k .pre .0) (k .args .work .now) refl (k .pre .1) _ (at-load .load .ensures) _ (c .slot-words .ensures) in
+    (room .0, room .1, omega arith)
+
 search-ring-requires : tie.Need-search-ring-requires
 search-ring-requires c κs =
-    let at-load = c .before .before .before in
+    let deep = c .before .before .before in
+    let at-load = loaded (deep .before) in
     let k = from-door (door at-load .before) in
-    (begins (asked k) (k .pre .0) (k .args .work .now) refl (k .pre .1) _ (at-load .load .ensures), box-long (asked k) (k .pre .0) (k .args .work .now) refl)
+    (begins (asked k) (k .pre .0) (k .args .work .now) refl (k .pre .1) _ (at-load .load .ensures) _ (deep .before .slot-words .ensures) _ (deep .set-depth .ensures), box-long (asked k) (k .pre .0) (k .args .work .now) refl)
 
 fill-requires-2 : tie.Need-fill-requires-2
 fill-requires-2 c κs =
     let at-ring = c .before .before .before in
-    let at-load = loaded at-ring in
+    let deep = ready at-ring in
+    let at-load = loaded (deep .before) in
     let at-words = door at-load .before .before in
     let k = from-words at-words in
-    omega (arith, words-in (asked k) (k .pre .0) (k .args .work .now) refl _ (at-words .stated-words .ensures) (at-ring .search-ring .last .0) (at-ring .search-ring .kept .0 ∙ at-load .load .kept .0))
+    omega (arith, words-in (asked k) (k .pre .0) (k .args .work .now) refl _ (at-words .stated-words .ensures) (at-ring .search-ring .last .0) (at-ring .search-ring .kept .0 ∙ deep .set-depth .kept .0 ∙ at-load .load .kept .0))
 
 same-length-2 : tie.Need-same-length-2
 same-length-2 c = search needs
@@ -86,14 +104,15 @@ unfolding ofBits
 returns-2 c =
     let filled = c .before .before in
     let at-ring = filled .before .before .before .before in
-    let at-load = loaded at-ring in
+    let deep = ready at-ring in
+    let at-load = loaded (deep .before) in
     let passes = door at-load in
     let at-door = passes .before in
     let k = from-door at-door in
     let area = k .args .work .now in
     let r = at-ring .search-ring .ensures in record {
-      result = answers (asked k) (k .pre .0) area refl (k .pre .1) _ (at-load .load .ensures) _ _ (at-door .curve-could-meet-aabb .ensures) (not-false _ (passes .if1 .left)) (r .found);
-      memory = area-left (asked k) (k .pre .0) area refl _ (at-door .before .stated-words .ensures) _ _ (r .rest ∙ placed-behind (asked k) (k .pre .0) area refl (k .pre .1) _ (at-load .load .ensures)) (filled .fill2 .ensures);
+      result = answers (asked k) (k .pre .0) area refl (k .pre .1) _ (at-load .load .ensures) _ (deep .before .slot-words .ensures) _ (deep .set-depth .ensures) _ _ (at-door .curve-could-meet-aabb .ensures) (not-false _ (passes .if1 .left)) (r .found);
+      memory = area-left (asked k) (k .pre .0) area refl _ (at-door .before .stated-words .ensures) _ _ (r .rest ∙ placed-behind (asked k) (k .pre .0) area refl (k .pre .1) _ (at-load .load .ensures) _ (deep .before .slot-words .ensures) _ (deep .set-depth .ensures)) (filled .fill2 .ensures);
     }
 
 pub search-lent-spec : {M : Type 1} → statement M
@@ -106,6 +125,8 @@ search-lent-spec =
     same-length
     returns
     load-requires
+    slot-words-requires
+    set-depth-requires
     search-ring-requires
     fill-requires-2
     same-length-2

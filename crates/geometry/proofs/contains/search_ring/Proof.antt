@@ -1,5 +1,5 @@
 -- `search_ring` equals its definition: what is left to search from where it stands is what was to search from the start.
-use Prim.Native.Nat.{ℕ, _-_}
+use Prim.Native.Nat.{ℕ, _-_, _<_}
 use native.Mathlib.Omega.{arith}
 use lib.Ieee.{Float}
 use mathlib.Core.List.{List}
@@ -11,7 +11,8 @@ use Rattle.model.specs.Contains.{visit}
 use Rattle.model.specs.declared.subdivide.Counts.{Counts}
 use Rattle.geometry.specs.State.{askedOf, Going}
 use Rattle.geometry.specs.declared.slots.Shape.{Shape}
-use Rattle.geometry.proofs.contains.Search.{turned, cuts-few, going-start, going-none, going-spent, going-room, going-fit, going-rest, going-bad, going-on}
+use Rattle.model.proofs.Cuts.{OneOrTwo, visit-cuts}
+use Rattle.geometry.proofs.contains.Search.{turned, next-at, cuts-few, going-start, going-none, going-spent, going-waits, going-cuts, going-room, going-depth, going-fit, going-rest, going-bad, going-on}
 use borrow.Author.Needs.{needs}
 use Rattle.geometry.proofs.contains.search_ring.Statement.{statement}
 use Rattle.geometry.proofs.contains.search_ring.Tie as tie
@@ -20,14 +21,42 @@ use Rattle.geometry.proofs.contains.search_ring.Tie as tie
 abbrev seeing : Shape → List Float → Float → ℕ → Piece → Visit
 seeing s box resolution nodes = visit geop (askedOf s box resolution nodes)
 
+few : (s : Shape) (box : List Float) (resolution : Float) (nodes : ℕ) (c : Piece) → OneOrTwo (seeing s box resolution nodes c)
+few s box resolution nodes = visit-cuts geop (askedOf s box resolution nodes)
+
 abbrev Inv-loop : tie.InvT-loop
 Inv-loop work₀ s point-box resolution nodes w slots q₀ work q = Going (seeing s point-box resolution nodes) nodes s work₀ work q
 
 abbrev μ-loop : tie.MeasureT-loop
 μ-loop work₀ s point-box resolution nodes w slots q₀ work q = nodes - q .counts .visited
 
+-- ---- the places
+
 abbrev from-loop : tie.At-loop Inv-loop μ-loop → tie.Start Inv-loop μ-loop
 from-loop c = c .before .before .before .before
+
+-- a piece waits, and a visit is left for it
+abbrev loop-of : tie.Else2 Inv-loop μ-loop → tie.At-loop Inv-loop μ-loop
+loop-of c = c .before .before .before .before .before
+
+waits : (c : tie.Else2 Inv-loop μ-loop) → 0 < loop-of c .loop .q .pending
+waits c = omega (arith, c .before .before .before .if1 .taken)
+
+more : (c : tie.Else2 Inv-loop μ-loop) → loop-of c .loop .q .counts .visited < from-loop (loop-of c) .args .nodes
+more c = omega (arith, c .if2 .left, loop-of c .loop .inv .within)
+
+-- it has been visited
+abbrev depth-of : tie.After-visit-next Inv-loop μ-loop → tie.After-next-depth Inv-loop μ-loop
+depth-of c = c .before .before
+
+abbrev left-of : tie.After-visit-next Inv-loop μ-loop → tie.Else2 Inv-loop μ-loop
+left-of c = depth-of c .before .before
+
+-- and counted
+abbrev visit-of : tie.After-after-visit Inv-loop μ-loop → tie.After-visit-next Inv-loop μ-loop
+visit-of c = c .before .before .before
+
+-- ---- up to the visit
 
 slot-words-requires : tie.Need-slot-words-requires Inv-loop μ-loop
 slot-words-requires c κs = let z = c .before .before .pre .0 .ring .sized in (z .dim, (z .degree, z .count))
@@ -36,7 +65,10 @@ add-slots : tie.Need-add-slots Inv-loop μ-loop
 add-slots c = omega (arith, c .before .before .before .pre .0 .few)
 
 loop-holds : tie.Need-loop-holds Inv-loop μ-loop
-loop-holds c = let k = c .before .before .before in let g = k .args in going-start (seeing (g .s) (g .point-box .now) (g .resolution) (g .nodes)) (g .nodes) (g .s) (g .work .now) (k .pre .0 .ring)
+loop-holds c =
+    let k = c .before .before .before in
+    let g = k .args in
+    going-start (seeing (g .s) (g .point-box .now) (g .resolution) (g .nodes)) (few (g .s) (g .point-box .now) (g .resolution) (g .nodes)) (g .nodes) (g .s) (g .work .now) (k .pre .0 .ring) (k .pre .0 .whole)
 
 same-length : tie.Need-same-length Inv-loop μ-loop
 same-length c = let at-loop = c .before .before .before .before .before in at-loop .loop .inv .long
@@ -46,79 +78,101 @@ returns c =
     let at-loop = c .before .before .before .before .before in
     let g = from-loop at-loop .args in
     let l = at-loop .loop in record {
-      found = going-spent (seeing (g .s) (g .point-box .now) (g .resolution) (g .nodes)) (g .nodes) (g .s) (g .work .now) (l .work) (l .q) (l .inv) (omega arith) (omega arith);
+      found = going-spent (seeing (g .s) (g .point-box .now) (g .resolution) (g .nodes)) (few (g .s) (g .point-box .now) (g .resolution) (g .nodes)) (g .nodes) (g .s) (g .work .now) (l .work) (l .q) (l .inv) (omega arith) (omega arith);
       rest = l .inv .rest;
     }
 
+next-depth-requires : tie.Need-next-depth-requires Inv-loop μ-loop
+next-depth-requires c κs =
+    let left = c .before in
+    let k = from-loop (loop-of left) in
+    let g = k .args in
+    let l = loop-of left .loop in
+    let see = seeing (g .s) (g .point-box .now) (g .resolution) (g .nodes) in
+    let cuts = few (g .s) (g .point-box .now) (g .resolution) (g .nodes) in (
+      (going-waits see cuts (g .nodes) (g .s) (g .work .now) (l .work) (l .q) (l .inv) (waits left), loop-of left .before .slot-words .ensures),
+      omega (arith, going-depth see cuts (g .nodes) (g .s) (g .work .now) (l .work) (l .q) (l .inv) (waits left) (more left), l .inv .within, k .pre .0 .few),
+    )
+
 visit-next-requires : tie.Need-visit-next-requires Inv-loop μ-loop
 visit-next-requires c κs =
-    let at-loop = c .before .before .before .before .before .before in
-    let k = from-loop at-loop in
+    let depth = c .before in
+    let left = depth .before .before in
+    let k = from-loop (loop-of left) in
     let g = k .args in
-    let l = at-loop .loop in (
-      (l .inv .ring, omega arith, going-room (seeing (g .s) (g .point-box .now) (g .resolution) (g .nodes)) (g .nodes) (g .s) (g .work .now) (l .work) (l .q) (l .inv) (omega arith) (omega (arith, l .inv .within))),
+    let l = loop-of left .loop in
+    let see = seeing (g .s) (g .point-box .now) (g .resolution) (g .nodes) in
+    let cuts = few (g .s) (g .point-box .now) (g .resolution) (g .nodes) in
+    let deep = going-depth see cuts (g .nodes) (g .s) (g .work .now) (l .work) (l .q) (l .inv) (waits left) (more left) in (
+      (l .inv .ring, waits left, going-room see cuts (g .nodes) (g .s) (g .work .now) (l .work) (l .q) (l .inv) (waits left) (more left)),
       (
-        (omega (arith, k .pre .0 .few), at-loop .before .slot-words .ensures),
-        (going-fit (seeing (g .s) (g .point-box .now) (g .resolution) (g .nodes)) (g .nodes) (g .s) (g .work .now) (l .work) (l .q) (l .inv) (omega arith) (omega (arith, l .inv .within)) (k .pre .0 .fits), k .pre .1),
+        (omega (arith, k .pre .0 .few), loop-of left .before .slot-words .ensures, omega (arith, depth .next-depth .ensures, deep, l .inv .within, k .pre .0 .few)),
+        (going-fit see cuts (g .nodes) (g .s) (g .work .now) (l .work) (l .q) (l .inv) (waits left) (more left) (k .pre .0 .fits), k .pre .1),
       ),
+    )
+
+-- ---- behind the visit
+
+after-visit-requires : tie.Need-after-visit-requires Inv-loop μ-loop
+after-visit-requires c κs =
+    let v = c .before .before in
+    let left = left-of v in
+    let k = from-loop (loop-of left) in
+    let g = k .args in
+    let l = loop-of left .loop in
+    let see = seeing (g .s) (g .point-box .now) (g .resolution) (g .nodes) in
+    let cuts = few (g .s) (g .point-box .now) (g .resolution) (g .nodes) in
+    let room = going-room see cuts (g .nodes) (g .s) (g .work .now) (l .work) (l .q) (l .inv) (waits left) (more left) in
+    let made = going-cuts see cuts (g .nodes) (g .s) (g .work .now) (l .work) (l .q) (l .inv) (waits left) (more left) in (
+      (l .inv .ring .start, waits left, omega (arith, room), omega (arith, k .pre .0 .few)),
+      (omega (arith, l .inv .within, k .pre .0 .few), omega (arith, made, l .inv .within, k .pre .0 .few), cuts-few _ (g .s) _ _ _ _ _ _ _ (v .visit-next .ensures)),
     )
 
 has-bad-weight-requires : tie.Need-has-bad-weight-requires Inv-loop μ-loop
 has-bad-weight-requires c κs = tt
 
-add-t20 : tie.Need-add-t20 Inv-loop μ-loop
-add-t20 c =
-    let at-visit = c .before .before .before .before .before in
-    let at-loop = at-visit .before .before .before .before .before .before .before in
-    omega (arith, at-loop .loop .inv .within, from-loop at-loop .pre .0 .few)
-
 same-length-2 : tie.Need-same-length-2 Inv-loop μ-loop
 same-length-2 c =
-    let at-visit = c .before .before .before .before .before in
-    let at-loop = at-visit .before .before .before .before .before .before .before in
-    at-visit .visit-next .kept .0 ∙ at-loop .loop .inv .long
+    let v = visit-of (c .before .before .before) in
+    v .visit-next .kept .0 ∙ loop-of (left-of v) .loop .inv .long
 
 returns-2 : tie.Need-returns-2 Inv-loop μ-loop
 returns-2 c =
     let bad = c .before in
-    let at-visit = bad .before .before .before .before in
-    let at-loop = at-visit .before .before .before .before .before .before .before in
-    let g = from-loop at-loop .args in
-    let l = at-loop .loop in
-    let v = at-visit .visit-next in
-    let w = turned (g .s) (g .point-box .now) (g .resolution) (g .nodes) _ _ _ _ _ _ (v .ensures) in record {
-      found = going-bad (seeing (g .s) (g .point-box .now) (g .resolution) (g .nodes)) (g .nodes) (g .s) (g .work .now) (l .work) (l .q) (l .inv) (omega arith) (omega (arith, l .inv .within)) _ _ (v .kept .0) w (sym (bad .before .has-bad-weight .ensures) ∙ bad .if3 .taken);
-      rest = going-rest (seeing (g .s) (g .point-box .now) (g .resolution) (g .nodes)) (g .nodes) (g .s) (g .work .now) (l .work) (l .q) (l .inv) (omega arith) (omega (arith, l .inv .within)) _ _ (v .kept .0) w;
+    let after = bad .before .before in
+    let v = visit-of after in
+    let left = left-of v in
+    let k = from-loop (loop-of left) in
+    let g = k .args in
+    let l = loop-of left .loop in
+    let see = seeing (g .s) (g .point-box .now) (g .resolution) (g .nodes) in
+    let cuts = few (g .s) (g .point-box .now) (g .resolution) (g .nodes) in
+    let deep = depth-of v .next-depth .ensures in
+    let w = turned (g .s) (g .point-box .now) (g .resolution) (g .nodes) _ _ _ _ _ _ _ _ deep (v .visit-next .ensures) in record {
+      found = going-bad see cuts (g .nodes) (g .s) (g .work .now) (l .work) (l .q) (l .inv) (waits left) (more left) _ _ (v .visit-next .kept .0) (k .pre .0 .few) w
+          _ (next-at _ _ _ _ _ _ deep (after .after-visit .ensures)) (sym (bad .before .has-bad-weight .ensures) ∙ bad .if3 .taken);
+      rest = going-rest see cuts (g .nodes) (g .s) (g .work .now) (l .work) (l .q) (l .inv) (waits left) (more left) _ _ (v .visit-next .kept .0) (k .pre .0 .few) w;
     }
-
-after-visit-requires : tie.Need-after-visit-requires Inv-loop μ-loop
-after-visit-requires c κs =
-    let at-visit = c .before .before .before .before in
-    let at-loop = at-visit .before .before .before .before .before .before .before in
-    let k = from-loop at-loop in
-    let l = at-loop .loop in
-    let cuts = cuts-few _ (k .args .s) _ _ _ _ _ _ (at-visit .visit-next .ensures) in (
-      (l .inv .ring .start, omega arith, omega (arith, l .inv .low, l .inv .within), omega (arith, k .pre .0 .few)),
-      (omega (arith, l .inv .within, k .pre .0 .few), omega (arith, l .inv .cuts, l .inv .within, k .pre .0 .few), cuts),
-    )
 
 loop-less : tie.Need-loop-less Inv-loop μ-loop
 loop-less c =
-    let at-visit = c .before .before .before .before .before in
-    let at-loop = at-visit .before .before .before .before .before .before .before in
-    omega (arith, ap (λ (v : Counts). v .visited) (c .after-visit .ensures .counts), at-loop .loop .inv .within)
+    let after = c .before .before in
+    omega (arith, ap (λ (v : Counts). v .visited) (after .after-visit .ensures .counts), more (left-of (visit-of after)))
 
 loop-again : tie.Need-loop-again Inv-loop μ-loop
 loop-again c =
-    let good = c .before in
-    let at-visit = good .before .before .before .before in
-    let one-waits = at-visit .before .before .before .before .before in
-    let at-loop = one-waits .before .before in
-    let g = from-loop at-loop .args in
-    let l = at-loop .loop in
-    let v = at-visit .visit-next in
-    going-on (seeing (g .s) (g .point-box .now) (g .resolution) (g .nodes)) (g .nodes) (g .s) (g .work .now) (l .work) (l .q) (l .inv) (omega (arith, one-waits .if1 .taken)) (omega (arith, l .inv .within)) _ _ (v .kept .0)
-    (turned (g .s) (g .point-box .now) (g .resolution) (g .nodes) _ _ _ _ _ _ (v .ensures)) _ (cuts-few _ (g .s) _ _ _ _ _ _ (v .ensures)) (sym (good .before .has-bad-weight .ensures) ∙ good .if3 .left) (c .after-visit .ensures)
+    let after = c .before .before in
+    let v = visit-of after in
+    let left = left-of v in
+    let k = from-loop (loop-of left) in
+    let g = k .args in
+    let l = loop-of left .loop in
+    let deep = depth-of v .next-depth .ensures in
+    going-on (seeing (g .s) (g .point-box .now) (g .resolution) (g .nodes)) (few (g .s) (g .point-box .now) (g .resolution) (g .nodes)) (g .nodes) (g .s) (g .work .now) (l .work) (l .q) (l .inv) (waits left) (more left)
+    _ _ (v .visit-next .kept .0) (k .pre .0 .few) (turned (g .s) (g .point-box .now) (g .resolution) (g .nodes) _ _ _ _ _ _ _ _ deep (v .visit-next .ensures))
+    _ (next-at _ _ _ _ _ _ deep (after .after-visit .ensures)) (sym (c .before .has-bad-weight .ensures) ∙ c .if3 .left)
+
+-- ---- no piece waits
 
 completed-requires : tie.Need-completed-requires Inv-loop μ-loop
 completed-requires c κs = tt
@@ -131,7 +185,7 @@ returns-3 c =
     let at-loop = c .before .before .before .before .before in
     let g = from-loop at-loop .args in
     let l = at-loop .loop in record {
-      found = going-none (seeing (g .s) (g .point-box .now) (g .resolution) (g .nodes)) (g .nodes) (g .s) (g .work .now) (l .work) (l .q) (l .inv) _ (omega arith) (c .completed .ensures);
+      found = going-none (seeing (g .s) (g .point-box .now) (g .resolution) (g .nodes)) (few (g .s) (g .point-box .now) (g .resolution) (g .nodes)) (g .nodes) (g .s) (g .work .now) (l .work) (l .q) (l .inv) _ (omega arith) (c .completed .ensures);
       rest = l .inv .rest;
     }
 
@@ -146,12 +200,12 @@ search-ring-spec =
     loop-holds
     same-length
     returns
+    next-depth-requires
     visit-next-requires
+    after-visit-requires
     has-bad-weight-requires
-    add-t20
     same-length-2
     returns-2
-    after-visit-requires
     loop-less
     loop-again
     completed-requires

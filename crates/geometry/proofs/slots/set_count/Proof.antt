@@ -20,7 +20,7 @@ same-length c = search needs
 
 returns : tie.Need-returns
 unfolding word
-returns c = let s = c .before in put-one (s .args .work .now) (s .args .base) _ (s .pre .0)
+returns c = let s = c .before in put-one (s .args .work .now) (s .args .i) _ (s .pre .0)
 
 pub set-count-spec : {M : Type 1} → statement M
 set-count-spec = tie.close (tie.spec int-to-float-work mul-work slice-write-work same-length returns)

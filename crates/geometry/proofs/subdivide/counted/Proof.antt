@@ -1,4 +1,4 @@
--- `counted` equals its definition: one visit more, and the cuts of its outcome.
+-- `counted` equals its definition: one visit more, the cuts of its outcome, and the deeper of the two depths.
 use Prim.Native.Nat.{_+_}
 use native.Mathlib.Numerals.{add-one}
 use native.Mathlib.Omega.{arith}
@@ -15,8 +15,14 @@ cuts-of-requires c κs = search needs
 add-cuts : tie.Need-add-cuts
 add-cuts c = omega (arith, c .before .cuts-of .ensures)
 
+deeper-requires : tie.Need-deeper-requires
+deeper-requires c κs = search needs
+
 returns : tie.Need-returns
-returns c = let v = c .before .before .before .args .v in λ i. record { visited = add-one (v .visited) i; cuts = v .cuts + c .before .cuts-of .ensures i }
+returns c =
+    let cuts = c .before .before in
+    let v = cuts .before .before .args .v in
+    λ i. record { visited = add-one (v .visited) i; cuts = v .cuts + cuts .cuts-of .ensures i; depth = c .deeper .ensures i }
 
 pub counted-spec : {M : Type 1} → statement M
-counted-spec = tie.close (tie.spec add-visited cuts-of-requires add-cuts returns)
+counted-spec = tie.close (tie.spec add-visited cuts-of-requires add-cuts deeper-requires returns)

@@ -1,4 +1,4 @@
--- `write` writes the six lines one behind the other.
+-- `write` writes the seven lines one behind the other.
 use Rattle.text.proofs.print.Writing.{printed-written}
 use Rattle.text.specs.Bytes.{bytes}
 use Prim.Native.Nat.{_≤_}
@@ -37,7 +37,7 @@ returns c =
     let w = result .put-result .ensures in
     let x = counts .put-counts .ensures in
     let b = bounds .put-bounds .ensures in
-    let h : bounds .put-bounds .result ≤ 160 = omega (arith, u .end, w .1, x .1, b .1) in
+    let h : bounds .put-bounds .result ≤ 192 = omega (arith, u .end, w .1, x .1, b .1) in
     (printed-written (g .args .f) (omega (arith, h, g .pre .0)) u (w .0) (x .0) (b .0), h)
 
 pub write-spec : {M : Type 1} → statement M
