@@ -1,5 +1,5 @@
 //! Puts the same questions to the port and to the Rust, in one process, in turn, and measures: see README.md.
-//! Built with `--cfg counted` against a Rust that counts its visits and cuts, it compares and measures nothing.
+//! Built with `--cfg counted` against a Rust that counts its visits, cuts and depths, it compares and measures nothing.
 use geop_core_geometry::contains::curve::curve_could_contain;
 use geop_core_geometry::nurb_curve::NurbCurve;
 use geop_core_math::{geop_error::GeopResult, scalars::Scalar, vector::Vector};
@@ -14,14 +14,14 @@ use workloads::{Ask, Path, Workload, slot_words, workload};
 unsafe extern "C" {
     fn puhlwazo_curve_could_contain(
         dim: usize, degree: usize, count: usize, knots: *const f64, knots_len: usize, points: *const f64, points_len: usize, cell: *const f64, cell_len: usize,
-        resolution: f64, nodes: usize, work: *mut f64, work_len: usize, counts: &mut [u64; 4], bounds: &mut [f64; 2],
+        resolution: f64, nodes: usize, work: *mut f64, work_len: usize, counts: &mut [u64; 5], bounds: &mut [f64; 2],
     ) -> u64;
     /// Of the C library. Clock 3 is CLOCK_THREAD_CPUTIME_ID.
     fn clock_gettime(clock: i32, seconds_and_nanoseconds: &mut [i64; 2]) -> i32;
 }
 
-/// An answer: its kind (0 nothing, 1 enclosed, 2 spent, 3 refused), visited, pending, the bits of lo and hi, and cuts.
-type Answer = [u64; 6];
+/// An answer: its kind (0 nothing, 1 enclosed, 2 spent, 3 refused), visited, pending, the bits of lo and hi, cuts, and depth.
+type Answer = [u64; 7];
 
 // ---- the two sides
 
@@ -63,9 +63,9 @@ impl Sides<'_> {
         let words = load.asks.iter().map(|q| (q.nodes + 3) * slot_words(&load.paths[q.path])).max();
         Sides { load, curves: curves.collect(), cells: cells.collect(), work: vec![0.0; words.unwrap_or(0)], make }
     }
-    fn port(&mut self, q: &Ask) -> (u64, [u64; 4], [f64; 2]) {
+    fn port(&mut self, q: &Ask) -> (u64, [u64; 5], [f64; 2]) {
         let (p, cell, work) = (&self.load.paths[q.path], &self.load.cells[q.cell], &mut self.work);
-        let (mut counts, mut bounds) = ([0; 4], [0.0; 2]);
+        let (mut counts, mut bounds) = ([0; 5], [0.0; 2]);
         let number = unsafe {
             puhlwazo_curve_could_contain(
                 p.dim, p.degree, p.count, p.knots.as_ptr(), p.knots.len(), p.points.as_ptr(), p.points.len(), cell.as_ptr(), cell.len(),
@@ -119,32 +119,32 @@ fn ask_side(s: &mut Sides, asks: &[Ask], port: bool) -> f64 {
 fn bits(x: f64) -> u64 {
     (x + 0.0).to_bits()
 }
-/// The visits and the cuts of the Rust since the last call, where it counts them.
+/// The visits, the cuts and the depth of the Rust since the last call, where it counts them.
 #[cfg(counted)]
-fn counts_taken() -> Option<[u64; 2]> {
+fn counts_taken() -> Option<[u64; 3]> {
     Some(geop_core_math::counts::taken())
 }
 #[cfg(not(counted))]
-fn counts_taken() -> Option<[u64; 2]> {
+fn counts_taken() -> Option<[u64; 3]> {
     None
 }
 fn port_answer(s: &mut Sides, q: &Ask) -> Answer {
-    let (number, [kind, visited, pending, cuts], bounds) = s.port(q);
+    let (number, [kind, visited, pending, cuts, depth], bounds) = s.port(q);
     assert_eq!(number, 0, "a question of the benchmark is refused");
-    [kind, visited, pending, bounds[0].to_bits(), bounds[1].to_bits(), cuts]
+    [kind, visited, pending, bounds[0].to_bits(), bounds[1].to_bits(), cuts, depth]
 }
 /// The Rust's answer, with the counts of `ours` where it does not count.
 fn rust_answer(s: &Sides, q: &Ask, ours: &Answer) -> Answer {
     counts_taken();
     let answer = s.rust(q);
-    let [visited, cuts] = counts_taken().unwrap_or([ours[1], ours[5]]);
+    let [visited, cuts, depth] = counts_taken().unwrap_or([ours[1], ours[5], ours[6]]);
     match answer {
-        Ok(None) => [0, visited, 0, 0, 0, cuts],
-        Ok(Some(t)) => [1, visited, 0, bits(t.lo), bits(t.hi), cuts],
+        Ok(None) => [0, visited, 0, 0, 0, cuts, depth],
+        Ok(Some(t)) => [1, visited, 0, bits(t.lo), bits(t.hi), cuts, depth],
         Err(e) => {
             let said = e.root_message();
             let pending = said.split_once(" segments pending").and_then(|(before, _)| before.rsplit(' ').next()?.parse().ok());
-            [2, visited, pending.unwrap_or_else(|| panic!("the Rust says {said}")), 0, 0, cuts]
+            [2, visited, pending.unwrap_or_else(|| panic!("the Rust says {said}")), 0, 0, cuts, depth]
         }
     }
 }
@@ -203,8 +203,9 @@ fn measure(s: &mut Sides, number: usize) {
     let load = s.load;
     let (answers, differ) = compare(s);
     let visits = answers.iter().map(|a| a[1]);
+    let deepest = answers.iter().map(|a| a[6]).max().unwrap_or(0);
     println!(
-        "{}: {} paths, {} boxes, {} answers compared, {differ} differ; visits of a question: {} to {}",
+        "{}: {} paths, {} boxes, {} answers compared, {differ} differ; visits of a question: {} to {}; deepest: {deepest}",
         load.name, load.paths.len(), load.cells.len(), answers.len(), visits.clone().min().unwrap_or(0), visits.max().unwrap_or(0)
     );
     if differ > 0 {

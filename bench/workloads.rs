@@ -28,7 +28,7 @@ pub struct Workload {
 }
 /// The words of one slot of the work area; a question needs those of nodes + 3 slots.
 pub fn slot_words(p: &Path) -> usize {
-    2 * (p.dim + 1) * (p.count + p.degree + 1) + 2 * (p.count + 2 * p.degree + 2)
+    2 * (p.dim + 1) * (p.count + p.degree + 1) + 2 * (p.count + 2 * p.degree + 2) + 1
 }
 impl Workload {
     fn new(name: &'static str) -> Workload {

@@ -272,7 +272,7 @@ def some_resolution(r):
 
 def words(q):
     """W of the scope."""
-    return 2 * (q.dim + 1) * (q.count + q.degree + 1) + 2 * (q.count + 2 * q.degree + 2)
+    return 2 * (q.dim + 1) * (q.count + q.degree + 1) + 2 * (q.count + 2 * q.degree + 2) + 1
 
 
 def question(r):
@@ -336,8 +336,8 @@ class Library:
         size, at = ctypes.c_size_t, ctypes.c_void_p
         self.search.argtypes = [size, size, size, at, size, at, size, at, size, ctypes.c_double, size, at, size, at, at]
         self.search.restype = ctypes.c_uint64
-        self.work = (ctypes.c_double * (4099 * 416))()
-        self.counts, self.bounds = (ctypes.c_uint64 * 4)(), (ctypes.c_double * 2)()
+        self.work = (ctypes.c_double * (4099 * 417))()
+        self.counts, self.bounds = (ctypes.c_uint64 * 5)(), (ctypes.c_double * 2)()
         self.junk = random.Random(0).randbytes(8 * 64)
 
     def ask(self, q):
@@ -349,8 +349,8 @@ class Library:
         ctypes.memmove(self.work, self.junk, len(self.junk))
         number = self.search(q.dim, q.degree, q.count, knots, len(knots), points, len(points), box, len(box), q.resolution, q.nodes,
                              self.work, (q.nodes + 3) * words(q), self.counts, self.bounds)
-        kind, visited, _, _ = self.counts
-        return kind, visited, number, self.bounds[0], self.bounds[1]
+        kind, visited, _, _, depth = self.counts
+        return kind, visited, depth, number, self.bounds[0], self.bounds[1]
 
 
 class Program:
@@ -365,14 +365,14 @@ class Program:
         lo, hi = (0.0 if answer[x] == "-" else struct.unpack(">d", bytes.fromhex(answer[x]))[0] for x in ("lo", "hi"))
         result = answer["result"]
         kind = {"none": NOTHING, "enclosed": ENCLOSED, "spent": SPENT}.get(result, REFUSED)
-        return kind, int(answer["visited"]), int(result[8:]) if kind == REFUSED else 0, lo, hi
+        return kind, int(answer["visited"]), int(answer["depth"]), int(result[8:]) if kind == REFUSED else 0, lo, hi
 
 
 # ---- the judgement
 
 def wrong(q, answer):
     """What is wrong with an answer, or an empty text."""
-    kind, _, number, lo, hi = answer
+    kind, _, _, number, lo, hi = answer
     if kind == SPENT or (kind == REFUSED and number == 11):
         return ""
     if kind == REFUSED:
@@ -404,7 +404,7 @@ BREAKS = {
 
 def broken(r, q, answer, how):
     """A right answer made wrong, to see that it is noticed."""
-    kind, visited, number, lo, hi = answer
+    kind, visited, depth, number, lo, hi = answer
     if kind != ENCLOSED:
         return answer
     if how == "lo":
@@ -421,7 +421,7 @@ def broken(r, q, answer, how):
         lo, hi = (-0.0 if x == 0.0 else x for x in (lo, hi))
     elif how == "none":
         kind = NOTHING
-    return kind, visited, number, lo, hi
+    return kind, visited, depth, number, lo, hi
 
 
 def moved(q):
@@ -472,11 +472,11 @@ def at_end(q):
 
 
 def show(q, answer, fault):
-    kind, visited, number, lo, hi = answer
+    kind, visited, depth, number, lo, hi = answer
     print(f"---- {fault}\n{text(q)}t={q.t} ({q.place})\nexact point={' '.join(map(str, q.exact))}")
     for values in q.control:
         print("exact control values=" + " ".join(map(str, values)))
-    print(f"answer: kind={kind} visited={visited} number={number} lo={bits(lo)} ({lo!r}) hi={bits(hi)} ({hi!r})\n----", flush=True)
+    print(f"answer: kind={kind} visited={visited} depth={depth} number={number} lo={bits(lo)} ({lo!r}) hi={bits(hi)} ({hi!r})\n----", flush=True)
 
 
 def main():
@@ -490,7 +490,7 @@ def main():
     o = p.parse_args()
     search = Program(o.program) if o.program else Library(o.library or build())
     r, other = random.Random(o.seed), random.Random(0)
-    heads = ("questions", "hit", "outside", "spent", "refused 11", "narrow", "sharp box", "visits", "most")
+    heads = ("questions", "hit", "outside", "spent", "refused 11", "narrow", "sharp box", "visits", "most", "deepest")
     rows, places, faults, over = {d: [0] * len(heads) for d in range(8)}, {x: 0 for x in PLACES}, {}, 0
     asked, tally, ends = 0, {}, {}
     while asked < o.questions:
@@ -504,11 +504,12 @@ def main():
         answer = search.ask(q)
         if o.how:
             answer = broken(other, q, answer, o.how)
-        kind, visited, number, lo, hi = answer
+        kind, visited, depth, number, lo, hi = answer
         fault, row = wrong(q, answer), rows[q.degree]
         row[0] += 1
         row[7] += visited
         row[8] = max(row[8], visited)
+        row[9] = max(row[9], depth)
         if fault:
             row[2] += 1
             faults[fault] = faults.get(fault, 0) + 1
@@ -530,7 +531,7 @@ def main():
     print("degree " + "".join(f"{h:>12}" for h in heads))
     for d, row in rows.items():
         print(f"{d:<7}" + "".join(f"{x:>12}" for x in row))
-    total = [sum(row[i] for row in rows.values()) for i in range(8)] + [max(row[8] for row in rows.values())]
+    total = [sum(row[i] for row in rows.values()) for i in range(8)] + [max(row[i] for row in rows.values()) for i in (8, 9)]
     print(f"{'all':<7}" + "".join(f"{x:>12}" for x in total))
     print("hits by the place of t: " + ", ".join(f"{x} {n}" for x, n in places.items()))
     print("hits by what was asked: " + ", ".join(f"{x} {n}" for x, n in sorted(tally.items())))

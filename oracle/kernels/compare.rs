@@ -207,7 +207,7 @@ fn compare<const D: usize, const C: usize>(t: &mut Tally, r: &mut Rng, c: &Case)
     }
 }
 
-// ---- cuts: a slot holds the number of points, the knots and the points, each at its place. The piece stands in the first of four slots
+// ---- cuts: a slot holds the number of points, the knots and the points, each at its place, and the depth, last. The piece stands in the first of four slots
 /// What a call of insert_to_full_multiplicity is counted as.
 const BY_INSERTIONS: &str = "cut by insertions";
 const BY_TRIANGLE: [&str; 7] = [
@@ -220,7 +220,7 @@ const BY_TRIANGLE: [&str; 7] = [
     "cut by the triangle, degree 7",
 ];
 fn slot_words(c: &Case) -> usize {
-    2 * (c.dim + 1) * (c.count + c.degree + 1) + 2 * (c.count + 2 * c.degree + 2)
+    2 * (c.dim + 1) * (c.count + c.degree + 1) + 2 * (c.count + 2 * c.degree + 2) + 1
 }
 fn write_slot(c: &Case) -> Vec<f64> {
     let w = slot_words(c);
@@ -237,10 +237,11 @@ fn read_slot(c: &Case, l: &[f64], slot: usize) -> (Vec<f64>, Vec<f64>) {
     let at = c.count + 2 * c.degree + 3;
     (l[1..n + c.degree + 2].to_vec(), l[at..at + 2 * (c.dim + 1) * n].to_vec())
 }
-/// The words of every slot but those that were written are as they were.
+/// The words of every slot but those that were written are as they were; of those that were, the last word, which is the piece's depth.
 fn only(c: &Case, l: &[f64], written: &[usize]) -> bool {
     let (w, before) = (slot_words(c), write_slot(c));
-    (0..4).filter(|slot| !written.contains(slot)).all(|slot| (slot * w..(slot + 1) * w).all(|i| l[i].to_bits() == before[i].to_bits()))
+    let from = |slot: usize| if written.contains(&slot) { (slot + 1) * w - 1 } else { slot * w };
+    (0..4).all(|slot| (from(slot)..(slot + 1) * w).all(|i| l[i].to_bits() == before[i].to_bits()))
 }
 fn flat<const D: usize>(points: &[Vector<D>]) -> Vec<f64> {
     points.iter().flat_map(|q| numbers(&q.to_array())).collect()

@@ -7,8 +7,8 @@ use geop_core_math::{counts, geop_error::GeopError, scalars::Scalar, vector::Vec
 use std::panic::{AssertUnwindSafe, catch_unwind, set_hook};
 use std::sync::atomic::{AtomicBool, Ordering::Relaxed};
 
-/// An answer: its kind (0 nothing, 1 enclosed, 2 spent, 3 refused), pending, visited, the number of the refusal, the bits of lo and hi, and cuts.
-pub type Answer = [u64; 7];
+/// An answer: its kind (0 nothing, 1 enclosed, 2 spent, 3 refused), pending, visited, the number of the refusal, the bits of lo and hi, cuts, and depth.
+pub type Answer = [u64; 8];
 
 /// The number from 1 to 10 by which the scope refuses a question, or 0.
 pub fn refusal(q: &Question) -> u64 {
@@ -59,8 +59,8 @@ pub fn hush() {
         }
     }));
 }
-/// The Rust's answer, or what it panicked with; and its visits and cuts.
-fn run_rust<const D: usize, const C: usize>(q: &Question) -> (Result<Result<Option<Scalar>, GeopError>, String>, [u64; 2])
+/// The Rust's answer, or what it panicked with; and its visits, cuts and depth.
+fn run_rust<const D: usize, const C: usize>(q: &Question) -> (Result<Result<Option<Scalar>, GeopError>, String>, [u64; 3])
 where
     NurbCurve<D>: ParameterRefinable<C>,
 {
@@ -92,18 +92,18 @@ fn ask_rust<const D: usize, const C: usize>(q: &Question) -> Result<Answer, Stri
 where
     NurbCurve<D>: ParameterRefinable<C>,
 {
-    let (answer, [visited, cuts]) = run_rust::<D, C>(q);
+    let (answer, [visited, cuts, depth]) = run_rust::<D, C>(q);
     match answer {
-        Ok(Ok(None)) => Ok([0, 0, visited, 0, 0, 0, cuts]),
-        Ok(Ok(Some(t))) => Ok([1, 0, visited, 0, bits(t.lo), bits(t.hi), cuts]),
-        Ok(Err(e)) => pending(e.root_message()).map(|n| [2, n, visited, 0, 0, 0, cuts]).ok_or(e.root_message().into()),
-        Err(said) if said.starts_with("weights are definitely positive") => Ok([3, 0, visited, 11, 0, 0, cuts]),
+        Ok(Ok(None)) => Ok([0, 0, visited, 0, 0, 0, cuts, depth]),
+        Ok(Ok(Some(t))) => Ok([1, 0, visited, 0, bits(t.lo), bits(t.hi), cuts, depth]),
+        Ok(Err(e)) => pending(e.root_message()).map(|n| [2, n, visited, 0, 0, 0, cuts, depth]).ok_or(e.root_message().into()),
+        Err(said) if said.starts_with("weights are definitely positive") => Ok([3, 0, visited, 11, 0, 0, cuts, depth]),
         Err(said) => Err(said),
     }
 }
 /// The answer of a call that is refused.
 pub fn refused(number: u64) -> Answer {
-    [3, 0, 0, number, 0, 0, 0]
+    [3, 0, 0, number, 0, 0, 0, 0]
 }
 /// The scope's refusal, or else the Rust's answer.
 pub fn expected(q: &Question) -> Result<Answer, String> {

@@ -12,7 +12,7 @@ use random::Rng;
 unsafe extern "C" {
     fn puhlwazo_curve_could_contain(
         dim: usize, degree: usize, count: usize, knots: *const f64, knots_len: usize, points: *const f64, points_len: usize, cell: *const f64, cell_len: usize,
-        resolution: f64, nodes: usize, work: *mut f64, work_len: usize, counts: &mut [u64; 4], bounds: &mut [f64; 2],
+        resolution: f64, nodes: usize, work: *mut f64, work_len: usize, counts: &mut [u64; 5], bounds: &mut [f64; 2],
     ) -> u64;
 }
 
@@ -22,7 +22,7 @@ unsafe extern "C" {
 fn ask_port(r: &mut Rng, q: &Question) -> (Answer, bool) {
     let mut work: Vec<f64> = (0..q.room).map(|_| f64::from_bits(r.next())).collect();
     let before = work.clone();
-    let (mut counts, mut bounds) = ([u64::MAX; 4], [f64::NAN; 2]);
+    let (mut counts, mut bounds) = ([u64::MAX; 5], [f64::NAN; 2]);
     let number = unsafe {
         puhlwazo_curve_could_contain(
             q.dim, q.degree, q.count, q.knots.as_ptr(), q.knots.len(), q.points.as_ptr(), q.points.len(), q.cell.as_ptr(), q.cell.len(),
@@ -32,8 +32,8 @@ fn ask_port(r: &mut Rng, q: &Question) -> (Answer, bool) {
     let words = if refusal(q) == 0 { stated(q) } else { 0 };
     let cleared = work[..words].iter().all(|x| x.to_bits() == 0);
     let kept = work[words..].iter().zip(&before[words..]).all(|(x, y)| x.to_bits() == y.to_bits());
-    let [kind, visited, pending, cuts] = counts;
-    ([kind, pending, visited, number, bounds[0].to_bits(), bounds[1].to_bits(), cuts], cleared && kept)
+    let [kind, visited, pending, cuts, depth] = counts;
+    ([kind, pending, visited, number, bounds[0].to_bits(), bounds[1].to_bits(), cuts, depth], cleared && kept)
 }
 
 // ---- the comparison
@@ -43,6 +43,7 @@ struct Row {
     visits: u64,
     most: u64,
     cuts: u64,
+    deepest: u64,
     differ: u64,
 }
 /// Where an answer is counted: nothing, enclosed, spent, refused 1 to 11, none at all.
@@ -90,6 +91,7 @@ fn compare(r: &mut Rng, q: &mut Question, row: &mut [Row; 15], completed: &mut u
     row.visits += ours[2];
     row.most = row.most.max(ours[2]);
     row.cuts += ours[6];
+    row.deepest = row.deepest.max(ours[7]);
     if !same || !left {
         row.differ += 1;
         if row.differ <= 2 {
@@ -119,9 +121,9 @@ fn main() {
         let mut q = if extremes { accepted(&mut r) } else { question(&mut r) };
         compare(&mut r, &mut q, &mut rows, &mut completed);
     }
-    println!("{:<18} {:>10} {:>12} {:>8} {:>12} {:>12}", "expected", "questions", "visits", "most", "cuts", "differences");
+    println!("{:<18} {:>10} {:>12} {:>8} {:>12} {:>8} {:>12}", "expected", "questions", "visits", "most", "cuts", "deepest", "differences");
     for (i, row) in rows.iter().enumerate() {
-        println!("{:<18} {:>10} {:>12} {:>8} {:>12} {:>12}", row_name(i), row.questions, row.visits, row.most, row.cuts, row.differ);
+        println!("{:<18} {:>10} {:>12} {:>8} {:>12} {:>8} {:>12}", row_name(i), row.questions, row.visits, row.most, row.cuts, row.deepest, row.differ);
     }
     let differ: u64 = rows.iter().map(|row| row.differ).sum();
     println!("{completed} completed searches asked again: with as many nodes as visits, with more, and with one less");

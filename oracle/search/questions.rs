@@ -191,7 +191,7 @@ fn some_nodes(r: &mut Rng) -> usize {
 
 /// The stated words of the work area.
 pub fn stated(q: &Question) -> usize {
-    (q.nodes + 3) * (2 * (q.dim + 1) * (q.count + q.degree + 1) + 2 * (q.count + 2 * q.degree + 2))
+    (q.nodes + 3) * (2 * (q.dim + 1) * (q.count + q.degree + 1) + 2 * (q.count + 2 * q.degree + 2) + 1)
 }
 
 /// A question. About one in six is wrong in some way, or in two.

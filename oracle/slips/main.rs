@@ -17,7 +17,7 @@ fn main() {
     let mut out = std::io::stdout();
     for question in all {
         let answer = std::panic::catch_unwind(|| {
-            let mut lines = [0u8; 160];
+            let mut lines = [0u8; 192];
             let k = text::respond::respond(&question, &mut lines);
             lines[..k].to_vec()
         });

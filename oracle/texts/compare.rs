@@ -18,6 +18,8 @@ unsafe extern "C" {
 /// The bytes that a text may have, and the numbers that the program lends.
 const LONGEST: usize = 65_536;
 const LENT: usize = 8_192;
+/// The bytes that an answer must have room for.
+const ROOM: usize = 192;
 
 // ---- what is expected: the text's form
 
@@ -89,19 +91,20 @@ fn asked(text: &[u8]) -> Result<Question, u64> {
 
 // ---- what is expected: the answer
 
-/// What is expected for a text: the result's word, visited and cuts, and the six lines.
+/// What is expected for a text: the result's word, visited, cuts and depth, and the seven lines.
 struct Expected {
     word: String,
     visited: u64,
     cuts: u64,
+    depth: u64,
     lines: String,
 }
 /// An answer, as it is to be printed.
-fn printed([kind, pending, visited, number, lo, hi, cuts]: Answer) -> Expected {
+fn printed([kind, pending, visited, number, lo, hi, cuts, depth]: Answer) -> Expected {
     let word = if kind == 3 { format!("refused-{number}") } else { WORDS[kind as usize].into() };
     let bound = |bits: u64| if kind == 1 { format!("{bits:016x}") } else { "-".into() };
-    let lines = format!("result={word}\nvisited={visited}\ncuts={cuts}\npending={pending}\nlo={}\nhi={}\n", bound(lo), bound(hi));
-    Expected { word, visited, cuts, lines }
+    let lines = format!("result={word}\nvisited={visited}\ncuts={cuts}\ndepth={depth}\npending={pending}\nlo={}\nhi={}\n", bound(lo), bound(hi));
+    Expected { word, visited, cuts, depth, lines }
 }
 fn expected(text: &[u8]) -> Result<Expected, String> {
     match asked(text) {
@@ -369,7 +372,7 @@ fn damage(r: &mut Rng, text: &mut Vec<u8>, way: usize) {
             *text = lines.join(&b'\n');
         }
         20 => text.truncate(at),
-        21 => replace_small(r, text, 3, |r, _| r.of(&["4096", "4097", "9999", "999999999", "0", "1", "2", "40", "452", "453"]).into()),
+        21 => replace_small(r, text, 3, |r, _| r.of(&["4096", "4097", "9999", "999999999", "0", "1", "2", "40", "428", "429"]).into()),
         _ => {}
     }
 }
@@ -404,15 +407,17 @@ struct Row {
     visits: u64,
     most: u64,
     cuts: u64,
+    deepest: u64,
     differ: u64,
 }
 impl Row {
     fn count(&mut self, answer: Option<&Expected>) {
-        let (visited, cuts) = answer.map_or((0, 0), |e| (e.visited, e.cuts));
+        let (visited, cuts, depth) = answer.map_or((0, 0, 0), |e| (e.visited, e.cuts, e.depth));
         self.texts += 1;
         self.visits += visited;
         self.most = self.most.max(visited);
         self.cuts += cuts;
+        self.deepest = self.deepest.max(depth);
     }
 }
 fn row_of(theirs: &Result<Expected, String>) -> usize {
@@ -420,10 +425,10 @@ fn row_of(theirs: &Result<Expected, String>) -> usize {
 }
 /// Asks both. No answer, as where an assertion of the Rust's debug build fires, is a difference.
 fn same(r: &mut Rng, text: &[u8], theirs: &Result<Expected, String>) -> bool {
-    let room = 160 + if r.one_in(2) { 0 } else { r.below(100) };
+    let room = ROOM + if r.one_in(2) { 0 } else { r.below(100) };
     let (ours, mut left) = ask_port(r, text, room);
     if r.one_in(16) {
-        let short = r.below(160);
+        let short = r.below(ROOM);
         let (none, kept) = ask_port(r, text, short);
         left &= none.is_empty() && kept;
     }
@@ -464,9 +469,9 @@ fn compare(r: &mut Rng, total: u64) -> bool {
             }
         }
     }
-    println!("{:<18} {:>10} {:>10} {:>12} {:>8} {:>12} {:>12}", "expected", "texts", "damaged", "visits", "most", "cuts", "differences");
+    println!("{:<18} {:>10} {:>10} {:>12} {:>8} {:>12} {:>8} {:>12}", "expected", "texts", "damaged", "visits", "most", "cuts", "deepest", "differences");
     for (word, row) in WORDS.iter().zip(&rows) {
-        println!("{word:<18} {:>10} {:>10} {:>12} {:>8} {:>12} {:>12}", row.texts, row.damaged, row.visits, row.most, row.cuts, row.differ);
+        println!("{word:<18} {:>10} {:>10} {:>12} {:>8} {:>12} {:>8} {:>12}", row.texts, row.damaged, row.visits, row.most, row.cuts, row.deepest, row.differ);
     }
     println!("{:<18} {:>10} {:>10}", "damaged", "texts", "refused-12");
     for (way, [texts, refused]) in DAMAGE.iter().zip(&ways) {
@@ -561,9 +566,9 @@ fn store(r: &mut Rng, folder: &str) -> std::io::Result<bool> {
     }
     std::fs::write(format!("{folder}/args"), (0..files.len()).map(|i| format!("{i:02}\n")).collect::<String>())?;
     std::fs::write(format!("{folder}/stdout"), chosen.iter().map(|(_, lines)| lines.as_str()).collect::<String>())?;
-    println!("{:<18} {:>10} {:>12} {:>8} {:>12}", "stored", "texts", "visits", "most", "cuts");
+    println!("{:<18} {:>10} {:>12} {:>8} {:>12} {:>8}", "stored", "texts", "visits", "most", "cuts", "deepest");
     for (word, row) in WORDS.iter().zip(&rows).take(14) {
-        println!("{word:<18} {:>10} {:>12} {:>8} {:>12}", row.texts, row.visits, row.most, row.cuts);
+        println!("{word:<18} {:>10} {:>12} {:>8} {:>12} {:>8}", row.texts, row.visits, row.most, row.cuts, row.deepest);
     }
     let bytes: usize = files.iter().map(|(bytes, _)| bytes.len()).sum();
     println!("{} texts of {made}, in {} files of {bytes} bytes; the port gives the same: {right}", chosen.len(), files.len());
