@@ -1,6 +1,6 @@
 -- The counts of a search, between its visits and in its answer: visited never exceeds nodes, pending never exceeds nodes + 1, a search is spent only when all its nodes are used, cuts
 -- never exceeds twice visited, and depth stays below visited (`counts-kept`). Leans on the laws of `advance` in Pause.antt, and of a visit in Cuts.antt.
-use Prim.Native.Nat.{ℕ, zero, suc, _+_, _*_, _≤_, _<_}
+use Prim.Native.Nat.{ℕ, zero, suc, _+_, _≤_, _<_}
 use native.Mathlib.Decide.{decLt}
 use native.Mathlib.Omega.{arith}
 use mathlib.Core.Path.{_≡_, refl, sym, subst}
@@ -12,7 +12,6 @@ use Rattle.math.specs.declared.scalars.Scalar.{Scalar}
 use Rattle.math.specs.Scalars.{Arithmetic}
 use Rattle.model.specs.NurbCurve.{Piece}
 use Rattle.model.specs.declared.contains.Found.{Found}
-use Rattle.model.specs.declared.contains.Found.the-variants.{Nothing, Enclosed, Spent, Refused}
 use Rattle.model.specs.declared.subdivide.Counts.{Counts}
 use Rattle.model.specs.Subdivide.{Question, Visit, dropped, reported, restricted, halved, badWeight, Waiting, State, Step, going, over, atDepth, withVisit, complete, spentWith, after, ended, step, advance, answered}
 use Rattle.model.specs.Aabb.{couldMeet}

@@ -1,7 +1,7 @@
 -- DEMAND 3, and the order of the bounds: `enclosure` for every arithmetic that encloses, and `geop-enclosure` for the Rust's. Of the curve on paper: `one-span`. Assumes nothing.
 use mathlib.Core.Path.{_≡_, refl, sym, ap, _∙_, subst}
 use mathlib.Core.Logic.{inl}
-use mathlib.Core.List.{List, [], _∷_}
+use mathlib.Core.List.{List, []}
 use mathlib.Core.Bool.{Bool, true, false, _&&_}
 use mathlib.Core.Option.{Option, none}
 use Prim.Native.Nat.{ℕ, zero, suc, _+_, _*_, _≤_, _<_}
@@ -33,7 +33,7 @@ use Rattle.model.specs.Subdivide.{Question, dropped, positiveZero, Step,
 use Rattle.model.specs.Contains.{clipped, visit, begun, couldContain}
 use Rattle.model.specs.Layout.{scalarAt, pointAt, pointsOf}
 use Rattle.model.specs.Call.{Call, asPiece, boxOf, question, refusal, searched, searchedBy}
-use Rattle.model.specs.Enclosure.{OneSpan, HitAt, Doubles, Accepted, Completes, BoundsHold, NotOutside, BoundsInDomain, NoNegativeZero, BoundsPositiveZero, BoundsInOrder, Enclosure, PieceOf, Every, OnlyWeights, PiecesKept, Pieces}
+use Rattle.model.specs.Enclosure.{OneSpan, HitAt, Doubles, Accepted, Completes, BoundsHold, NotOutside, BoundsInDomain, NoNegativeZero, BoundsPositiveZero, BoundsInOrder, Enclosure, PieceOf, OnlyWeights, PiecesKept, Pieces}
 use Rattle.model.specs.declared.contains.Found.{Found}
 use Rattle.model.specs.declared.contains.Found.the-variants.{Nothing, Enclosed, Spent, Refused}
 use Rattle.model.proofs.Every.{every-at, every-imp}

@@ -1,5 +1,6 @@
 -- The scope's cases by computation, and laws of the search.
 pub mod Rows
+pub mod Texts
 pub mod Table
 pub mod Spans
 pub mod Pause

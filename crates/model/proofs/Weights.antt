@@ -1,6 +1,5 @@
 -- REFUSAL 11 IS THE RUST'S PANIC: `panics-alike` for every arithmetic that encloses, and `geop-panics` for the Rust's. Assumes nothing.
 use mathlib.Core.Path.{subst}
-use mathlib.Core.List.{List, [], _∷_}
 use Prim.Native.Nat.{ℕ, _≤_}
 use Rattle.exact.specs.Rational.{ℚ}
 use Rattle.math.specs.Scalars.{Arithmetic, geop}
@@ -11,7 +10,7 @@ use Rattle.model.specs.NurbCurve.{Piece, start, end}
 use Rattle.model.specs.Subdivide.{Question, Step, going, over, advance}
 use Rattle.model.specs.Contains.{visit, begun}
 use Rattle.model.specs.Call.{Call, asPiece, question}
-use Rattle.model.specs.Enclosure.{Doubles, Accepted, Every}
+use Rattle.model.specs.Enclosure.{Doubles, Accepted}
 use Rattle.model.specs.Weights.{CutWeights, CutsWeighed, PanicsAlike}
 use Rattle.model.proofs.Every.{every-imp}
 use Rattle.model.proofs.Sound.Restrict.{Both}

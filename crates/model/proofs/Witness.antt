@@ -14,7 +14,7 @@ use Rattle.model.specs.Layout.{scalarAt}
 use Rattle.model.specs.Call.{Call}
 use Rattle.model.specs.Enclosure.{knotValues, SpanOf, HitAt}
 use Rattle.model.proofs.Rows.{callOf}
-use Rattle.model.proofs.Table.{single}
+use Rattle.model.proofs.Texts.{single}
 
 -- P1: the point (3, 5) of weight 1 on the domain from 0 to 1, and the box that is that point.
 abbrev pub point-call : Call

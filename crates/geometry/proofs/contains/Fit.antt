@@ -1,21 +1,20 @@
 -- Every piece that the search of an accepted call comes to can be visited. Leans on Enclosure.antt.
 use mathlib.Core.Path.{_≡_, refl, sym, ap, _∙_, subst}
-use mathlib.Core.List.{List, [], _∷_}
+use mathlib.Core.List.{List}
 use mathlib.Core.Option.{Option, none}
-use Prim.Native.Nat.{ℕ, zero, suc, _+_, _≤_, _<_}
+use Prim.Native.Nat.{ℕ, zero, suc, _≤_}
 use native.Mathlib.Omega.{arith}
 use lib.ListN.{length}
-use lib.Ieee.{Float}
 use Rattle.exact.specs.Rational.{ℚ}
 use Rattle.math.specs.declared.scalars.Scalar.{Scalar}
-use Rattle.math.specs.Scalars.{Arithmetic, geop, unionS}
+use Rattle.math.specs.Scalars.{Arithmetic, geop}
 use Rattle.math.specs.Values.{value}
 use Rattle.math.proofs.Bools.{pick}
 use Rattle.math.proofs.Laws.{geop-encloses}
 use Rattle.model.specs.NurbCurve.{Piece, start, end}
 use Rattle.model.specs.Aabb.{aabb, couldOverlap}
 use Rattle.model.specs.FatLine.{greville}
-use Rattle.model.specs.Subdivide.{Question, Visit, dropped, Step, going, over, advance}
+use Rattle.model.specs.Subdivide.{Question, dropped, Step, going, over, advance}
 use Rattle.model.specs.Contains.{clipped, visit, begun}
 use Rattle.model.specs.Call.{Call, asPiece, question}
 use Rattle.model.specs.Enclosure.{Doubles, Accepted, Every}
@@ -23,7 +22,7 @@ use Rattle.geometry.specs.Slots.{within, Whole, Fit}
 use Rattle.geometry.specs.State.{AllFit}
 use Rattle.geometry.specs.declared.slots.Shape.{Shape}
 use Rattle.model.proofs.Every.{every-imp}
-use Rattle.model.proofs.Sound.Search.{Fine, Ready, Stands, stands}
+use Rattle.model.proofs.Sound.Search.{Fine, Stands, stands}
 use Rattle.model.proofs.Sound.Accepted.{checked}
 use Rattle.model.proofs.Sound.Restrict.{Sub, sub-self, from-sub, strict}
 use Rattle.model.proofs.Sound.Visits.{Inner, inner-union, Ok, visit-fine}

@@ -14,13 +14,13 @@ use Rattle.math.specs.declared.scalars.Scalar.{Scalar}
 use Rattle.math.specs.Scalars.{geop}
 use Rattle.model.specs.NurbCurve.{Piece}
 use Rattle.model.specs.Layout.{scalarsOf}
-use Rattle.model.specs.Subdivide.{Question, Visit, Waiting, State, going, over, atDepth, noCounts, complete, spentWith, failedWith, ended, step, advance, answered}
+use Rattle.model.specs.Subdivide.{Question, Visit, Waiting, State, going, over, atDepth, noCounts, complete, spentWith, failedWith, ended, advance, answered}
 use Rattle.model.specs.Contains.{visit, begun}
 use Rattle.model.specs.Enclosure.{Every}
 use Rattle.model.specs.Counts.{Counted, AfterVisits}
 use Rattle.geometry.specs.Slots.{wordsOf, pieceAt, depthAt, waitsAt, Waits, Fit}
 use Rattle.geometry.specs.Ring.{baseOf, ringBase, waiting, Ring}
-use Rattle.geometry.specs.State.{foundOf, stateOf, outcomeOf, cutsOf, hasBadWeight, Next, Visited, Turned, AllFit, askedOf, Going}
+use Rattle.geometry.specs.State.{foundOf, stateOf, outcomeOf, cutsOf, hasBadWeight, Next, Turned, AllFit, askedOf, Begins, Going}
 use Rattle.model.specs.declared.subdivide.Counts.{Counts}
 use Rattle.model.specs.declared.contains.Found.{Found}
 use Rattle.geometry.specs.declared.slots.Shape.{Shape}
@@ -36,14 +36,11 @@ use Rattle.geometry.proofs.subdivide.State.{Turn, turn-on, turn-bad, tu
 
 -- ---- a visit does not look at the nodes
 
-pub turned : (s : Shape) (box : List Float) (resolution : Float) (nodes : ℕ) (c : Piece) (a b d e : ℕ) (l m : List Float) (o : Outcome) → d ≡ e
+turned : (s : Shape) (box : List Float) (resolution : Float) (nodes : ℕ) (c : Piece) (a b d e : ℕ) (l m : List Float) (o : Outcome) → d ≡ e
     → Turned (visit geop (askedOf s box resolution 0) c) s a b d l m o → Turned (visit geop (askedOf s box resolution nodes) c) s a b e l m o
 turned s box resolution nodes c a b d e l m o E h =
     subst (λ (i : ℕ). Turned (visit geop (askedOf s box resolution nodes) c) s a b i l m o) E
     (subst (λ (v : Visit). Turned v s a b d l m o) (visit-nodes geop (s .dim) (s .degree) (scalarsOf (s .dim) box) resolution 0 nodes c) h)
-
-pub next-at : (slots : ℕ) (x : Search) (d e : ℕ) (o : Outcome) (y : Search) → d ≡ e → Next slots x d o y → Next slots x e o y
-next-at slots x d e o y E = subst (λ (i : ℕ). Next slots x i o y) E
 
 -- ---- and makes at most two cuts
 
@@ -139,7 +136,7 @@ module _ (see : Piece → Visit) (few : (c : Piece) → OneOrTwo (see c)) (nodes
       ring′ = subst (λ (k : ℕ). Ring s l (nodes + 3) (x .head) k) one-more (g .ring)
 
       -- the first piece waits in its slot
-      pub going-waits : Waits s l (baseOf s (x .head))
+      going-waits : Waits s l (baseOf s (x .head))
       going-waits = head-waits s l (nodes + 3) (x .head) (x .pending - 1) ring′
 
       -- and what holds of every piece that waits holds of it
@@ -156,22 +153,22 @@ module _ (see : Piece → Visit) (few : (c : Piece) → OneOrTwo (see c)) (nodes
             ap (λ (i : ℕ). advance see nodes i (begun (pieceAt s l₀ 0))) z ∙ g .same 0 ∙ waits see nodes here not-yet
 
         -- so the counts are those of a state after so many visits,
-        pub going-counted : Counted (x .counts .visited) (stateOf s l (nodes + 3) x)
+        going-counted : Counted (x .counts .visited) (stateOf s l (nodes + 3) x)
         going-counted = subst (AfterVisits nodes (x .counts .visited)) stood (begun-stands see few nodes (pieceAt s l₀ 0) (x .counts .visited)) .0
 
-        pub going-cuts : x .counts .cuts ≤ 2 * x .counts .visited
+        going-cuts : x .counts .cuts ≤ 2 * x .counts .visited
         going-cuts = unfold stateOf in going-counted .cuts
 
         -- there is a slot for each piece that a visit hands on,
-        pub going-room : x .pending + 1 < nodes + 3
+        going-room : x .pending + 1 < nodes + 3
         going-room = let p : length (waiting s l (nodes + 3) (x .head) (x .pending)) ≤ x .counts .visited + 1 = unfold stateOf in going-counted .pieces in omega (arith, long-queue, p)
 
         -- the first piece is no deeper than there were visits,
-        pub going-depth : depthAt s l (baseOf s (x .head)) ≤ x .counts .visited
+        going-depth : depthAt s l (baseOf s (x .head)) ≤ x .counts .visited
         going-depth = unfold waitsAt in going-first (λ w. w .depth ≤ x .counts .visited) (unfold stateOf in going-counted .depths)
 
         -- and can be visited, as all that wait
-        pub going-fit : ((k : ℕ) → AllFit s (advance see nodes k (begun (pieceAt s l₀ 0)))) → Fit s (pieceAt s l (baseOf s (x .head)))
+        going-fit : ((k : ℕ) → AllFit s (advance see nodes k (begun (pieceAt s l₀ 0)))) → Fit s (pieceAt s l (baseOf s (x .head)))
         going-fit f = unfold waitsAt in going-first (λ w. Fit s (w .piece)) (unfold stateOf in subst (AllFit s) stood (f (x .counts .visited)))
 
         module _ (m : List Float) (o : Outcome) (kept : length m ≡ length l) (small : nodes ≤ 4096)
@@ -180,7 +177,7 @@ module _ (see : Piece → Visit) (few : (c : Piece) → OneOrTwo (see c)) (nodes
           shallow = omega (arith, going-depth, small)
 
           -- what is behind the ring is as it was
-          pub going-rest : drop ((nodes + 3) * wordsOf s) m ≡ drop ((nodes + 3) * wordsOf s) l₀
+          going-rest : drop ((nodes + 3) * wordsOf s) m ≡ drop ((nodes + 3) * wordsOf s) l₀
           going-rest = turn-behind see s l m (nodes + 3) x o (g .ring) some-wait going-room w shallow ∙ g .rest
 
           module _ (y : Search) (z : Next (nodes + 3) x (depthAt s l (baseOf s (x .head))) o y) where
@@ -188,14 +185,14 @@ module _ (see : Piece → Visit) (few : (c : Piece) → OneOrTwo (see c)) (nodes
             one = ap (λ (v : Counts). v .visited) (z .counts)
 
             -- a weight is not above zero
-            pub going-bad : hasBadWeight o ≡ true → failedWith (y .counts) ≡ sought
+            going-bad : hasBadWeight o ≡ true → failedWith (y .counts) ≡ sought
             going-bad e =
                 at-end (suc (nodes - suc (x .counts .visited))) (failedWith (y .counts)) (omega arith)
                 (fails see nodes (nodes - suc (x .counts .visited)) here (failedWith (y .counts)) not-yet
                 (unfold stateOf in (turn-bad see s l m (nodes + 3) x o (g .ring) some-wait going-room w shallow y z e)))
 
             -- one turn more
-            pub going-on : hasBadWeight o ≡ false → Going see nodes s l₀ m y
+            going-on : hasBadWeight o ≡ false → Going see nodes s l₀ m y
             going-on e = record {
               ring = t .ring;
               within = omega (arith, one);
@@ -210,3 +207,47 @@ module _ (see : Piece → Visit) (few : (c : Piece) → OneOrTwo (see c)) (nodes
               where
                 t : Turn see s l m (nodes + 3) x o y
                 t = turn-on see s l m (nodes + 3) x o (g .ring) some-wait going-room w shallow y z e
+
+-- ---- a turn of the code's loop: a piece waits, and a visit is left for it
+
+-- What it asks of where the search stands.
+pub record Ready (nodes : ℕ) (s : Shape) (l : List Float) (x : Search) : Type 0 where
+  pub waits : Waits s l (baseOf s (x .head))
+  pub deep : depthAt s l (baseOf s (x .head)) ≤ 0x1000
+  pub room : x .pending + 1 < nodes + 3
+  pub cuts : x .counts .cuts ≤ 0x2000
+  pub fit : Fit s (pieceAt s l (baseOf s (x .head)))
+
+-- What it comes to, where the visit came out as o and left m, and the search stands at y then.
+pub record Comes (see : Piece → Visit) (nodes : ℕ) (s : Shape) (l₀ m : List Float) (o : Outcome) (y : Search) : Type 0 where
+  pub bad : hasBadWeight o ≡ true → failedWith (y .counts) ≡ answered (advance see nodes nodes (begun (pieceAt s l₀ 0)))
+  pub on : hasBadWeight o ≡ false → Going see nodes s l₀ m y
+  pub rest : drop ((nodes + 3) * wordsOf s) m ≡ drop ((nodes + 3) * wordsOf s) l₀
+
+module _ (s : Shape) (box : List Float) (resolution : Float) (nodes : ℕ) (l₀ : List Float) (b : Begins s (askedOf s box resolution nodes) l₀)
+    (l : List Float) (x : Search) (g : Going (visit geop (askedOf s box resolution nodes)) nodes s l₀ l x) (w : 0 < x .pending) (more : x .counts .visited < nodes) where
+  abbrev see : Piece → Visit
+  see = visit geop (askedOf s box resolution nodes)
+
+  few : (c : Piece) → OneOrTwo (visit geop (askedOf s box resolution nodes) c)
+  few = visit-cuts geop (askedOf s box resolution nodes)
+
+  pub ready : Ready nodes s l x
+  ready = record {
+    waits = going-waits see few nodes s l₀ l x g w;
+    deep = omega (arith, going-depth see few nodes s l₀ l x g w more, b .few);
+    room = going-room see few nodes s l₀ l x g w more;
+    cuts = omega (arith, going-cuts see few nodes s l₀ l x g w more, b .few);
+    fit = going-fit see few nodes s l₀ l x g w more (b .fits);
+  }
+
+  pub comes : (d : ℕ) (m : List Float) (o : Outcome) (y : Search) → length m ≡ length l → d ≡ depthAt s l (baseOf s (x .head))
+      → Turned (visit geop (askedOf s box resolution 0) (pieceAt s l (baseOf s (x .head)))) s (ringBase s (nodes + 3) (x .head) (x .pending)) (ringBase s (nodes + 3) (x .head) (x .pending + 1)) d l m o
+      → Next (nodes + 3) x d o y → Comes (visit geop (askedOf s box resolution nodes)) nodes s l₀ m o y
+  comes d m o y kept D t n =
+      let t′ = turned s box resolution nodes _ _ _ _ _ _ _ _ D t in
+      let n′ = subst (λ (i : ℕ). Next (nodes + 3) x i o y) D n in record {
+        bad = going-bad see few nodes s l₀ l x g w more m o kept (b .few) t′ y n′;
+        on = going-on see few nodes s l₀ l x g w more m o kept (b .few) t′ y n′;
+        rest = going-rest see few nodes s l₀ l x g w more m o kept (b .few) t′;
+      }

@@ -1,6 +1,6 @@
 -- A count as a word of a slot, and back, and the places of a slot's points. Leans on lib.Ieee's laws of whole numbers.
-use mathlib.Core.Path.{_≡_, refl, sym, ap, _∙_, subst}
-use mathlib.Core.List.{List, []}
+use mathlib.Core.Path.{_≡_, refl}
+use mathlib.Core.List.{List}
 use Prim.Native.Nat.{ℕ, suc, _+_, _*_, _^_, _≤_, _<_}
 use native.Mathlib.Nat.{lt-of-le-of-lt, mul-le-mul-left, mul-le-mul, mul-add, mul-suc, mul-zero}
 use native.Mathlib.Numerals.{add-one}
@@ -8,7 +8,7 @@ use native.Mathlib.Omega.{arith}
 use lib.Dec.{T, leb, le→leb, lit<}
 use lib.ListN.{length, getD}
 use lib.IntN.{pos}
-use lib.Ieee.{Float, nan, inFloat, inUnsigned, toUnsigned, ofInt, binary64}
+use lib.Ieee.{Float, nan, inFloat, inUnsigned, toUnsigned, binary64}
 use lib.Ieee.Back.{unsigned-back}
 use Rattle.model.specs.Layout.{slotWords}
 use Rattle.geometry.specs.Slots.{wordsOf, word, countAt, placeOf, pointsFrom, pointWords, Sized, Inside, Held}

@@ -1,22 +1,21 @@
 -- A piece that is written into a slot is read back, and no other slot notices. Leans on the laws of lists and of numbers side by side.
-use mathlib.Core.Path.{_≡_, refl, sym, ap, _∙_}
-use mathlib.Core.Logic.{_⊎_, inl, inr}
-use mathlib.Core.List.{List, [], _∷_, _++_}
-use Prim.Native.Nat.{ℕ, zero, suc, _+_, _-_, _*_, _≤_, _<_}
+use mathlib.Core.Path.{_≡_, sym, ap, _∙_}
+use mathlib.Core.Logic.{inl, inr}
+use mathlib.Core.List.{List, _∷_, _++_}
+use Prim.Native.Nat.{ℕ, suc, _+_, _*_, _≤_, _<_}
 use native.Mathlib.Nat.{mul-le-mul-left}
 use native.Mathlib.Numerals.{add-one}
 use native.Mathlib.Omega.{arith}
-use lib.ListN.{length, take, drop, getD}
+use lib.ListN.{length, drop, getD}
 use lib.Seq.{take-all}
 use lib.Ieee.{Float, nan}
 use Rattle.lists.specs.Lists.{part, put}
-use Rattle.lists.proofs.Part.{length-part, part-cons, getD-part, part-part}
-use Rattle.lists.proofs.Put.{length-put, put-part, put-put, put-swap, put-inside}
+use Rattle.lists.proofs.Part.{length-part, part-cons}
+use Rattle.lists.proofs.Put.{length-put, put-part, put-swap, put-inside}
 use Rattle.lists.proofs.Read.{part-put-in, part-put-other, getD-put, getD-put-before}
-use Rattle.model.specs.Vector.{Vector}
 use Rattle.model.specs.NurbCurve.{Piece}
 use Rattle.model.specs.Layout.{pointsOf, slotWords}
-use Rattle.geometry.specs.Slots.{wordsOf, pointWords, pointsFrom, word, countAt, knotsAt, numbers, pieceAt, placed, Wide, Sized, Fits, Inside, Held}
+use Rattle.geometry.specs.Slots.{wordsOf, pointWords, pointsFrom, word, countAt, knotsAt, numbers, pieceAt, placed, Fits, Inside, Held}
 use Rattle.geometry.specs.declared.slots.Shape.{Shape}
 use Rattle.geometry.proofs.Lists.Copies.{put-cover, drop-written}
 use Rattle.geometry.proofs.slots.Counts.{count-back}

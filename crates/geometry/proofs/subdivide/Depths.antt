@@ -5,9 +5,8 @@ use Prim.Native.Nat.{ℕ, suc, _+_, _-_}
 use native.Mathlib.Numerals.{add-one}
 use lib.Ieee.{Float}
 use Rattle.lists.specs.Lists.{put}
-use Rattle.model.specs.NurbCurve.{Piece}
 use Rattle.model.specs.Subdivide.{Visit, restricted, halved}
-use Rattle.geometry.specs.Slots.{wordsOf, depthFrom, word, pieceAt, Inside, Held, DepthIs, Apart}
+use Rattle.geometry.specs.Slots.{wordsOf, depthFrom, word, pieceAt, Inside, Held, Apart}
 use Rattle.geometry.specs.Ring.{Beside}
 use Rattle.geometry.specs.State.{outcomeOf, Visited, withDepths, Turned}
 use Rattle.geometry.specs.declared.slots.Shape.{Shape}

@@ -12,8 +12,7 @@ use Rattle.model.specs.declared.subdivide.Counts.{Counts}
 use Rattle.geometry.specs.State.{askedOf, Going}
 use Rattle.geometry.specs.declared.slots.Shape.{Shape}
 use Rattle.model.proofs.Cuts.{OneOrTwo, visit-cuts}
-use Rattle.geometry.proofs.contains.Search.{turned, next-at, cuts-few, going-start, going-none, going-spent, going-waits, going-cuts, going-room, going-depth, going-fit, going-rest, going-bad, going-on}
-use borrow.Author.Needs.{needs}
+use Rattle.geometry.proofs.contains.Search.{cuts-few, going-start, going-none, going-spent, Ready, Comes, ready, comes}
 use Rattle.geometry.proofs.contains.search_ring.Statement.{statement}
 use Rattle.geometry.proofs.contains.search_ring.Tie as tie
 
@@ -45,18 +44,36 @@ waits c = omega (arith, c .before .before .before .if1 .taken)
 more : (c : tie.Else2 Inv-loop μ-loop) → loop-of c .loop .q .counts .visited < from-loop (loop-of c) .args .nodes
 more c = omega (arith, c .if2 .left, loop-of c .loop .inv .within)
 
--- it has been visited
-abbrev depth-of : tie.After-visit-next Inv-loop μ-loop → tie.After-next-depth Inv-loop μ-loop
-depth-of c = c .before .before
+asks : (c : tie.Else2 Inv-loop μ-loop) → Ready (from-loop (loop-of c) .args .nodes) (from-loop (loop-of c) .args .s) (loop-of c .loop .work) (loop-of c .loop .q)
+asks c =
+    let k = from-loop (loop-of c) in
+    let g = k .args in
+    let l = loop-of c .loop in
+    ready (g .s) (g .point-box .now) (g .resolution) (g .nodes) (g .work .now) (k .pre .0) (l .work) (l .q) (l .inv) (waits c) (more c)
 
+-- it has been visited
 abbrev left-of : tie.After-visit-next Inv-loop μ-loop → tie.Else2 Inv-loop μ-loop
-left-of c = depth-of c .before .before
+left-of c = c .before .before .before .before
 
 -- and counted
 abbrev visit-of : tie.After-after-visit Inv-loop μ-loop → tie.After-visit-next Inv-loop μ-loop
 visit-of c = c .before .before .before
 
--- ---- up to the visit
+gives : (c : tie.After-after-visit Inv-loop μ-loop)
+    → let k = from-loop (loop-of (left-of (visit-of c))) in
+    let g = k .args in
+    let v = visit-of c .visit-next in
+    Comes (seeing (g .s) (g .point-box .now) (g .resolution) (g .nodes)) (g .nodes) (g .s) (g .work .now) (v .last .0) (v .result) (c .after-visit .result)
+gives c =
+    let v = visit-of c in
+    let left = left-of v in
+    let k = from-loop (loop-of left) in
+    let g = k .args in
+    let l = loop-of left .loop in
+    comes (g .s) (g .point-box .now) (g .resolution) (g .nodes) (g .work .now) (k .pre .0) (l .work) (l .q) (l .inv) (waits left) (more left)
+    _ _ _ _ (v .visit-next .kept .0) (v .before .before .next-depth .ensures) (v .visit-next .ensures) (c .after-visit .ensures)
+
+-- ---- before the loop
 
 slot-words-requires : tie.Need-slot-words-requires Inv-loop μ-loop
 slot-words-requires c κs = let z = c .before .before .pre .0 .ring .sized in (z .dim, (z .degree, z .count))
@@ -70,6 +87,8 @@ loop-holds c =
     let g = k .args in
     going-start (seeing (g .s) (g .point-box .now) (g .resolution) (g .nodes)) (few (g .s) (g .point-box .now) (g .resolution) (g .nodes)) (g .nodes) (g .s) (g .work .now) (k .pre .0 .ring) (k .pre .0 .whole)
 
+-- ---- no visit is left
+
 same-length : tie.Need-same-length Inv-loop μ-loop
 same-length c = let at-loop = c .before .before .before .before .before in at-loop .loop .inv .long
 
@@ -82,50 +101,29 @@ returns c =
       rest = l .inv .rest;
     }
 
+-- ---- a visit
+
 next-depth-requires : tie.Need-next-depth-requires Inv-loop μ-loop
-next-depth-requires c κs =
-    let left = c .before in
-    let k = from-loop (loop-of left) in
-    let g = k .args in
-    let l = loop-of left .loop in
-    let see = seeing (g .s) (g .point-box .now) (g .resolution) (g .nodes) in
-    let cuts = few (g .s) (g .point-box .now) (g .resolution) (g .nodes) in (
-      (going-waits see cuts (g .nodes) (g .s) (g .work .now) (l .work) (l .q) (l .inv) (waits left), loop-of left .before .slot-words .ensures),
-      omega (arith, going-depth see cuts (g .nodes) (g .s) (g .work .now) (l .work) (l .q) (l .inv) (waits left) (more left), l .inv .within, k .pre .0 .few),
-    )
+next-depth-requires c κs = let a = asks (c .before) in ((a .waits, loop-of (c .before) .before .slot-words .ensures), a .deep)
 
 visit-next-requires : tie.Need-visit-next-requires Inv-loop μ-loop
 visit-next-requires c κs =
-    let depth = c .before in
-    let left = depth .before .before in
+    let left = c .before .before .before in
     let k = from-loop (loop-of left) in
-    let g = k .args in
-    let l = loop-of left .loop in
-    let see = seeing (g .s) (g .point-box .now) (g .resolution) (g .nodes) in
-    let cuts = few (g .s) (g .point-box .now) (g .resolution) (g .nodes) in
-    let deep = going-depth see cuts (g .nodes) (g .s) (g .work .now) (l .work) (l .q) (l .inv) (waits left) (more left) in (
-      (l .inv .ring, waits left, going-room see cuts (g .nodes) (g .s) (g .work .now) (l .work) (l .q) (l .inv) (waits left) (more left)),
-      (
-        (omega (arith, k .pre .0 .few), loop-of left .before .slot-words .ensures, omega (arith, depth .next-depth .ensures, deep, l .inv .within, k .pre .0 .few)),
-        (going-fit see cuts (g .nodes) (g .s) (g .work .now) (l .work) (l .q) (l .inv) (waits left) (more left) (k .pre .0 .fits), k .pre .1),
-      ),
+    let a = asks left in (
+      (loop-of left .loop .inv .ring, waits left, a .room),
+      ((omega (arith, k .pre .0 .few), loop-of left .before .slot-words .ensures, omega (arith, c .before .next-depth .ensures, a .deep)), (a .fit, k .pre .1)),
     )
-
--- ---- behind the visit
 
 after-visit-requires : tie.Need-after-visit-requires Inv-loop μ-loop
 after-visit-requires c κs =
     let v = c .before .before in
     let left = left-of v in
     let k = from-loop (loop-of left) in
-    let g = k .args in
-    let l = loop-of left .loop in
-    let see = seeing (g .s) (g .point-box .now) (g .resolution) (g .nodes) in
-    let cuts = few (g .s) (g .point-box .now) (g .resolution) (g .nodes) in
-    let room = going-room see cuts (g .nodes) (g .s) (g .work .now) (l .work) (l .q) (l .inv) (waits left) (more left) in
-    let made = going-cuts see cuts (g .nodes) (g .s) (g .work .now) (l .work) (l .q) (l .inv) (waits left) (more left) in (
-      (l .inv .ring .start, waits left, omega (arith, room), omega (arith, k .pre .0 .few)),
-      (omega (arith, l .inv .within, k .pre .0 .few), omega (arith, made, l .inv .within, k .pre .0 .few), cuts-few _ (g .s) _ _ _ _ _ _ _ (v .visit-next .ensures)),
+    let a = asks left in
+    let i = loop-of left .loop .inv in (
+      (i .ring .start, waits left, omega (arith, a .room), omega (arith, k .pre .0 .few)),
+      (omega (arith, i .within, k .pre .0 .few), omega (arith, a .cuts), cuts-few _ (k .args .s) _ _ _ _ _ _ _ (v .visit-next .ensures)),
     )
 
 has-bad-weight-requires : tie.Need-has-bad-weight-requires Inv-loop μ-loop
@@ -139,20 +137,8 @@ same-length-2 c =
 returns-2 : tie.Need-returns-2 Inv-loop μ-loop
 returns-2 c =
     let bad = c .before in
-    let after = bad .before .before in
-    let v = visit-of after in
-    let left = left-of v in
-    let k = from-loop (loop-of left) in
-    let g = k .args in
-    let l = loop-of left .loop in
-    let see = seeing (g .s) (g .point-box .now) (g .resolution) (g .nodes) in
-    let cuts = few (g .s) (g .point-box .now) (g .resolution) (g .nodes) in
-    let deep = depth-of v .next-depth .ensures in
-    let w = turned (g .s) (g .point-box .now) (g .resolution) (g .nodes) _ _ _ _ _ _ _ _ deep (v .visit-next .ensures) in record {
-      found = going-bad see cuts (g .nodes) (g .s) (g .work .now) (l .work) (l .q) (l .inv) (waits left) (more left) _ _ (v .visit-next .kept .0) (k .pre .0 .few) w
-          _ (next-at _ _ _ _ _ _ deep (after .after-visit .ensures)) (sym (bad .before .has-bad-weight .ensures) ∙ bad .if3 .taken);
-      rest = going-rest see cuts (g .nodes) (g .s) (g .work .now) (l .work) (l .q) (l .inv) (waits left) (more left) _ _ (v .visit-next .kept .0) (k .pre .0 .few) w;
-    }
+    let r = gives (bad .before .before) in
+    record { found = r .bad (sym (bad .before .has-bad-weight .ensures) ∙ bad .if3 .taken); rest = r .rest }
 
 loop-less : tie.Need-loop-less Inv-loop μ-loop
 loop-less c =
@@ -160,17 +146,7 @@ loop-less c =
     omega (arith, ap (λ (v : Counts). v .visited) (after .after-visit .ensures .counts), more (left-of (visit-of after)))
 
 loop-again : tie.Need-loop-again Inv-loop μ-loop
-loop-again c =
-    let after = c .before .before in
-    let v = visit-of after in
-    let left = left-of v in
-    let k = from-loop (loop-of left) in
-    let g = k .args in
-    let l = loop-of left .loop in
-    let deep = depth-of v .next-depth .ensures in
-    going-on (seeing (g .s) (g .point-box .now) (g .resolution) (g .nodes)) (few (g .s) (g .point-box .now) (g .resolution) (g .nodes)) (g .nodes) (g .s) (g .work .now) (l .work) (l .q) (l .inv) (waits left) (more left)
-    _ _ (v .visit-next .kept .0) (k .pre .0 .few) (turned (g .s) (g .point-box .now) (g .resolution) (g .nodes) _ _ _ _ _ _ _ _ deep (v .visit-next .ensures))
-    _ (next-at _ _ _ _ _ _ deep (after .after-visit .ensures)) (sym (c .before .has-bad-weight .ensures) ∙ c .if3 .left)
+loop-again c = gives (c .before .before) .on (sym (c .before .has-bad-weight .ensures) ∙ c .if3 .left)
 
 -- ---- no piece waits
 
