@@ -1,4 +1,4 @@
-/* The question of arc.txt, asked from C: prints the same six lines as bin/gripcheck examples/arc.txt. */
+/* The question of arc.txt, asked from C: prints the same seven lines as bin/gripcheck examples/arc.txt. */
 #include <inttypes.h>
 #include <stdio.h>
 #include <stdlib.h>

@@ -1,4 +1,4 @@
-//! The question of arc.txt, asked from Rust: prints the same six lines as bin/gripcheck examples/arc.txt.
+//! The question of arc.txt, asked from Rust: prints the same seven lines as bin/gripcheck examples/arc.txt.
 
 mod puhlwazo {
     //! A safe face of the library: slices become pointers and lengths, and the numbers of an answer one enum.

@@ -2,7 +2,7 @@
  *
  * docs/LINKING.md leads through it. The library calls nothing but memcpy and memset, takes no memory of its own and keeps nothing between two calls: several
  * threads may call it at once, each with its own work area and answer. A call takes less than 4 KB of stack, the first one a few more where the dynamic linker
- * binds memset in it (6 KB in all were seen; the linker's share depends on the processor).
+ * binds memset in it (some 6 KB in all were seen; the linker's share depends on the processor).
  *
  * What the pointers must be, in every call:
  *   - each points to as many numbers as the length behind it says (counts to PUHLWAZO_COUNTS, bounds to 2), and is aligned for them; none is NULL, also where

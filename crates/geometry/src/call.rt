@@ -280,7 +280,7 @@ fn nodes_fit(nodes: usize) -> bool
     nodes <= 4096
 }
 
-// The words of a slot of the work area.
+// The words of a slot of the work area, the last of them for the depth.
 pub(crate) fn slot_words(dim: usize, degree: usize, count: usize) -> usize
     requires { ⌜ (dim ≤ 3) × ((degree ≤ 7) × (count ≤ 32)) ⌝ }
     ensures { λ r. ⌜ r ≡ slotWords dim degree count ⌝ }
