@@ -13,7 +13,7 @@ use Rattle.math.specs.Scalars.{Arithmetic}
 use Rattle.model.specs.NurbCurve.{Piece}
 use Rattle.model.specs.declared.contains.Found.{Found}
 use Rattle.model.specs.declared.subdivide.Counts.{Counts}
-use Rattle.model.specs.Subdivide.{Question, Visit, dropped, reported, restricted, halved, badWeight, Waiting, State, Step, going, over, atDepth, withVisit, complete, spentWith, after, ended, step, advance, answered}
+use Rattle.model.specs.Subdivide.{Question, Visit, dropped, reported, restricted, halved, badWeight, Waiting, State, Step, going, over, withVisit, complete, spentWith, after, ended, step, advance, answered}
 use Rattle.model.specs.Aabb.{couldMeet}
 use Rattle.model.specs.Contains.{visit, begun, couldContain}
 use Rattle.model.specs.Call.{Call, question, asPiece, refusal, searchedBy, searched}
@@ -61,24 +61,20 @@ module _ (see : Piece → Visit) (few : (c : Piece) → OneOrTwo (see c)) (nodes
     unfolding after
     turn dropped t = record { visits = omega (arith, g .visits); cuts = omega (arith, g .cuts); deep = deep; pieces = omega (arith, g .pieces); depths = behind }
     turn (reported x) t = record { visits = omega (arith, g .visits); cuts = omega (arith, g .cuts); deep = deep; pieces = omega (arith, g .pieces); depths = behind }
-    turn (restricted n d) t =
-        let new : List Waiting = atDepth (c .depth) d ∷ [] in
-        record {
-          visits = omega (arith, g .visits);
-          cuts = omega (arith, g .cuts, t .1);
-          deep = deep;
-          pieces = omega (arith, g .pieces, length-append cs new);
-          depths = every-append (λ w. w .depth ≤ suc j) cs new behind (omega (arith, g .depths .0), tt);
-        }
-    turn (halved l r) t =
-        let new : List Waiting = atDepth (suc (c .depth)) l ∷ atDepth (suc (c .depth)) r ∷ [] in
-        record {
-          visits = omega (arith, g .visits);
-          cuts = omega (arith, g .cuts);
-          deep = deep;
-          pieces = omega (arith, g .pieces, length-append cs new);
-          depths = every-append (λ w. w .depth ≤ suc j) cs new behind (omega (arith, g .depths .0), (omega (arith, g .depths .0), tt));
-        }
+    turn (restricted n d) t = record {
+      visits = omega (arith, g .visits);
+      cuts = omega (arith, g .cuts, t .1);
+      deep = deep;
+      pieces = simp length-append (omega (arith, g .pieces));
+      depths = every-append (λ w. w .depth ≤ suc j) cs _ behind (omega (arith, g .depths .0), tt);
+    }
+    turn (halved l r) t = record {
+      visits = omega (arith, g .visits);
+      cuts = omega (arith, g .cuts);
+      deep = deep;
+      pieces = simp length-append (omega (arith, g .pieces));
+      depths = every-append (λ w. w .depth ≤ suc j) cs _ behind (omega (arith, g .depths .0), (omega (arith, g .depths .0), tt));
+    }
     turn badWeight t =
         record { visits = omega (arith, g .visits); cuts = omega (arith, g .visits, g .cuts); deep = record { most = omega (arith, g .visits, deep .most); below = λ _. omega (arith, g .visits, g .deep .most, g .depths .0) } }
 

@@ -5,7 +5,7 @@ use mathlib.Core.Bool.{true}
 use mathlib.Core.List.{List, [], _∷_}
 use Rattle.lists.specs.Lists.{all}
 use Rattle.model.proofs.Rows.{Row, prints, cuts, sums, products, roots, right}
-use Rattle.model.proofs.Texts.{single, twice, slope, diagonal, light, arc, rise, hook, still}
+use Rattle.model.proofs.Texts.{single, twice, slope, diagonal, light, loose, arc, rise, still}
 
 -- enclosed, visited 1, pending 0, from 0 to 1
 abbrev P1 : Row
@@ -115,9 +115,9 @@ D2 = prints (diagonal 2 0 0x3ff0000000000000) (2 ∷ 2 ∷ 0 ∷ 1 ∷ 1 ∷ 0 �
 abbrev D3 : Row
 D3 = prints (slope 0x3ff0000000000000 0 4 0x3fe8000000000000 0x3ff0000000000000) (2 ∷ 4 ∷ 0 ∷ 2 ∷ 3 ∷ 0 ∷ 0 ∷ [])
 
--- both halves of the left half are visited, and then the right half, which was cut down and is less deep; deeper pieces wait: spent, visited 6, cuts 1, depth 2, pending 4
+-- the left half is halved, and the right one cut down: what is left of that is visited last, and is less deep than those before it: enclosed, visited 6, cuts 1, depth 2
 abbrev D4 : Row
-D4 = prints (hook 6) (2 ∷ 6 ∷ 1 ∷ 2 ∷ 4 ∷ 0 ∷ 0 ∷ [])
+D4 = prints loose (1 ∷ 6 ∷ 1 ∷ 2 ∷ 0 ∷ 0x3fd0000000000002 ∷ 0x3fe800000000004d ∷ [])
 
 -- on the domain from 0 to 2 ^ -1023, the visit of the left half ends in 11, and counts: refused by 11, visited 2, depth 1
 abbrev D5 : Row

@@ -61,9 +61,17 @@ light = line 1 0
     ∷ [])
     (0 ∷ 0 ∷ 0 ∷ 0 ∷ [])
 
--- A text of degree 2 on 0, 0, 0, e, e, e from (0, 0) by (x, z) to (w, y), weights 1, resolution 0.
-abbrev curved : ℕ → ℕ → ℕ → ℕ → ℕ → ℕ → List ℕ → Text
-curved e nodes x z w y box = record {
+-- The numbers 4, 2 beside a weight from 1 to 2, and 0, 0 beside the weight 2; and the box at the abscissa 1, from 0 to 1.
+abbrev pub loose : Text
+loose = line 6 0
+    (0x4010000000000000 ∷ 0x4010000000000000 ∷ 0x4000000000000000 ∷ 0x4000000000000000 ∷ 0x3ff0000000000000 ∷ 0x4000000000000000
+    ∷ 0 ∷ 0 ∷ 0 ∷ 0 ∷ 0x4000000000000000 ∷ 0x4000000000000000
+    ∷ [])
+    (0x3ff0000000000000 ∷ 0x3ff0000000000000 ∷ 0 ∷ 0x3ff0000000000000 ∷ [])
+
+-- A text of degree 2 on 0, 0, 0, e, e, e from (0, 0) to (4, y), with the control point (x, z) between them, weights 1, resolution 0, and a box that is the point (a, b).
+abbrev bend : ℕ → ℕ → ℕ → ℕ → ℕ → ℕ → ℕ → Text
+bend e nodes x z y a b = record {
   dim = 2;
   degree = 2;
   count = 3;
@@ -73,14 +81,10 @@ curved e nodes x z w y box = record {
   points =
       0 ∷ 0 ∷ 0 ∷ 0 ∷ 0x3ff0000000000000 ∷ 0x3ff0000000000000
       ∷ x ∷ x ∷ z ∷ z ∷ 0x3ff0000000000000 ∷ 0x3ff0000000000000
-      ∷ w ∷ w ∷ y ∷ y ∷ 0x3ff0000000000000 ∷ 0x3ff0000000000000
+      ∷ 0x4010000000000000 ∷ 0x4010000000000000 ∷ y ∷ y ∷ 0x3ff0000000000000 ∷ 0x3ff0000000000000
       ∷ [];
-  box = box;
+  box = a ∷ a ∷ b ∷ b ∷ [];
 }
-
--- The same to (4, y), and a box that is the point (a, b).
-abbrev bend : ℕ → ℕ → ℕ → ℕ → ℕ → ℕ → ℕ → Text
-bend e nodes x z y a b = curved e nodes x z 0x4010000000000000 y (a ∷ a ∷ b ∷ b ∷ [])
 
 -- The arc by (2, 4) to (4, 0), and the box (2, 3), which lies above it.
 abbrev pub arc : Text
@@ -89,11 +93,6 @@ arc = bend 0x3ff0000000000000 4 0x4000000000000000 0x4010000000000000 0 0x400000
 -- The bend by (1, 0) to (4, 4), and the box (3/2, 1), which it passes at e / 2.
 abbrev pub rise : ℕ → ℕ → Text
 rise e nodes = bend e nodes 0x3ff0000000000000 0 0x4010000000000000 0x3ff8000000000000 0x3ff0000000000000
-
--- The bend by (1, 0) to (1, 2) on 0, 0, 0, 1, 1, 1, and the box from 1/2 to 3/4 on both axes.
-abbrev pub hook : ℕ → Text
-hook nodes = curved 0x3ff0000000000000 nodes 0x3ff0000000000000 0 0x3ff0000000000000 0x4000000000000000
-    (0x3fe0000000000000 ∷ 0x3fe8000000000000 ∷ 0x3fe0000000000000 ∷ 0x3fe8000000000000 ∷ [])
 
 -- A cubic of four points, all of them (0, 0, 0), and the box (1, 1, 1), which misses it.
 abbrev pub still : ℕ → Text
