@@ -1,7 +1,7 @@
 -- `greater` equals its definition: each arm returns what the definition picks under the same test.
 use Rattle.math.proofs.Bools.{pick-yes, pick-no}
-use Rattle.math.proofs.scalars.greater.Statement.{statement}
-use Rattle.math.proofs.scalars.greater.Tie as tie
+use Rattle.math.proofs.floats.greater.Statement.{statement}
+use Rattle.math.proofs.floats.greater.Tie as tie
 
 returns : tie.Need-returns
 returns c = pick-yes _ _ _ (c .if1 .taken)

@@ -4,8 +4,8 @@ use Rattle.math.specs.Picks.{maxF}
 use Rattle.math.proofs.Bools.{pick-yes, pick-no}
 use Rattle.math.proofs.Doubles.Tests.{ne-nan, ne-number}
 use borrow.Author.Needs.{needs}
-use Rattle.math.proofs.scalars.max.Statement.{statement}
-use Rattle.math.proofs.scalars.max.Tie as tie
+use Rattle.math.proofs.floats.max.Statement.{statement}
+use Rattle.math.proofs.floats.max.Tie as tie
 
 returns : tie.Need-returns
 unfolding maxF

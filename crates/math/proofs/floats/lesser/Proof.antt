@@ -1,7 +1,7 @@
 -- `lesser` equals its definition: each arm returns what the definition picks under the same test.
 use Rattle.math.proofs.Bools.{pick-yes, pick-no}
-use Rattle.math.proofs.scalars.lesser.Statement.{statement}
-use Rattle.math.proofs.scalars.lesser.Tie as tie
+use Rattle.math.proofs.floats.lesser.Statement.{statement}
+use Rattle.math.proofs.floats.lesser.Tie as tie
 
 returns : tie.Need-returns
 returns c = pick-yes _ _ _ (c .if1 .taken)

@@ -6,8 +6,8 @@ use lib.Dec.{T}
 use lib.Ieee.{binary64, toBits, nanBits}
 use Rattle.math.proofs.Doubles.Steps.{Steps, steps, up-ok}
 use borrow.Author.Needs.{needs}
-use Rattle.math.proofs.scalars.up.Statement.{statement}
-use Rattle.math.proofs.scalars.up.Tie as tie
+use Rattle.math.proofs.floats.up.Statement.{statement}
+use Rattle.math.proofs.floats.up.Tie as tie
 
 -- an f64 holds a double of its format, and x is no NaN
 by-pattern : (c : tie.Start) → Steps (c .args .x) (toBits binary64 (c .args .x))

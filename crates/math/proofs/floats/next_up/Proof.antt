@@ -2,8 +2,8 @@
 use Rattle.math.proofs.Doubles.Tests.{ne-nan, ne-number}
 use Rattle.math.proofs.Doubles.Steps.{nan-stays}
 use borrow.Author.Needs.{needs}
-use Rattle.math.proofs.scalars.next_up.Statement.{statement}
-use Rattle.math.proofs.scalars.next_up.Tie as tie
+use Rattle.math.proofs.floats.next_up.Statement.{statement}
+use Rattle.math.proofs.floats.next_up.Tie as tie
 
 returns : tie.Need-returns
 returns c = nan-stays (c .before .args .x) (ne-nan (c .before .args .x) (c .if1 .taken)) .0

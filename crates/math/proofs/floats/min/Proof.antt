@@ -4,8 +4,8 @@ use Rattle.math.specs.Picks.{minF}
 use Rattle.math.proofs.Bools.{pick-yes, pick-no}
 use Rattle.math.proofs.Doubles.Tests.{ne-nan, ne-number}
 use borrow.Author.Needs.{needs}
-use Rattle.math.proofs.scalars.min.Statement.{statement}
-use Rattle.math.proofs.scalars.min.Tie as tie
+use Rattle.math.proofs.floats.min.Statement.{statement}
+use Rattle.math.proofs.floats.min.Tie as tie
 
 returns : tie.Need-returns
 unfolding minF

@@ -6,8 +6,8 @@ use lib.Dec.{T}
 use lib.Ieee.{binary64, toBits, nanBits}
 use Rattle.math.proofs.Doubles.Steps.{StepsDown, steps-down}
 use borrow.Author.Needs.{needs}
-use Rattle.math.proofs.scalars.down.Statement.{statement}
-use Rattle.math.proofs.scalars.down.Tie as tie
+use Rattle.math.proofs.floats.down.Statement.{statement}
+use Rattle.math.proofs.floats.down.Tie as tie
 
 -- an f64 holds a double of its format, and x is no NaN
 by-pattern : (c : tie.Start) → StepsDown (c .args .x) (toBits binary64 (c .args .x))
