@@ -3,7 +3,7 @@ use Prim.Native.Nat.{ℕ}
 use mathlib.Core.Path.{_≡_}
 use mathlib.Core.List.{List}
 use lib.Ieee.{Float}
-use Rattle.math.specs.Scalars.{geop}
+use Rattle.math.specs.Scalars.{Arithmetic}
 use Rattle.model.specs.Call.{Curve, Call, AllDoubles, curveRefusal, refusal, searched, areaAfter}
 use Rattle.model.specs.Enclosure.{Doubles}
 use Rattle.model.specs.declared.contains.Found.{Found}
@@ -20,6 +20,6 @@ pub record CallRefused (c : Call) (r : ℕ) : Type 0 where
   pub doubles : r ≡ 0 → Doubles c
 
 -- The search of a call that is not refused, which found `before` in its work area and left `after`, has the answer r.
-pub record Searches (c : Call) (before after : List Float) (r : Found) : Type 0 where
-  pub result : r ≡ searched geop c
+pub record Searches (ar : Arithmetic) (c : Call) (before after : List Float) (r : Found) : Type 0 where
+  pub result : r ≡ searched ar c
   pub memory : after ≡ areaAfter c before

@@ -10,7 +10,7 @@ use lib.IntN.{pos}
 use lib.Ieee.{Float, nan, ofInt, toUnsigned, binary64, fits}
 use Rattle.lists.specs.Lists.{part, put}
 use Rattle.math.specs.declared.scalars.Scalar.{Scalar}
-use Rattle.math.specs.Scalars.{geop}
+use Rattle.math.specs.Scalars.{Arithmetic}
 use Rattle.model.specs.Vector.{Vector, interpolateV}
 use Rattle.model.specs.NurbCurve.{Piece, point, start, end, inDomain}
 use Rattle.model.specs.KnotInsertion.{Cut, alpha, blend, triangle, sides, fullCut, leftOf, rightOf}
@@ -92,20 +92,20 @@ unfoldable pub placed : Shape → List Float → ℕ → Piece → List Float
 placed s l base c = put (put l base (word (length (c .points)) ∷ c .knots)) (pointsFrom s base) (numbers (c .points))
 
 -- The blend of points j and j + 1 of the slot at base, by the knots of n points.
-unfoldable pub blendAt : Shape → List Float → ℕ → ℕ → Float → ℕ → Vector
-blendAt s l base n t j =
-    blend geop (alpha geop (s .degree) (knotsAt s l base n) t (suc j)) (vectorAt (suc (s .dim)) l (placeOf s base j)) (vectorAt (suc (s .dim)) l (placeOf s base (suc j)))
+unfoldable pub blendAt : Arithmetic → Shape → List Float → ℕ → ℕ → Float → ℕ → Vector
+blendAt ar s l base n t j =
+    blend ar (alpha ar (s .degree) (knotsAt s l base n) t (suc j)) (vectorAt (suc (s .dim)) l (placeOf s base j)) (vectorAt (suc (s .dim)) l (placeOf s base (suc j)))
 
 -- The point a fraction α of the way from point j to point j + 1 of the slot at base.
-unfoldable pub betweenAt : Shape → List Float → ℕ → Scalar → ℕ → Vector
-betweenAt s l base α j = interpolateV geop (vectorAt (suc (s .dim)) l (placeOf s base j)) (vectorAt (suc (s .dim)) l (placeOf s base (suc j))) α
+unfoldable pub betweenAt : Arithmetic → Shape → List Float → ℕ → Scalar → ℕ → Vector
+betweenAt ar s l base α j = interpolateV ar (vectorAt (suc (s .dim)) l (placeOf s base j)) (vectorAt (suc (s .dim)) l (placeOf s base (suc j))) α
 
 -- The memory l with the two sides of a triangle in the slot at base, in the place of its first degree + 1 points and behind them, and all else as it was.
 -- Those points are the triangle's first row, and each row lies a fraction α of the way between the neighbours of the one before.
-abbrev pub withSides : Shape → List Float → ℕ → Scalar → List Float
-withSides s l base α =
+abbrev pub withSides : Arithmetic → Shape → List Float → ℕ → Scalar → List Float
+withSides ar s l base α =
     let row = pointsOf (suc (s .dim)) (suc (s .degree)) (drop (pointsFrom s base) l) in
-    put l (pointsFrom s base) (numbers (sides (triangle geop α (suc (s .degree)) row)))
+    put l (pointsFrom s base) (numbers (sides (triangle ar α (suc (s .degree)) row)))
 
 -- ---- what fits
 
@@ -161,9 +161,9 @@ abbrev pub within : ℕ → Piece → Float → Bool
 within p c t = inDomain (start p c) (end c) t
 
 -- A piece that a visit can take: it can be cut, and for a degree of at least 1, what a cut at any double leaves right of it can be cut again.
-pub record Fit (s : Shape) (c : Piece) : Type 0 where
+pub record Fit (ar : Arithmetic) (s : Shape) (c : Piece) : Type 0 where
   pub whole : Whole s c
-  pub again : 1 ≤ s .degree → (t : Float) → T (fits binary64 t) → Whole s (fromBy geop (s .degree) t c (within (s .degree) c t) .piece)
+  pub again : 1 ≤ s .degree → (t : Float) → T (fits binary64 t) → Whole s (fromBy ar (s .degree) t c (within (s .degree) c t) .piece)
 
 -- ---- what a cut leaves in the memory (request E6)
 -- `memory` is one equation for every word of it, those included that nobody reads again. `others` draws from it that nothing has changed but the slots that were written;
@@ -200,15 +200,15 @@ wasCut uncut = false
 wasCut (both x y) = true
 
 -- A split of the piece c writes the cut into the slot at a, what is right of it into the slot at b, and keeps what is left.
-unfoldable pub splitInto : Shape → List Float → ℕ → ℕ → Float → Piece → Bool → List Float
-splitInto s l a b t c true = let k = fullCut geop (s .degree) t c in placed s (placed s (placed s l a (k .piece)) b (rightOf k)) a (leftOf (s .degree) k)
-splitInto s l a b t c false = l
+unfoldable pub splitInto : Arithmetic → Shape → List Float → ℕ → ℕ → Float → Piece → Bool → List Float
+splitInto ar s l a b t c true = let k = fullCut ar (s .degree) t c in placed s (placed s (placed s l a (k .piece)) b (rightOf k)) a (leftOf (s .degree) k)
+splitInto ar s l a b t c false = l
 
 -- What `split` leaves: the memory m, and the result r.
-pub record SplitAt (s : Shape) (l m : List Float) (a b : ℕ) (t : Float) (c : Piece) (r : Bool) : Type 0 where
-  pub cut : r ≡ wasCut (split geop (s .degree) t c)
-  pub memory : m ≡ splitInto s l a b t c (within (s .degree) c t)
-  pub halves : HoldingBoth s m a b (split geop (s .degree) t c)
+pub record SplitAt (ar : Arithmetic) (s : Shape) (l m : List Float) (a b : ℕ) (t : Float) (c : Piece) (r : Bool) : Type 0 where
+  pub cut : r ≡ wasCut (split ar (s .degree) t c)
+  pub memory : m ≡ splitInto ar s l a b t c (within (s .degree) c t)
+  pub halves : HoldingBoth s m a b (split ar (s .degree) t c)
   pub others : OnlyAtBoth s l m a b
 
 -- The slot at a is cut, and of the cut k the part d is kept; or there is no cut.
@@ -217,29 +217,29 @@ keepInto s l a k d true = placed s (placed s l a k) a d
 keepInto s l a k d false = l
 
 -- What is right of t is kept in the slot at a, and r is the number of cuts.
-pub record FromAt (s : Shape) (l m : List Float) (a : ℕ) (t : Float) (c : Piece) (r : ℕ) : Type 0 where
-  pub cuts : r ≡ fromBy geop (s .degree) t c (within (s .degree) c t) .cuts
-  pub memory : m ≡ keepInto s l a (fullCut geop (s .degree) t c .piece) (rightOf (fullCut geop (s .degree) t c)) (within (s .degree) c t)
+pub record FromAt (ar : Arithmetic) (s : Shape) (l m : List Float) (a : ℕ) (t : Float) (c : Piece) (r : ℕ) : Type 0 where
+  pub cuts : r ≡ fromBy ar (s .degree) t c (within (s .degree) c t) .cuts
+  pub memory : m ≡ keepInto s l a (fullCut ar (s .degree) t c .piece) (rightOf (fullCut ar (s .degree) t c)) (within (s .degree) c t)
 
 -- What is left of t is kept in the slot at a, and r is the number of cuts.
-pub record UpToAt (s : Shape) (l m : List Float) (a : ℕ) (t : Float) (c : Piece) (r : ℕ) : Type 0 where
-  pub cuts : r ≡ upToBy geop (s .degree) t c (within (s .degree) c t) .cuts
-  pub memory : m ≡ keepInto s l a (fullCut geop (s .degree) t c .piece) (leftOf (s .degree) (fullCut geop (s .degree) t c)) (within (s .degree) c t)
+pub record UpToAt (ar : Arithmetic) (s : Shape) (l m : List Float) (a : ℕ) (t : Float) (c : Piece) (r : ℕ) : Type 0 where
+  pub cuts : r ≡ upToBy ar (s .degree) t c (within (s .degree) c t) .cuts
+  pub memory : m ≡ keepInto s l a (fullCut ar (s .degree) t c .piece) (leftOf (s .degree) (fullCut ar (s .degree) t c)) (within (s .degree) c t)
 
 -- `restrict` copies the piece c into the slot at a and cuts it there, at lo and then at hi.
-unfoldable pub restrictInto : Shape → List Float → ℕ → Float → Float → Piece → List Float
-restrictInto s l a lo hi c =
+unfoldable pub restrictInto : Arithmetic → Shape → List Float → ℕ → Float → Float → Piece → List Float
+restrictInto ar s l a lo hi c =
     let p = s .degree in
-    let k = fullCut geop p lo c in
-    let d = fromBy geop p lo c (within p c lo) .piece in
-    let h = fullCut geop p hi d in
+    let k = fullCut ar p lo c in
+    let d = fromBy ar p lo c (within p c lo) .piece in
+    let h = fullCut ar p hi d in
     keepInto s (keepInto s (placed s l a c) a (k .piece) (rightOf k) (within p c lo)) a (h .piece) (leftOf p h) (within p d hi)
 
 -- What `restrict` leaves: the memory m, and the number r of cuts, one if lo lies strictly inside the domain, and one more
 -- if hi lies strictly inside what is then left; so at most 2.
-pub record RestrictAt (s : Shape) (l m : List Float) (a : ℕ) (lo hi : Float) (c : Piece) (r : ℕ) : Type 0 where
-  pub cuts : r ≡ restrict geop (s .degree) lo hi c .cuts
+pub record RestrictAt (ar : Arithmetic) (s : Shape) (l m : List Float) (a : ℕ) (lo hi : Float) (c : Piece) (r : ℕ) : Type 0 where
+  pub cuts : r ≡ restrict ar (s .degree) lo hi c .cuts
   pub most : r ≤ 2
-  pub memory : m ≡ restrictInto s l a lo hi c
-  pub held : Holding s m a (restrict geop (s .degree) lo hi c .piece)
+  pub memory : m ≡ restrictInto ar s l a lo hi c
+  pub held : Holding s m a (restrict ar (s .degree) lo hi c .piece)
   pub others : OnlyAt s l m a

@@ -10,7 +10,7 @@ use lib.Ieee.{Float}
 use Rattle.lists.specs.Lists.{put}
 use Rattle.lists.specs.Ring.{wrapped}
 use Rattle.math.specs.declared.scalars.Scalar.{Scalar}
-use Rattle.math.specs.Scalars.{geop}
+use Rattle.math.specs.Scalars.{Arithmetic}
 use Rattle.model.specs.NurbCurve.{Piece}
 use Rattle.model.specs.Subdivide.{Question, Visit, dropped, reported, restricted, halved, badWeight, State, Step, going, over, withVisit, withCuts, joined, advance, answered}
 use Rattle.model.specs.Contains.{visit, begun}
@@ -134,18 +134,18 @@ askedOf s box resolution nodes =
     record { dim = s .dim; degree = s .degree; box = scalarsOf (s .dim) box; resolution = resolution; nodes = nodes }
 
 -- Where a search stands, every piece that waits is such a piece.
-abbrev pub AllFit : Shape → Step → Type 0
-AllFit s (going t) = Every (λ w. Fit s (w .piece)) (t .queue)
-AllFit s (over r) = Unit {0}
+abbrev pub AllFit : Arithmetic → Shape → Step → Type 0
+AllFit ar s (going t) = Every (λ w. Fit ar s (w .piece)) (t .queue)
+AllFit ar s (over r) = Unit {0}
 
 -- The first slot of the ring holds the piece to search, of depth 0, and every piece that the search comes to can be visited.
-pub record Begins (s : Shape) (q : Question) (l : List Float) : Type 0 where
+pub record Begins (ar : Arithmetic) (s : Shape) (q : Question) (l : List Float) : Type 0 where
   pub ring : Ring s l (q .nodes + 3) 0 1
   pub whole : depthAt s l 0 ≡ 0
   pub few : q .nodes ≤ 4096
-  pub fits : (k : ℕ) → AllFit s (advance (visit geop q) (q .nodes) k (begun (pieceAt s l 0)))
+  pub fits : (k : ℕ) → AllFit ar s (advance (visit ar q) (q .nodes) k (begun (pieceAt s l 0)))
 
 -- The search of the piece in slot 0, in the memory l, has left the memory m and has the answer r; what is behind the ring is as it was.
-pub record RingSearched (s : Shape) (q : Question) (l m : List Float) (r : Found) : Type 0 where
-  pub found : r ≡ answered (advance (visit geop q) (q .nodes) (q .nodes) (begun (pieceAt s l 0)))
+pub record RingSearched (ar : Arithmetic) (s : Shape) (q : Question) (l m : List Float) (r : Found) : Type 0 where
+  pub found : r ≡ answered (advance (visit ar q) (q .nodes) (q .nodes) (begun (pieceAt s l 0)))
   pub rest : drop ((q .nodes + 3) * wordsOf s) m ≡ drop ((q .nodes + 3) * wordsOf s) l

@@ -101,7 +101,7 @@ fn visit_next(
 ) -> Outcome
     requires { ⌜ Ring s (now work) slots (q .head) (q .pending) × (1 ≤ q .pending) × (q .pending + 1 < slots) ⌝ }
     requires { ⌜ (slots ≤ 0x1000_0000) × (w ≡ wordsOf s) × (d ≤ 0x1000) ⌝ }
-    requires { ⌜ Fit s (pieceAt s (now work) (baseOf s (q .head))) × (2 * s .dim ≤ length (now «point_box»)) ⌝ }
+    requires { ⌜ Fit geop s (pieceAt s (now work) (baseOf s (q .head))) × (2 * s .dim ≤ length (now «point_box»)) ⌝ }
     ensures { λ r.
         let l = now (work .entry) in
         let seen = visit geop (askedOf s (now («point_box» .entry)) resolution 0) (pieceAt s l (baseOf s (q .head))) in
@@ -126,11 +126,11 @@ fn search_ring(
     resolution: f64,
     nodes: usize,
 ) -> Found
-    requires { ⌜ Begins s (askedOf s (now «point_box») resolution nodes) (now work) ⌝ }
+    requires { ⌜ Begins geop s (askedOf s (now «point_box») resolution nodes) (now work) ⌝ }
     requires { ⌜ 2 * s .dim ≤ length (now «point_box») ⌝ }
     ensures { λ r.
         let asked = askedOf s (now («point_box» .entry)) resolution nodes in
-        ⌜ RingSearched s asked (now (work .entry)) (now (work .exit)) r ⌝ }
+        ⌜ RingSearched geop s asked (now (work .entry)) (now (work .exit)) r ⌝ }
 {
     let w = slot_words(s.dim, s.degree, s.count);
     let slots = nodes + 3;
@@ -182,7 +182,7 @@ fn search_lent(
     ensures { λ r.
         let k = now (knots .entry) in let p = now (points .entry) in let b = now («point_box» .entry) in
         let c = lent dim degree count k p b resolution nodes (length (now (work .entry))) in
-        ⌜ Searches c (now (work .entry)) (now (work .exit)) r ⌝ }
+        ⌜ Searches geop c (now (work .entry)) (now (work .exit)) r ⌝ }
 {
     let words = stated_words(dim, degree, count, nodes);
     if !curve_could_meet_aabb(points, point_box, dim, degree, count) {

@@ -160,7 +160,7 @@ fn blend_point(work: &mut [f64], base: usize, s: Shape, n: usize, j: usize, t: f
     requires { ⌜ Inside s (now work) base × (j + 1 < n) × (n ≤ s .count + s .degree + 1) ⌝ }
     ensures { λ _.
         let old = now (work .entry) in
-        ⌜ now (work .exit) ≡ put old (placeOf s base (suc j)) (flat (blendAt s old base n t j)) ⌝ }
+        ⌜ now (work .exit) ≡ put old (placeOf s base (suc j)) (flat (blendAt geop s old base n t j)) ⌝ }
 {
     let from = knots_from(base);
     let end = from + n + s.degree + 1;
@@ -176,7 +176,7 @@ fn blend_points(work: &mut [f64], base: usize, s: Shape, n: usize, k: usize, t: 
     ensures { λ _.
         let old = now (work .entry) in
         ⌜ now (work .exit) ≡ put old (placeOf s base (suc (k - s .degree)))
-        (numbers (tab (s .degree) (λ j. blendAt s old base n t (k - s .degree + j)))) ⌝ }
+        (numbers (tab (s .degree) (λ j. blendAt geop s old base n t (k - s .degree + j)))) ⌝ }
 {
     let last = k - s.degree;
     let mut i = k;
@@ -262,7 +262,7 @@ fn between_point(work: &mut [f64], base: usize, s: Shape, j: usize, alpha: Scala
     requires { ⌜ Inside s (now work) base × (j < s .count + s .degree) ⌝ }
     ensures { λ _.
         let old = now (work .entry) in
-        ⌜ now (work .exit) ≡ put old (placeOf s base (suc j)) (flat (betweenAt s old base alpha j)) ⌝ }
+        ⌜ now (work .exit) ≡ put old (placeOf s base (suc j)) (flat (betweenAt geop s old base alpha j)) ⌝ }
 {
     let a = place_of(s, base, j);
     let b = place_of(s, base, j + 1);
@@ -275,7 +275,7 @@ fn next_row(work: &mut [f64], base: usize, s: Shape, r: usize, alpha: Scalar)
     ensures { λ _.
         let old = now (work .entry) in
         ⌜ now (work .exit) ≡ put old (placeOf s base (suc r))
-        (numbers (tab (s .degree - r) (λ j. betweenAt s old base alpha (r + j)))) ⌝ }
+        (numbers (tab (s .degree - r) (λ j. betweenAt geop s old base alpha (r + j)))) ⌝ }
 {
     let mut i = s.degree;
     while r < i {
@@ -302,7 +302,7 @@ fn copy_point(work: &mut [f64], base: usize, s: Shape, i: usize, j: usize)
 // far end: from the near one, points would be lost that it has yet to read.
 fn triangle_in(work: &mut [f64], base: usize, s: Shape, alpha: Scalar)
     requires { ⌜ Inside s (now work) base × (s .degree < s .count) ⌝ }
-    ensures { λ _. ⌜ now (work .exit) ≡ withSides s (now (work .entry)) base alpha ⌝ }
+    ensures { λ _. ⌜ now (work .exit) ≡ withSides geop s (now (work .entry)) base alpha ⌝ }
 {
     let p = s.degree;
     let end = 2 * p + 1;

@@ -39,7 +39,7 @@ pub(crate) fn split(
     ensures { λ r.
         let old = now (work .entry) in
         let c = pieceAt s old src in
-        ⌜ SplitAt s old (now (work .exit)) left right t c r ⌝ }
+        ⌜ SplitAt geop s old (now (work .exit)) left right t c r ⌝ }
 {
     if !is_inside(work, src, s, t) {
         return false;
@@ -59,7 +59,7 @@ pub(crate) fn split_mid(work: &mut [f64], src: usize, left: usize, right: usize,
     ensures { λ r.
         let old = now (work .entry) in
         let c = pieceAt s old src in
-        ⌜ SplitAt s old (now (work .exit)) left right (midParameter geop (start (s .degree) c) (end c)) c r ⌝ }
+        ⌜ SplitAt geop s old (now (work .exit)) left right (midParameter geop (start (s .degree) c) (end c)) c r ⌝ }
 {
     let n = count_at(work, src);
     let first = knots_from(src);
@@ -70,7 +70,7 @@ pub(crate) fn split_mid(work: &mut [f64], src: usize, left: usize, right: usize,
 // The piece in the slot at base becomes what is right of t, where t lies strictly inside its domain. The result is the number of cuts.
 fn cut_from(work: &mut [f64], base: usize, s: Shape, t: f64) -> usize
     requires { ⌜ Held s (now work) base × Whole s (pieceAt s (now work) base) ⌝ }
-    ensures { λ r. ⌜ FromAt s (now (work .entry)) (now (work .exit)) base t (pieceAt s (now (work .entry)) base) r ⌝ }
+    ensures { λ r. ⌜ FromAt geop s (now (work .entry)) (now (work .exit)) base t (pieceAt s (now (work .entry)) base) r ⌝ }
 {
     if !is_inside(work, base, s, t) {
         return 0;
@@ -83,7 +83,7 @@ fn cut_from(work: &mut [f64], base: usize, s: Shape, t: f64) -> usize
 // The piece in the slot at base becomes what is left of t, where t lies strictly inside its domain. The result is the number of cuts.
 fn cut_up_to(work: &mut [f64], base: usize, s: Shape, t: f64) -> usize
     requires { ⌜ Held s (now work) base × Whole s (pieceAt s (now work) base) ⌝ }
-    ensures { λ r. ⌜ UpToAt s (now (work .entry)) (now (work .exit)) base t (pieceAt s (now (work .entry)) base) r ⌝ }
+    ensures { λ r. ⌜ UpToAt geop s (now (work .entry)) (now (work .exit)) base t (pieceAt s (now (work .entry)) base) r ⌝ }
 {
     if !is_inside(work, base, s, t) {
         return 0;
@@ -96,12 +96,12 @@ fn cut_up_to(work: &mut [f64], base: usize, s: Shape, t: f64) -> usize
 // The piece in the slot at src, where it stays, is cut down to lo and hi in the slot at to: the second cut runs in the slot of the first. The result is the number of
 // cuts, 0, 1 or 2: one if lo lies strictly inside the domain, and one more if hi lies strictly inside what is then left.
 pub(crate) fn restrict(work: &mut [f64], src: usize, to: usize, s: Shape, lo: f64, hi: f64) -> usize
-    requires { ⌜ Held s (now work) src × Fit s (pieceAt s (now work) src) × Inside s (now work) to × Apart s src to
+    requires { ⌜ Held s (now work) src × Fit geop s (pieceAt s (now work) src) × Inside s (now work) to × Apart s src to
         × (1 ≤ s .degree) ⌝ }
     ensures { λ r.
         let old = now (work .entry) in
         let c = pieceAt s old src in
-        ⌜ RestrictAt s old (now (work .exit)) to lo hi c r ⌝ }
+        ⌜ RestrictAt geop s old (now (work .exit)) to lo hi c r ⌝ }
 {
     copy_right(work, src, to, s, 0);
     let from = cut_from(work, to, s, lo);

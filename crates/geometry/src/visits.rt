@@ -256,7 +256,7 @@ pub(crate) fn planned(
 
 // What a visit is to make of the piece in the slot at base.
 fn plan_in(work: &[f64], base: usize, s: Shape, point_box: &[f64], resolution: f64) -> Plan
-    requires { ⌜ Held s (now work) base × Fit s (pieceAt s (now work) base) × (2 * s .dim ≤ length (now «point_box»)) ⌝ }
+    requires { ⌜ Held s (now work) base × Fit geop s (pieceAt s (now work) base) × (2 * s .dim ≤ length (now «point_box»)) ⌝ }
     ensures { λ r.
         let box = now («point_box» .entry) in
         ⌜ r ≡ planned geop (s .dim) (s .degree) (scalarsOf (s .dim) box) resolution
@@ -281,7 +281,7 @@ fn weights_positive_in(work: &[f64], base: usize, s: Shape) -> bool
 
 // The piece in the slot at base is cut down to its hat, and handed on in the slot at a.
 fn hand_on(work: &mut [f64], base: usize, a: usize, s: Shape, hat: Scalar) -> Outcome
-    requires { ⌜ Held s (now work) base × Fit s (pieceAt s (now work) base) × Inside s (now work) a × Apart s base a
+    requires { ⌜ Held s (now work) base × Fit geop s (pieceAt s (now work) base) × Inside s (now work) a × Apart s base a
         × (1 ≤ s .degree) ⌝ }
     ensures { λ r.
         let old = now (work .entry) in
@@ -327,7 +327,7 @@ pub(crate) fn visit(
     point_box: &[f64],
     resolution: f64,
 ) -> Outcome
-    requires { ⌜ Held s (now work) base × Fit s (pieceAt s (now work) base) × (2 * s .dim ≤ length (now «point_box»)) ⌝ }
+    requires { ⌜ Held s (now work) base × Fit geop s (pieceAt s (now work) base) × (2 * s .dim ≤ length (now «point_box»)) ⌝ }
     requires { ⌜ Inside s (now work) a × Inside s (now work) b × Apart s base a × Apart s base b × Apart s a b ⌝ }
     ensures { λ r.
         let old = now (work .entry) in

@@ -7,10 +7,10 @@ use native.Mathlib.Omega.{arith}
 use lib.ListN.{length}
 use Rattle.exact.specs.Rational.{ℚ}
 use Rattle.math.specs.declared.scalars.Scalar.{Scalar}
-use Rattle.math.specs.Scalars.{Arithmetic, geop}
+use Rattle.math.specs.Scalars.{Arithmetic}
 use Rattle.math.specs.Values.{value}
+use Rattle.math.specs.Encloses.{Encloses}
 use Rattle.math.proofs.Bools.{pick}
-use Rattle.math.proofs.Laws.{geop-encloses}
 use Rattle.model.specs.NurbCurve.{Piece, start, end}
 use Rattle.model.specs.Aabb.{aabb, couldOverlap}
 use Rattle.model.specs.FatLine.{greville}
@@ -65,34 +65,35 @@ module _ (c : Call) (d : Doubles c) (acc : Accepted c) where
   sub-whole : (s r : Piece) → length (s .points) ≤ c .curve .count → Sub (c .curve .degree) s r → Whole shapeOf r
   sub-whole s r n h = record { enough = h .knots .good .room; bounded = omega (arith, n, h .small) }
 
-  ok-fit : (s : Piece) → Ok (c .curve .dim) (c .curve .degree) (c .curve .count) a b s → Fit shapeOf s
-  ok-fit s k = record {
-    whole = sub-whole s s (k .small) (sub-self (c .curve .degree) s (k .knots));
-    again = λ _ t f. sub-whole s _ (k .small) (from-sub geop geop-encloses (c .curve .degree) s t (k .knots) (within (c .curve .degree) s t) (strict (c .curve .degree) s t (k .knots) f));
-  }
+  module _ (ar : Arithmetic) (E : Encloses ar) where
+    ok-fit : (s : Piece) → Ok (c .curve .dim) (c .curve .degree) (c .curve .count) a b s → Fit ar shapeOf s
+    ok-fit s k = record {
+      whole = sub-whole s s (k .small) (sub-self (c .curve .degree) s (k .knots));
+      again = λ _ t f. sub-whole s _ (k .small) (from-sub ar E (c .curve .degree) s t (k .knots) (within (c .curve .degree) s t) (strict (c .curve .degree) s t (k .knots) f));
+    }
 
-  whole-fit : c .curve .degree ≡ 0 → Fit shapeOf (asPiece (c .curve))
-  whole-fit z =
-      let e : length (asPiece (c .curve) .points) ≡ c .curve .count = length-points (suc (c .curve .dim)) (c .curve .count) (c .curve .points) in
-      record { whole = record { enough = omega (arith, e, checked c d acc .room); bounded = omega (arith, e) }; again = λ one. absurd (omega (arith, z, one)) }
+    whole-fit : c .curve .degree ≡ 0 → Fit ar shapeOf (asPiece (c .curve))
+    whole-fit z =
+        let e : length (asPiece (c .curve) .points) ≡ c .curve .count = length-points (suc (c .curve .dim)) (c .curve .count) (c .curve .points) in
+        record { whole = record { enough = omega (arith, e, checked c d acc .room); bounded = omega (arith, e) }; again = λ one. absurd (omega (arith, z, one)) }
 
-  -- EVERY PIECE CAN BE VISITED
-  pub all-fit : (k : ℕ) → AllFit shapeOf (advance (visit geop (question c)) (c .nodes) k (begun (asPiece (c .curve))))
-  all-fit k = go (c .curve .degree) refl
-    where
-      go : (m : ℕ) → c .curve .degree ≡ m → AllFit shapeOf (advance (visit geop (question c)) (c .nodes) k (begun (asPiece (c .curve))))
-      go (suc m) e =
-          by (advance (visit geop (question c)) (c .nodes) k (begun (asPiece (c .curve))))
-          (stands (visit geop (question c)) (c .nodes) (Inner a b) (Ok (c .curve .dim) (c .curve .degree) (c .curve .count) a b) (inner-union a b) (visit-fine geop geop-encloses (question c) (c .curve .count) a b) k (begun (asPiece (c .curve)))
-          (record { pieces = (whole-ok c d acc (omega (arith, e)), tt); inside = tt }))
-        where
-          by : (z : Step) → Stands (visit geop (question c)) (c .nodes) (Inner a b) (Ok (c .curve .dim) (c .curve .degree) (c .curve .count) a b) (inner-union a b) (visit-fine geop geop-encloses (question c) (c .curve .count) a b) z → AllFit shapeOf z
-          by (going s) h = every-imp (λ w. Ok (c .curve .dim) (c .curve .degree) (c .curve .count) a b (w .piece)) (λ w. Fit shapeOf (w .piece)) (λ w k. ok-fit (w .piece) k) (s .queue) (h .pieces)
-          by (over r) h = tt
-      go zero e =
-          by (advance (visit geop (question c)) (c .nodes) k (begun (asPiece (c .curve))))
-          (stands (visit geop (question c)) (c .nodes) (λ t. Unit {0}) (Fit shapeOf) (λ s t h g. tt) (visit-flat geop (question c) (Fit shapeOf) e) k (begun (asPiece (c .curve))) (record { pieces = (whole-fit e, tt); inside = tt }))
-        where
-          by : (z : Step) → Stands (visit geop (question c)) (c .nodes) (λ t. Unit {0}) (Fit shapeOf) (λ s t h g. tt) (visit-flat geop (question c) (Fit shapeOf) e) z → AllFit shapeOf z
-          by (going s) h = h .pieces
-          by (over r) h = tt
+    -- EVERY PIECE CAN BE VISITED
+    pub all-fit : (k : ℕ) → AllFit ar shapeOf (advance (visit ar (question c)) (c .nodes) k (begun (asPiece (c .curve))))
+    all-fit k = go (c .curve .degree) refl
+      where
+        go : (m : ℕ) → c .curve .degree ≡ m → AllFit ar shapeOf (advance (visit ar (question c)) (c .nodes) k (begun (asPiece (c .curve))))
+        go (suc m) e =
+            by (advance (visit ar (question c)) (c .nodes) k (begun (asPiece (c .curve))))
+            (stands (visit ar (question c)) (c .nodes) (Inner a b) (Ok (c .curve .dim) (c .curve .degree) (c .curve .count) a b) (inner-union a b) (visit-fine ar E (question c) (c .curve .count) a b) k (begun (asPiece (c .curve)))
+            (record { pieces = (whole-ok c d acc (omega (arith, e)), tt); inside = tt }))
+          where
+            by : (z : Step) → Stands (visit ar (question c)) (c .nodes) (Inner a b) (Ok (c .curve .dim) (c .curve .degree) (c .curve .count) a b) (inner-union a b) (visit-fine ar E (question c) (c .curve .count) a b) z → AllFit ar shapeOf z
+            by (going s) h = every-imp (λ w. Ok (c .curve .dim) (c .curve .degree) (c .curve .count) a b (w .piece)) (λ w. Fit ar shapeOf (w .piece)) (λ w k. ok-fit (w .piece) k) (s .queue) (h .pieces)
+            by (over r) h = tt
+        go zero e =
+            by (advance (visit ar (question c)) (c .nodes) k (begun (asPiece (c .curve))))
+            (stands (visit ar (question c)) (c .nodes) (λ t. Unit {0}) (Fit ar shapeOf) (λ s t h g. tt) (visit-flat ar (question c) (Fit ar shapeOf) e) k (begun (asPiece (c .curve))) (record { pieces = (whole-fit e, tt); inside = tt }))
+          where
+            by : (z : Step) → Stands (visit ar (question c)) (c .nodes) (λ t. Unit {0}) (Fit ar shapeOf) (λ s t h g. tt) (visit-flat ar (question c) (Fit ar shapeOf) e) z → AllFit ar shapeOf z
+            by (going s) h = h .pieces
+            by (over r) h = tt

@@ -10,7 +10,8 @@ use lib.Ieee.{Float}
 use Rattle.lists.specs.Lists.{put, cleared}
 use Rattle.lists.proofs.Loop.{cleared-put, cleared-same}
 use Rattle.lists.proofs.Ring.{wrapped-head}
-use Rattle.math.specs.Scalars.{geop, zeroF}
+use Rattle.math.specs.Scalars.{Arithmetic, geop, zeroF}
+use Rattle.math.specs.Encloses.{Encloses}
 use Rattle.math.proofs.Bools.{pick-yes, pick-no}
 use Rattle.model.specs.NurbCurve.{Piece}
 use Rattle.model.specs.Layout.{areaWords}
@@ -59,7 +60,7 @@ refused c area (suc n) e h = record {
     result = ap (searchedBy geop c) e
 
 -- Any other is searched, and its answer keeps demand 3.
-pub answered-by : (c : Call) (before after : List Float) (r : Found) → Doubles c → Searches c before after r → Answers c before after r
+pub answered-by : (c : Call) (before after : List Float) (r : Found) → Doubles c → Searches geop c before after r → Answers c before after r
 answered-by c before after r d h = record {
   result = h .result;
   paper = ap paper (h .result);
@@ -117,9 +118,9 @@ module _ (c : Call) (acc : Accepted c) (area : List Float) (long : length area �
         behind : drop (stated c) l ≡ drop (stated c) area
         behind = unfold stated in e
 
-  pub missed : (b : Bool) → b ≡ couldMeet geop (c .curve .dim) (c .curve .degree) (asPiece (c .curve) .points) (boxOf c) → b ≡ false → Nothing 0 0 0 ≡ searched geop c
+  pub missed : (ar : Arithmetic) (b : Bool) → b ≡ couldMeet ar (c .curve .dim) (c .curve .degree) (asPiece (c .curve) .points) (boxOf c) → b ≡ false → Nothing 0 0 0 ≡ searched ar c
   unfolding searched searchedBy couldContain
-  missed b B e = pick-no _ _ _ (sym B ∙ e) ∙ sym (ap (searchedBy geop c) acc)
+  missed ar b B e = pick-no _ _ _ (sym B ∙ e) ∙ sym (ap (searchedBy ar c) acc)
 
   -- ---- a search
 
@@ -176,12 +177,12 @@ module _ (c : Call) (acc : Accepted c) (area : List Float) (long : length area �
             at zero h = ap (λ (k : ℕ). k * wordsOf (shapeOf c d acc)) (wrapped-head (c .nodes + 3) 0 (omega arith)) ∙ zero-mul (wordsOf (shapeOf c d acc))
             at (suc j) h = absurd (omega arith)
 
-        pub begins : Begins (shapeOf c d acc) (question c) m
-        begins = record {
+        pub begins : (ar : Arithmetic) → Encloses ar → Begins ar (shapeOf c d acc) (question c) m
+        begins ar E = record {
           ring = ring;
           whole = depth-back (shapeOf c d acc) m 0 0 deep (omega arith);
           few = z .nodes;
-          fits = λ k. subst (λ (p : Piece). AllFit (shapeOf c d acc) (advance (visit geop (question c)) (c .nodes) k (begun p))) (sym piece) (all-fit c d acc k);
+          fits = λ k. subst (λ (p : Piece). AllFit ar (shapeOf c d acc) (advance (visit ar (question c)) (c .nodes) k (begun p))) (sym piece) (all-fit c d acc ar E k);
         }
 
         -- what is behind the stated words is as it was
@@ -193,9 +194,9 @@ module _ (c : Call) (acc : Accepted c) (area : List Float) (long : length area �
             ∙ ap (drop words) L
             ∙ beside-behind (shapeOf c d acc) 0 0 area _ (beside-placed (shapeOf c d acc) 0 area (asPiece (c .curve)) first-slot fits) words (omega arith) (omega arith)
 
-        pub answers : (b : Bool) (r : Found) → b ≡ couldMeet geop (c .curve .dim) (c .curve .degree) (asPiece (c .curve) .points) (boxOf c) → b ≡ true
-            → r ≡ answered (advance (visit geop (question c)) (c .nodes) (c .nodes) (begun (pieceAt (shapeOf c d acc) m 0))) → r ≡ searched geop c
+        pub answers : (ar : Arithmetic) (b : Bool) (r : Found) → b ≡ couldMeet ar (c .curve .dim) (c .curve .degree) (asPiece (c .curve) .points) (boxOf c) → b ≡ true
+            → r ≡ answered (advance (visit ar (question c)) (c .nodes) (c .nodes) (begun (pieceAt (shapeOf c d acc) m 0))) → r ≡ searched ar c
         unfolding searched searchedBy couldContain
-        answers b r B e R =
-            R ∙ ap (λ (p : Piece). answered (advance (visit geop (question c)) (c .nodes) (c .nodes) (begun p))) piece
-            ∙ pick-yes _ _ _ (sym B ∙ e) ∙ sym (ap (searchedBy geop c) acc)
+        answers ar b r B e R =
+            R ∙ ap (λ (p : Piece). answered (advance (visit ar (question c)) (c .nodes) (c .nodes) (begun p))) piece
+            ∙ pick-yes _ _ _ (sym B ∙ e) ∙ sym (ap (searchedBy ar c) acc)

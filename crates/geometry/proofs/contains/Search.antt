@@ -11,7 +11,7 @@ use lib.Ieee.{Float, binary64, ofBits}
 use borrow.Author.Tests.{lt-ltb, le-ltb}
 use Rattle.lists.specs.Ring.{wrapped}
 use Rattle.math.specs.declared.scalars.Scalar.{Scalar}
-use Rattle.math.specs.Scalars.{geop}
+use Rattle.math.specs.Scalars.{Arithmetic}
 use Rattle.model.specs.NurbCurve.{Piece}
 use Rattle.model.specs.Layout.{scalarsOf}
 use Rattle.model.specs.Subdivide.{Question, Visit, Waiting, State, going, over, atDepth, noCounts, complete, spentWith, failedWith, ended, advance, answered}
@@ -36,11 +36,11 @@ use Rattle.geometry.proofs.subdivide.State.{Turn, turn-on, turn-bad, tu
 
 -- ---- a visit does not look at the nodes
 
-turned : (s : Shape) (box : List Float) (resolution : Float) (nodes : ℕ) (c : Piece) (a b d e : ℕ) (l m : List Float) (o : Outcome) → d ≡ e
-    → Turned (visit geop (askedOf s box resolution 0) c) s a b d l m o → Turned (visit geop (askedOf s box resolution nodes) c) s a b e l m o
-turned s box resolution nodes c a b d e l m o E h =
-    subst (λ (i : ℕ). Turned (visit geop (askedOf s box resolution nodes) c) s a b i l m o) E
-    (subst (λ (v : Visit). Turned v s a b d l m o) (visit-nodes geop (s .dim) (s .degree) (scalarsOf (s .dim) box) resolution 0 nodes c) h)
+turned : (ar : Arithmetic) (s : Shape) (box : List Float) (resolution : Float) (nodes : ℕ) (c : Piece) (a b d e : ℕ) (l m : List Float) (o : Outcome) → d ≡ e
+    → Turned (visit ar (askedOf s box resolution 0) c) s a b d l m o → Turned (visit ar (askedOf s box resolution nodes) c) s a b e l m o
+turned ar s box resolution nodes c a b d e l m o E h =
+    subst (λ (i : ℕ). Turned (visit ar (askedOf s box resolution nodes) c) s a b i l m o) E
+    (subst (λ (v : Visit). Turned v s a b d l m o) (visit-nodes ar (s .dim) (s .degree) (scalarsOf (s .dim) box) resolution 0 nodes c) h)
 
 -- ---- and makes at most two cuts
 
@@ -52,8 +52,8 @@ one-or-two s m a b (Restricted n) h = h .1
 one-or-two s m a b Halved h = omega arith
 one-or-two s m a b BadWeight h = omega arith
 
-pub cuts-few : (q : Question) (s : Shape) (c : Piece) (a b d : ℕ) (l m : List Float) (o : Outcome) → Turned (visit geop q c) s a b d l m o → cutsOf o ≤ 2
-cuts-few q s c a b d l m o h = one-or-two s m a b o (subst OneOrTwo (sym (h .visited .is)) (visit-cuts geop q c))
+pub cuts-few : (ar : Arithmetic) (q : Question) (s : Shape) (c : Piece) (a b d : ℕ) (l m : List Float) (o : Outcome) → Turned (visit ar q c) s a b d l m o → cutsOf o ≤ 2
+cuts-few ar q s c a b d l m o h = one-or-two s m a b o (subst OneOrTwo (sym (h .visited .is)) (visit-cuts ar q c))
 
 -- ---- whether it is over
 
@@ -168,8 +168,8 @@ module _ (see : Piece → Visit) (few : (c : Piece) → OneOrTwo (see c)) (nodes
         going-depth = unfold waitsAt in going-first (λ w. w .depth ≤ x .counts .visited) (unfold stateOf in going-counted .depths)
 
         -- and can be visited, as all that wait
-        going-fit : ((k : ℕ) → AllFit s (advance see nodes k (begun (pieceAt s l₀ 0)))) → Fit s (pieceAt s l (baseOf s (x .head)))
-        going-fit f = unfold waitsAt in going-first (λ w. Fit s (w .piece)) (unfold stateOf in subst (AllFit s) stood (f (x .counts .visited)))
+        going-fit : (ar : Arithmetic) → ((k : ℕ) → AllFit ar s (advance see nodes k (begun (pieceAt s l₀ 0)))) → Fit ar s (pieceAt s l (baseOf s (x .head)))
+        going-fit ar f = unfold waitsAt in going-first (λ w. Fit ar s (w .piece)) (unfold stateOf in subst (AllFit ar s) stood (f (x .counts .visited)))
 
         module _ (m : List Float) (o : Outcome) (kept : length m ≡ length l) (small : nodes ≤ 4096)
             (w : Turned (see (pieceAt s l (baseOf s (x .head)))) s (ringBase s (nodes + 3) (x .head) (x .pending)) (ringBase s (nodes + 3) (x .head) (x .pending + 1)) (depthAt s l (baseOf s (x .head))) l m o) where
@@ -211,12 +211,12 @@ module _ (see : Piece → Visit) (few : (c : Piece) → OneOrTwo (see c)) (nodes
 -- ---- a turn of the code's loop: a piece waits, and a visit is left for it
 
 -- What it asks of where the search stands.
-pub record Ready (nodes : ℕ) (s : Shape) (l : List Float) (x : Search) : Type 0 where
+pub record Ready (ar : Arithmetic) (nodes : ℕ) (s : Shape) (l : List Float) (x : Search) : Type 0 where
   pub waits : Waits s l (baseOf s (x .head))
   pub deep : depthAt s l (baseOf s (x .head)) ≤ 0x1000
   pub room : x .pending + 1 < nodes + 3
   pub cuts : x .counts .cuts ≤ 0x2000
-  pub fit : Fit s (pieceAt s l (baseOf s (x .head)))
+  pub fit : Fit ar s (pieceAt s l (baseOf s (x .head)))
 
 -- What it comes to, where the visit came out as o and left m, and the search stands at y then.
 pub record Comes (see : Piece → Visit) (nodes : ℕ) (s : Shape) (l₀ m : List Float) (o : Outcome) (y : Search) : Type 0 where
@@ -224,28 +224,28 @@ pub record Comes (see : Piece → Visit) (nodes : ℕ) (s : Shape) (l₀ m : Lis
   pub on : hasBadWeight o ≡ false → Going see nodes s l₀ m y
   pub rest : drop ((nodes + 3) * wordsOf s) m ≡ drop ((nodes + 3) * wordsOf s) l₀
 
-module _ (s : Shape) (box : List Float) (resolution : Float) (nodes : ℕ) (l₀ : List Float) (b : Begins s (askedOf s box resolution nodes) l₀)
-    (l : List Float) (x : Search) (g : Going (visit geop (askedOf s box resolution nodes)) nodes s l₀ l x) (w : 0 < x .pending) (more : x .counts .visited < nodes) where
+module _ (ar : Arithmetic) (s : Shape) (box : List Float) (resolution : Float) (nodes : ℕ) (l₀ : List Float) (b : Begins ar s (askedOf s box resolution nodes) l₀)
+    (l : List Float) (x : Search) (g : Going (visit ar (askedOf s box resolution nodes)) nodes s l₀ l x) (w : 0 < x .pending) (more : x .counts .visited < nodes) where
   abbrev see : Piece → Visit
-  see = visit geop (askedOf s box resolution nodes)
+  see = visit ar (askedOf s box resolution nodes)
 
-  few : (c : Piece) → OneOrTwo (visit geop (askedOf s box resolution nodes) c)
-  few = visit-cuts geop (askedOf s box resolution nodes)
+  few : (c : Piece) → OneOrTwo (visit ar (askedOf s box resolution nodes) c)
+  few = visit-cuts ar (askedOf s box resolution nodes)
 
-  pub ready : Ready nodes s l x
+  pub ready : Ready ar nodes s l x
   ready = record {
     waits = going-waits see few nodes s l₀ l x g w;
     deep = omega (arith, going-depth see few nodes s l₀ l x g w more, b .few);
     room = going-room see few nodes s l₀ l x g w more;
     cuts = omega (arith, going-cuts see few nodes s l₀ l x g w more, b .few);
-    fit = going-fit see few nodes s l₀ l x g w more (b .fits);
+    fit = going-fit see few nodes s l₀ l x g w more ar (b .fits);
   }
 
   pub comes : (d : ℕ) (m : List Float) (o : Outcome) (y : Search) → length m ≡ length l → d ≡ depthAt s l (baseOf s (x .head))
-      → Turned (visit geop (askedOf s box resolution 0) (pieceAt s l (baseOf s (x .head)))) s (ringBase s (nodes + 3) (x .head) (x .pending)) (ringBase s (nodes + 3) (x .head) (x .pending + 1)) d l m o
-      → Next (nodes + 3) x d o y → Comes (visit geop (askedOf s box resolution nodes)) nodes s l₀ m o y
+      → Turned (visit ar (askedOf s box resolution 0) (pieceAt s l (baseOf s (x .head)))) s (ringBase s (nodes + 3) (x .head) (x .pending)) (ringBase s (nodes + 3) (x .head) (x .pending + 1)) d l m o
+      → Next (nodes + 3) x d o y → Comes (visit ar (askedOf s box resolution nodes)) nodes s l₀ m o y
   comes d m o y kept D t n =
-      let t′ = turned s box resolution nodes _ _ _ _ _ _ _ _ D t in
+      let t′ = turned ar s box resolution nodes _ _ _ _ _ _ _ _ D t in
       let n′ = subst (λ (i : ℕ). Next (nodes + 3) x i o y) D n in record {
         bad = going-bad see few nodes s l₀ l x g w more m o kept (b .few) t′ y n′;
         on = going-on see few nodes s l₀ l x g w more m o kept (b .few) t′ y n′;

@@ -1,19 +1,18 @@
 -- Blends and points between of neighbouring points, from the last one down, each in the place of its upper point. Leans on the laws of lists and of slots.
-use mathlib.Core.Path.{_≡_, refl, sym, ap, _∙_}
-use mathlib.Core.Logic.{_⊎_, inl, inr}
-use mathlib.Core.List.{List, [], _∷_, _++_}
+use mathlib.Core.Path.{_≡_, sym, ap, _∙_}
+use mathlib.Core.Logic.{_⊎_, inl}
+use mathlib.Core.List.{List, _∷_, _++_}
 use Prim.Native.Nat.{ℕ, zero, suc, _+_, _-_, _*_, _≤_, _<_}
 use native.Mathlib.Nat.{not-suc-le-zero, add-zero}
-use native.Mathlib.Numerals.{sub-one}
 use native.Mathlib.Omega.{arith}
 use lib.ListN.{length}
 use lib.Ieee.{Float, nan}
-use Rattle.lists.specs.Lists.{part, put, tab}
+use Rattle.lists.specs.Lists.{put, tab}
 use Rattle.lists.proofs.Tab.{length-tab, tab-cons, tab-ext}
 use Rattle.lists.proofs.Put.{put-nil}
 use Rattle.lists.proofs.Read.{part-put-other, getD-put-before}
 use Rattle.math.specs.declared.scalars.Scalar.{Scalar}
-use Rattle.math.specs.Scalars.{geop}
+use Rattle.math.specs.Scalars.{Arithmetic}
 use Rattle.model.specs.Vector.{Vector, interpolateV}
 use Rattle.model.specs.KnotInsertion.{alpha, blend}
 use Rattle.model.specs.Layout.{flat}
@@ -94,12 +93,12 @@ module _ (s : Shape) (base : ℕ) (F : List Float → ℕ → Vector) (made : Ma
 
 -- ---- blends
 
-module _ (s : Shape) (base n : ℕ) (t : Float) (r : n ≤ s .count + s .degree + 1) where
-  blend-wide : (l : List Float) (j : ℕ) → length (blendAt s l base n t j) ≡ suc (s .dim)
+module _ (ar : Arithmetic) (s : Shape) (base n : ℕ) (t : Float) (r : n ≤ s .count + s .degree + 1) where
+  blend-wide : (l : List Float) (j : ℕ) → length (blendAt ar s l base n t j) ≡ suc (s .dim)
   unfolding blendAt
-  blend-wide l j = length-blend geop (suc (s .dim)) _ _ _ (length-vector (suc (s .dim)) l (placeOf s base j)) (length-vector (suc (s .dim)) l (placeOf s base (suc j)))
+  blend-wide l j = length-blend ar (suc (s .dim)) _ _ _ (length-vector (suc (s .dim)) l (placeOf s base j)) (length-vector (suc (s .dim)) l (placeOf s base (suc j)))
 
-  blend-before : (l : List Float) (a : ℕ) (vs : List Float) (j : ℕ) → placeOf s base (suc (suc j)) ≤ a → a + length vs ≤ length l → blendAt s (put l a vs) base n t j ≡ blendAt s l base n t j
+  blend-before : (l : List Float) (a : ℕ) (vs : List Float) (j : ℕ) → placeOf s base (suc (suc j)) ≤ a → a + length vs ≤ length l → blendAt ar s (put l a vs) base n t j ≡ blendAt ar s l base n t j
   unfolding blendAt
   blend-before l a vs j h g =
       let D : ℕ = suc (s .dim) in
@@ -108,19 +107,19 @@ module _ (s : Shape) (base n : ℕ) (t : Float) (r : n ≤ s .count + s .degree 
       = vector-before D l a vs (placeOf s base j) (omega (arith, place-next s base j, place-next s base (suc j))) (omega arith) in
       let v : vectorAt D (put l a vs) (placeOf s base (suc j)) ≡ vectorAt D l (placeOf s base (suc j))
       = vector-before D l a vs (placeOf s base (suc j)) (omega (arith, place-next s base (suc j))) (omega arith) in
-      λ i. blend geop (alpha geop (s .degree) (e i) t (suc j)) (u i) (v i)
+      λ i. blend ar (alpha ar (s .degree) (e i) t (suc j)) (u i) (v i)
 
-  pub blend-made : Made s base (λ l j. blendAt s l base n t j)
+  pub blend-made : Made s base (λ l j. blendAt ar s l base n t j)
   blend-made = record { wide = blend-wide; before = blend-before }
 
 -- ---- points between
 
-module _ (s : Shape) (base : ℕ) (α : Scalar) where
-  between-wide : (l : List Float) (j : ℕ) → length (betweenAt s l base α j) ≡ suc (s .dim)
+module _ (ar : Arithmetic) (s : Shape) (base : ℕ) (α : Scalar) where
+  between-wide : (l : List Float) (j : ℕ) → length (betweenAt ar s l base α j) ≡ suc (s .dim)
   unfolding betweenAt
-  between-wide l j = length-between geop (suc (s .dim)) _ _ α (length-vector (suc (s .dim)) l (placeOf s base j)) (length-vector (suc (s .dim)) l (placeOf s base (suc j)))
+  between-wide l j = length-between ar (suc (s .dim)) _ _ α (length-vector (suc (s .dim)) l (placeOf s base j)) (length-vector (suc (s .dim)) l (placeOf s base (suc j)))
 
-  between-before : (l : List Float) (a : ℕ) (vs : List Float) (j : ℕ) → placeOf s base (suc (suc j)) ≤ a → a + length vs ≤ length l → betweenAt s (put l a vs) base α j ≡ betweenAt s l base α j
+  between-before : (l : List Float) (a : ℕ) (vs : List Float) (j : ℕ) → placeOf s base (suc (suc j)) ≤ a → a + length vs ≤ length l → betweenAt ar s (put l a vs) base α j ≡ betweenAt ar s l base α j
   unfolding betweenAt
   between-before l a vs j h g =
       let D : ℕ = suc (s .dim) in
@@ -128,7 +127,7 @@ module _ (s : Shape) (base : ℕ) (α : Scalar) where
       = vector-before D l a vs (placeOf s base j) (omega (arith, place-next s base j, place-next s base (suc j))) (omega arith) in
       let v : vectorAt D (put l a vs) (placeOf s base (suc j)) ≡ vectorAt D l (placeOf s base (suc j))
       = vector-before D l a vs (placeOf s base (suc j)) (omega (arith, place-next s base (suc j))) (omega arith) in
-      λ i. interpolateV geop (u i) (v i) α
+      λ i. interpolateV ar (u i) (v i) α
 
-  pub between-made : Made s base (λ l j. betweenAt s l base α j)
+  pub between-made : Made s base (λ l j. betweenAt ar s l base α j)
   between-made = record { wide = between-wide; before = between-before }

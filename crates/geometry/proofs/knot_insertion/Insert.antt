@@ -11,7 +11,7 @@ use Rattle.lists.specs.Lists.{part, put}
 use Rattle.lists.proofs.Part.{length-part}
 use Rattle.lists.proofs.Put.{put-part, put-cons}
 use Rattle.math.specs.declared.scalars.Scalar.{Scalar}
-use Rattle.math.specs.Scalars.{geop, isSame, ZERO, ONE}
+use Rattle.math.specs.Scalars.{Arithmetic, isSame, ZERO, ONE}
 use Rattle.model.specs.Vector.{interpolateV}
 use Rattle.model.specs.KnotInsertion.{alpha, blend, knotsWith}
 use Rattle.model.specs.Layout.{flat}
@@ -23,17 +23,17 @@ use Rattle.geometry.proofs.Lists.Numbers.{flat-vector}
 
 -- ---- one blend
 
-module _ (l : List Float) (a b d : ℕ) (α : Scalar) where
-  pub blend-zero : isSame α ZERO ≡ true → a + 2 * d ≤ length l → put l b (part l a (2 * d)) ≡ put l b (flat (blend geop α (vectorAt d l a) (vectorAt d l b)))
+module _ (ar : Arithmetic) (l : List Float) (a b d : ℕ) (α : Scalar) where
+  pub blend-zero : isSame α ZERO ≡ true → a + 2 * d ≤ length l → put l b (part l a (2 * d)) ≡ put l b (flat (blend ar α (vectorAt d l a) (vectorAt d l b)))
   unfolding blend
   blend-zero e h = rw e (ap (put l b) (sym (flat-vector d l a h)))
 
-  pub blend-one : isSame α ZERO ≡ false → isSame α ONE ≡ true → b + 2 * d ≤ length l → l ≡ put l b (flat (blend geop α (vectorAt d l a) (vectorAt d l b)))
+  pub blend-one : isSame α ZERO ≡ false → isSame α ONE ≡ true → b + 2 * d ≤ length l → l ≡ put l b (flat (blend ar α (vectorAt d l a) (vectorAt d l b)))
   unfolding blend
   blend-one e f h = rw (e, f) (sym (ap (put l b) (flat-vector d l b h) ∙ put-part l b (2 * d) h))
 
   pub blend-mid : isSame α ZERO ≡ false → isSame α ONE ≡ false
-      → put l b (flat (interpolateV geop (vectorAt d l a) (vectorAt d l b) α)) ≡ put l b (flat (blend geop α (vectorAt d l a) (vectorAt d l b)))
+      → put l b (flat (interpolateV ar (vectorAt d l a) (vectorAt d l b) α)) ≡ put l b (flat (blend ar α (vectorAt d l a) (vectorAt d l b)))
   unfolding blend
   blend-mid e f = rw (e, f)
 
@@ -90,10 +90,10 @@ module _ (s : Shape) (l : List Float) (base n j : ℕ) (t : Float) (i : Inside s
       omega (arith, next-of, place-next s base (suc j), place-le s base (suc (suc j)) n (omega arith), place-room s base n g, i .within),
     )
 
-    pub blend-done : (w : List Float) (f : ℕ) (α : Scalar) → f ≡ knotsFrom base → α ≡ alpha geop (s .degree) (part l f (f + n + s .degree + 1 - f)) t (j + 1)
-        → w ≡ put l b (flat (blend geop α (vectorAt (s .dim + 1) l a) (vectorAt (s .dim + 1) l b))) → w ≡ put l (placeOf s base (suc j)) (flat (blendAt s l base n t j))
+    pub blend-done : (ar : Arithmetic) (w : List Float) (f : ℕ) (α : Scalar) → f ≡ knotsFrom base → α ≡ alpha ar (s .degree) (part l f (f + n + s .degree + 1 - f)) t (j + 1)
+        → w ≡ put l b (flat (blend ar α (vectorAt (s .dim + 1) l a) (vectorAt (s .dim + 1) l b))) → w ≡ put l (placeOf s base (suc j)) (flat (blendAt ar s l base n t j))
     unfolding blendAt
-    blend-done w f α ef e d =
+    blend-done ar w f α ef e d =
         let k : f + n + s .degree + 1 - f ≡ n + s .degree + 1 = omega arith in
-        let u : α ≡ alpha geop (s .degree) (knotsAt s l base n) t (suc j) = e ∙ (λ z. alpha geop (s .degree) (part l (ef z) (k z)) t (add-one j z)) in
-        d ∙ (λ z. put l (next-of z) (flat (blend geop (u z) (vectorAt (add-one (s .dim) z) l (ea z)) (vectorAt (add-one (s .dim) z) l (next-of z)))))
+        let u : α ≡ alpha ar (s .degree) (knotsAt s l base n) t (suc j) = e ∙ (λ z. alpha ar (s .degree) (part l (ef z) (k z)) t (add-one j z)) in
+        d ∙ (λ z. put l (next-of z) (flat (blend ar (u z) (vectorAt (add-one (s .dim) z) l (ea z)) (vectorAt (add-one (s .dim) z) l (next-of z)))))

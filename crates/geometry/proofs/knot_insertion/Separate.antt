@@ -6,7 +6,6 @@ use Prim.Native.Nat.{ℕ, zero, suc, _+_, _-_, _≤_, _<_}
 use native.Mathlib.Omega.{arith}
 use lib.ListN.{length, take, drop, length-drop, take-append-drop}
 use lib.Seq.{length-take-le}
-use lib.IntN.{ℤ}
 use lib.Ieee.{Float, nan, inf, fin, lt, eq}
 use borrow.Author.Tests.{eq-eqb}
 use Rattle.lists.specs.Lists.{count, position}
@@ -14,7 +13,7 @@ use Rattle.lists.proofs.Fold.{count-le}
 use Rattle.math.specs.declared.scalars.Scalar.{Scalar}
 use Rattle.math.specs.declared.scalars.Divided.{Divided}
 use Rattle.math.specs.declared.scalars.Divided.the-variants.{Value, Failed}
-use Rattle.math.specs.Scalars.{geop}
+use Rattle.math.specs.Scalars.{Arithmetic}
 use Rattle.model.specs.NurbCurve.{Piece, inDomain}
 use Rattle.model.specs.KnotInsertion.{Cut, knotsWith, insertionSpan, insertOnce, insertTimes, multiplicity, bezierCut, boehmCut, cutBy, fullCut, leftOf, rightOf}
 use Rattle.geometry.specs.Slots.{Fits, Whole}
@@ -78,8 +77,8 @@ eq-self (fin s m e) (fin t n d) h = rw (eq-eqb _ _ refl, beq-self t)
 
 -- ---- how often t occurs
 
-module _ (t : Float) (self : eq t t ≡ true) where
-  once-times : (s : Shape) (c : Piece) (k : ℕ) → multiplicity t (insertOnce geop (s .degree) k t c .knots) ≡ multiplicity t (c .knots) + 1
+module _ (ar : Arithmetic) (t : Float) (self : eq t t ≡ true) where
+  once-times : (s : Shape) (c : Piece) (k : ℕ) → multiplicity t (insertOnce ar (s .degree) k t c .knots) ≡ multiplicity t (c .knots) + 1
   unfolding insertOnce knotsWith
   once-times s c k =
       let q : Float → Bool = λ u. eq u t in
@@ -91,7 +90,7 @@ module _ (t : Float) (self : eq t t ≡ true) where
       nat : (x y : ℕ) → x + (1 + y) ≡ x + y + 1
       nat x y = omega arith
 
-  many-times : (s : Shape) (e : ℕ) (c : Piece) → multiplicity t (insertTimes geop (s .degree) t e c .knots) ≡ multiplicity t (c .knots) + e
+  many-times : (s : Shape) (e : ℕ) (c : Piece) → multiplicity t (insertTimes ar (s .degree) t e c .knots) ≡ multiplicity t (c .knots) + e
   unfolding insertTimes
   many-times s zero c = nat (multiplicity t (c .knots))
     where
@@ -99,7 +98,7 @@ module _ (t : Float) (self : eq t t ≡ true) where
       nat n = omega arith
   many-times s (suc e) c =
       let k : ℕ = insertionSpan (s .degree) (length (c .points)) (c .knots) t in
-      many-times s e (insertOnce geop (s .degree) k t c) ∙ ap (λ (n : ℕ). n + e) (once-times s c k) ∙ nat (multiplicity t (c .knots)) e
+      many-times s e (insertOnce ar (s .degree) k t c) ∙ ap (λ (n : ℕ). n + e) (once-times s c k) ∙ nat (multiplicity t (c .knots)) e
     where
       nat : (n e : ℕ) → n + 1 + e ≡ n + suc e
       nat n e = omega arith
@@ -112,37 +111,37 @@ pub record Sound (s : Shape) (c : Piece) (k : Cut) : Type 0 where
   pub more : length (c .points) ≤ length (k .piece .points)
   pub upto : k .at ≤ length (k .piece .points)
 
-module _ (s : Shape) (c : Piece) (t : Float) (f : Fits s c) (w : Whole s c) (self : eq t t ≡ true) where
-  boehm-sound : Sound s c (boehmCut geop (s .degree) t c)
+module _ (ar : Arithmetic) (s : Shape) (c : Piece) (t : Float) (f : Fits s c) (w : Whole s c) (self : eq t t ≡ true) where
+  boehm-sound : Sound s c (boehmCut ar (s .degree) t c)
   unfolding boehmCut
   boehm-sound =
       let e : ℕ = suc (s .degree) - multiplicity t (c .knots) in
-      let full : Piece = insertTimes geop (s .degree) t e c in
-      let g : Fits s (insertTimes geop (s .degree) t e c) × (length (insertTimes geop (s .degree) t e c .points) ≡ length (c .points) + e) = fits-times s t e c f (w .enough) (omega (arith, w .bounded)) in
+      let full : Piece = insertTimes ar (s .degree) t e c in
+      let g : Fits s (insertTimes ar (s .degree) t e c) × (length (insertTimes ar (s .degree) t e c .points) ≡ length (c .points) + e) = fits-times ar s t e c f (w .enough) (omega (arith, w .bounded)) in
       record {
         fits = g .0;
         more = omega (arith, g .1);
-        upto = omega (arith, g .0 .knots, many-times t self s e c, position-count (λ u. eq u t) (full .knots));
+        upto = omega (arith, g .0 .knots, many-times ar t self s e c, position-count (λ u. eq u t) (full .knots));
       }
 
-  bezier-sound : (α : Scalar) → length (c .points) ≡ suc (s .degree) → Sound s c (bezierCut geop (s .degree) t α c)
+  bezier-sound : (α : Scalar) → length (c .points) ≡ suc (s .degree) → Sound s c (bezierCut ar (s .degree) t α c)
   bezier-sound α n =
       let small : s .degree < s .count = omega (arith, w .bounded) in
       record {
-        fits = fits-bezier s c t α (f .wide) n small;
-        more = omega (arith, bezier-long s c t α (f .wide) n small);
-        upto = omega (arith, bezier-long s c t α (f .wide) n small, bezier-at (s .degree) t α c);
+        fits = fits-bezier ar s c t α (f .wide) n small;
+        more = omega (arith, bezier-long ar s c t α (f .wide) n small);
+        upto = omega (arith, bezier-long ar s c t α (f .wide) n small, bezier-at ar (s .degree) t α c);
       }
 
-  sound-by : (b : Bool) (r : Divided) → (b ≡ true → length (c .points) ≡ suc (s .degree)) → Sound s c (cutBy geop (s .degree) t c b r)
+  sound-by : (b : Bool) (r : Divided) → (b ≡ true → length (c .points) ≡ suc (s .degree)) → Sound s c (cutBy ar (s .degree) t c b r)
   unfolding cutBy
   sound-by true (Value α) h = bezier-sound α (h refl)
   sound-by true Failed h = boehm-sound
   sound-by false r h = boehm-sound
 
-  pub full-sound : Sound s c (fullCut geop (s .degree) t c)
+  pub full-sound : Sound s c (fullCut ar (s .degree) t c)
   unfolding fullCut
-  full-sound = sound-by (single (s .degree) t c) (along (s .degree) t c) (single-count (s .degree) t c)
+  full-sound = sound-by (single (s .degree) t c) (along (s .degree) t c ar) (single-count (s .degree) t c)
 
 -- a parameter strictly inside the domain is no NaN
 pub inside-self : (a b t : Float) → inDomain a b t ≡ true → eq t t ≡ true

@@ -1,8 +1,8 @@
 -- The walks over the knots: the highest span that holds t, from the last span down, and how far t lies between two knots. Leans on the definitions alone.
-use mathlib.Core.Path.{_≡_, refl, sym, ap, _∙_}
-use mathlib.Core.Bool.{Bool, true, false, cond, not, _&&_}
+use mathlib.Core.Path.{_≡_, sym, ap, _∙_}
+use mathlib.Core.Bool.{Bool, true, false, not, _&&_}
 use mathlib.Core.List.{List}
-use Prim.Native.Nat.{ℕ, zero, suc, _+_, _-_, _≤_, _<_}
+use Prim.Native.Nat.{ℕ, suc, _+_, _-_, _≤_, _<_}
 use native.Mathlib.Omega.{arith}
 use native.Mathlib.Numerals.{add-one}
 use borrow.Author.Tests.{not-true, not-false, eq-eqb, ne-eqb}
@@ -15,10 +15,10 @@ use Rattle.lists.proofs.Fold.{count-turn, all-turn}
 use Rattle.math.specs.declared.scalars.Scalar.{Scalar}
 use Rattle.math.specs.declared.scalars.Divided.{Divided}
 use Rattle.math.specs.declared.scalars.Divided.the-variants.{Value, Failed}
-use Rattle.math.specs.Scalars.{geop, subS, divS, sharp, ZERO, ONE, valueOr}
+use Rattle.math.specs.Scalars.{Arithmetic, sharp, ZERO, ONE, valueOr}
 use Rattle.math.proofs.Bools.{pick-yes, pick-no}
 use Rattle.model.specs.NurbCurve.{knot}
-use Rattle.model.specs.KnotInsertion.{holdsAt, highest, insertionSpan, alpha, isBezier}
+use Rattle.model.specs.KnotInsertion.{holdsAt, highest, alpha, isBezier}
 
 module _ (ks : List Float) (t : Float) (p : ℕ) where
   -- the span just below number i holds t
@@ -44,30 +44,30 @@ module _ (ks : List Float) (t : Float) (p : ℕ) where
 
 -- ---- how far t lies from knot i to knot i + p
 
-module _ (p : ℕ) (ks : List Float) (t : Float) (i : ℕ) where
-  pub alpha-start : eq (knot ks i) t ≡ true → ZERO ≡ alpha geop p ks t i
+module _ (ar : Arithmetic) (p : ℕ) (ks : List Float) (t : Float) (i : ℕ) where
+  pub alpha-start : eq (knot ks i) t ≡ true → ZERO ≡ alpha ar p ks t i
   unfolding alpha
   alpha-start e = pick-yes _ _ _ e
 
-  pub alpha-end : eq (knot ks i) t ≡ false → eq (knot ks (i + p)) t ≡ true → ONE ≡ alpha geop p ks t i
+  pub alpha-end : eq (knot ks i) t ≡ false → eq (knot ks (i + p)) t ≡ true → ONE ≡ alpha ar p ks t i
   unfolding alpha
   alpha-end e f = pick-yes _ _ _ f ∙ pick-no _ _ _ e
 
   -- the quotient, as the code comes to it
-  pub alpha-between : (fa ft fb x y : Scalar) (r : Divided) → eq (knot ks i) t ≡ false → eq (knot ks (i + p)) t ≡ false → fa ≡ sharp (knot ks i) → ft ≡ sharp t → x ≡ subS ft fa
-      → fb ≡ sharp (knot ks (i + p)) → y ≡ subS fb fa → r ≡ divS x y → valueOr r ONE ≡ alpha geop p ks t i
+  pub alpha-between : (fa ft fb x y : Scalar) (r : Divided) → eq (knot ks i) t ≡ false → eq (knot ks (i + p)) t ≡ false → fa ≡ sharp (knot ks i) → ft ≡ sharp t → x ≡ ar .sub ft fa
+      → fb ≡ sharp (knot ks (i + p)) → y ≡ ar .sub fb fa → r ≡ ar .div x y → valueOr r ONE ≡ alpha ar p ks t i
   unfolding alpha
   alpha-between fa ft fb x y r e f ea et ex eb ey er =
-      let u : x ≡ subS (sharp t) (sharp (knot ks i)) = ex ∙ (λ j. subS (et j) (ea j)) in
-      let v : y ≡ subS (sharp (knot ks (i + p))) (sharp (knot ks i)) = ey ∙ (λ j. subS (eb j) (ea j)) in
-      let q : r ≡ divS (subS (sharp t) (sharp (knot ks i))) (subS (sharp (knot ks (i + p))) (sharp (knot ks i))) = er ∙ (λ j. divS (u j) (v j)) in
+      let u : x ≡ ar .sub (sharp t) (sharp (knot ks i)) = ex ∙ (λ j. ar .sub (et j) (ea j)) in
+      let v : y ≡ ar .sub (sharp (knot ks (i + p))) (sharp (knot ks i)) = ey ∙ (λ j. ar .sub (eb j) (ea j)) in
+      let q : r ≡ ar .div (ar .sub (sharp t) (sharp (knot ks i))) (ar .sub (sharp (knot ks (i + p))) (sharp (knot ks i))) = er ∙ (λ j. ar .div (u j) (v j)) in
       ap (λ (d : Divided). valueOr d ONE) q ∙ pick-no _ _ _ f ∙ pick-no _ _ _ e
 
-  pub alpha-value : (r : Divided) (v : Scalar) → r ≡ Value v → valueOr r ONE ≡ alpha geop p ks t i → v ≡ alpha geop p ks t i
+  pub alpha-value : (r : Divided) (v : Scalar) → r ≡ Value v → valueOr r ONE ≡ alpha ar p ks t i → v ≡ alpha ar p ks t i
   unfolding valueOr
   alpha-value r v e h = ap (λ (d : Divided). valueOr d ONE) (sym e) ∙ h
 
-  pub alpha-failed : (r : Divided) → r ≡ Failed → valueOr r ONE ≡ alpha geop p ks t i → ONE ≡ alpha geop p ks t i
+  pub alpha-failed : (r : Divided) → r ≡ Failed → valueOr r ONE ≡ alpha ar p ks t i → ONE ≡ alpha ar p ks t i
   unfolding valueOr
   alpha-failed r e h = ap (λ (d : Divided). valueOr d ONE) (sym e) ∙ h
 

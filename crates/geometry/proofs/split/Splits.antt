@@ -8,7 +8,7 @@ use Rattle.model.proofs.Cuts.{from-few, up-to-few}
 use lib.ListN.{length, getD}
 use lib.Ieee.{Float, nan}
 use Rattle.lists.specs.Lists.{part}
-use Rattle.math.specs.Scalars.{geop}
+use Rattle.math.specs.Scalars.{Arithmetic}
 use Rattle.model.specs.NurbCurve.{Piece, knot, start, end, inDomain, midParameter}
 use Rattle.model.specs.KnotInsertion.{Cut, fullCut, leftOf, rightOf}
 use Rattle.model.specs.Split.{splitBy, split, fromBy, upToBy, restrict}
@@ -32,20 +32,20 @@ module _ (s : Shape) (l : List Float) (base m f : ℕ) (h : Held s l base) (e : 
   pub within-words : (t : Float) → inDomain (getD l (f + s .degree) nan) (getD l (f + m) nan) t ≡ within (s .degree) (pieceAt s l base) t
   within-words t = sym (λ j. inDomain (start-word j) (end-word j) t)
 
-  pub mid-words : midParameter geop (getD l (f + s .degree) nan) (getD l (f + m) nan) ≡ midParameter geop (start (s .degree) (pieceAt s l base)) (end (pieceAt s l base))
-  mid-words = sym (λ j. midParameter geop (start-word j) (end-word j))
+  pub mid-words : (ar : Arithmetic) → midParameter ar (getD l (f + s .degree) nan) (getD l (f + m) nan) ≡ midParameter ar (start (s .degree) (pieceAt s l base)) (end (pieceAt s l base))
+  mid-words ar = sym (λ j. midParameter ar (start-word j) (end-word j))
 
 -- ---- one cut in a slot
 
-module _ (s : Shape) (l : List Float) (base : ℕ) (t : Float) (h : Held s l base) (w : Whole s (pieceAt s l base)) (d : within (s .degree) (pieceAt s l base) t ≡ true) where
+module _ (ar : Arithmetic) (s : Shape) (l : List Float) (base : ℕ) (t : Float) (h : Held s l base) (w : Whole s (pieceAt s l base)) (d : within (s .degree) (pieceAt s l base) t ≡ true) where
   -- The cut.
   abbrev cut : Cut
-  cut = fullCut geop (s .degree) t (pieceAt s l base)
+  cut = fullCut ar (s .degree) t (pieceAt s l base)
 
-  pub sound : Sound s (pieceAt s l base) (fullCut geop (s .degree) t (pieceAt s l base))
-  sound = full-sound s (pieceAt s l base) t (fits-piece s l base h) w (inside-self (start (s .degree) (pieceAt s l base)) (end (pieceAt s l base)) t d)
+  pub sound : Sound s (pieceAt s l base) (fullCut ar (s .degree) t (pieceAt s l base))
+  sound = full-sound ar s (pieceAt s l base) t (fits-piece s l base h) w (inside-self (start (s .degree) (pieceAt s l base)) (end (pieceAt s l base)) t d)
 
-  module _ (y : List Float) (k : ℕ) (o : CutAt s l y base (fullCut geop (s .degree) t (pieceAt s l base)) k) where
+  module _ (y : List Float) (k : ℕ) (o : CutAt s l y base (fullCut ar (s .degree) t (pieceAt s l base)) k) where
     e : y ≡ placed s l base (cut .piece)
     e = o .memory
 
@@ -65,40 +65,40 @@ module _ (s : Shape) (l : List Float) (base : ℕ) (t : Float) (h : Held s l bas
     cut-upto = omega (arith, cut-count, f, sound .upto)
 
     -- the cut as the slot now holds it
-    pub cut-same : _≡_ {A = Cut} (record { piece = pieceAt s y base; at = k }) (fullCut geop (s .degree) t (pieceAt s l base))
+    pub cut-same : _≡_ {A = Cut} (record { piece = pieceAt s y base; at = k }) (fullCut ar (s .degree) t (pieceAt s l base))
     cut-same = λ j. record { piece = cut-piece j; at = f j }
 
     -- what is right of it is kept
     pub from-kept : (z : List Float) (r : ℕ) → z ≡ placed s y base (rightOf (record { piece = pieceAt s y base; at = k })) → r ≡ 1
-        → FromAt s l z base t (pieceAt s l base) r
+        → FromAt ar s l z base t (pieceAt s l base) r
     unfolding fromBy keepInto
     from-kept z r g q = record {
-      cuts = q ∙ sym (ap (λ (b : Bool). fromBy geop (s .degree) t (pieceAt s l base) b .cuts) d);
+      cuts = q ∙ sym (ap (λ (b : Bool). fromBy ar (s .degree) t (pieceAt s l base) b .cuts) d);
       memory = g ∙ (λ j. placed s (e j) base (rightOf (cut-same j))) ∙ sym (ap (keepInto s l base (cut .piece) (rightOf cut)) d);
     }
 
     -- what is left of it is kept
     pub upto-kept : (z : List Float) (r : ℕ) → z ≡ placed s y base (leftOf (s .degree) (record { piece = pieceAt s y base; at = k })) → r ≡ 1
-        → UpToAt s l z base t (pieceAt s l base) r
+        → UpToAt ar s l z base t (pieceAt s l base) r
     unfolding upToBy keepInto
     upto-kept z r g q = record {
-      cuts = q ∙ sym (ap (λ (b : Bool). upToBy geop (s .degree) t (pieceAt s l base) b .cuts) d);
+      cuts = q ∙ sym (ap (λ (b : Bool). upToBy ar (s .degree) t (pieceAt s l base) b .cuts) d);
       memory = g ∙ (λ j. placed s (e j) base (leftOf (s .degree) (cut-same j))) ∙ sym (ap (keepInto s l base (cut .piece) (leftOf (s .degree) cut)) d);
     }
 
 -- no cut
-module _ (s : Shape) (l : List Float) (base : ℕ) (t : Float) (d : within (s .degree) (pieceAt s l base) t ≡ false) where
-  pub from-none : FromAt s l l base t (pieceAt s l base) 0
+module _ (ar : Arithmetic) (s : Shape) (l : List Float) (base : ℕ) (t : Float) (d : within (s .degree) (pieceAt s l base) t ≡ false) where
+  pub from-none : FromAt ar s l l base t (pieceAt s l base) 0
   unfolding fromBy keepInto
   from-none =
-      let k : Cut = fullCut geop (s .degree) t (pieceAt s l base) in
-      record { cuts = sym (ap (λ (b : Bool). fromBy geop (s .degree) t (pieceAt s l base) b .cuts) d); memory = sym (ap (keepInto s l base (k .piece) (rightOf k)) d) }
+      let k : Cut = fullCut ar (s .degree) t (pieceAt s l base) in
+      record { cuts = sym (ap (λ (b : Bool). fromBy ar (s .degree) t (pieceAt s l base) b .cuts) d); memory = sym (ap (keepInto s l base (k .piece) (rightOf k)) d) }
 
-  pub upto-none : UpToAt s l l base t (pieceAt s l base) 0
+  pub upto-none : UpToAt ar s l l base t (pieceAt s l base) 0
   unfolding upToBy keepInto
   upto-none =
-      let k : Cut = fullCut geop (s .degree) t (pieceAt s l base) in
-      record { cuts = sym (ap (λ (b : Bool). upToBy geop (s .degree) t (pieceAt s l base) b .cuts) d); memory = sym (ap (keepInto s l base (k .piece) (leftOf (s .degree) k)) d) }
+      let k : Cut = fullCut ar (s .degree) t (pieceAt s l base) in
+      record { cuts = sym (ap (λ (b : Bool). upToBy ar (s .degree) t (pieceAt s l base) b .cuts) d); memory = sym (ap (keepInto s l base (k .piece) (leftOf (s .degree) k)) d) }
 
 -- a whole piece, by its count
 pub whole-count : (s : Shape) (l : List Float) (base : ℕ) → Held s l base → Whole s (pieceAt s l base) → (s .degree < countAt l base) × (countAt l base ≤ s .count)
@@ -106,15 +106,15 @@ whole-count s l base h w = (omega (arith, w .enough, count-points s l base h), o
 
 -- ---- a split
 
-module _ (s : Shape) (l : List Float) (src left right : ℕ) (t : Float) (h : Held s l src) (w : Whole s (pieceAt s l src)) (il : Inside s l left) (ir : Inside s l right)
-    (al : Apart s src left) (ar : Apart s src right) (lr : Apart s left right) where
+module _ (ar : Arithmetic) (s : Shape) (l : List Float) (src left right : ℕ) (t : Float) (h : Held s l src) (w : Whole s (pieceAt s l src)) (il : Inside s l left) (ir : Inside s l right)
+    (al : Apart s src left) (xr : Apart s src right) (lr : Apart s left right) where
   -- no cut
-  pub split-none : within (s .degree) (pieceAt s l src) t ≡ false → SplitAt s l l left right t (pieceAt s l src) false
+  pub split-none : within (s .degree) (pieceAt s l src) t ≡ false → SplitAt ar s l l left right t (pieceAt s l src) false
   unfolding split splitBy wasCut splitInto
   split-none d = record {
-    cut = sym (ap (λ (b : Bool). wasCut (splitBy geop (s .degree) t (pieceAt s l src) b)) d);
-    memory = sym (ap (splitInto s l left right t (pieceAt s l src)) d);
-    halves = subst (λ (b : Bool). HoldingBoth s l left right (splitBy geop (s .degree) t (pieceAt s l src) b)) (sym d) tt;
+    cut = sym (ap (λ (b : Bool). wasCut (splitBy ar (s .degree) t (pieceAt s l src) b)) d);
+    memory = sym (ap (splitInto ar s l left right t (pieceAt s l src)) d);
+    halves = subst (λ (b : Bool). HoldingBoth s l left right (splitBy ar (s .degree) t (pieceAt s l src) b)) (sym d) tt;
     others = λ i w a b. refl;
   }
 
@@ -123,18 +123,18 @@ module _ (s : Shape) (l : List Float) (src left right : ℕ) (t : Float) (h : He
     c = pieceAt s l src
 
     abbrev k : Cut
-    k = fullCut geop (s .degree) t (pieceAt s l src)
+    k = fullCut ar (s .degree) t (pieceAt s l src)
 
-    good : Sound s (pieceAt s l src) (fullCut geop (s .degree) t (pieceAt s l src))
-    good = sound s l src t h w d
+    good : Sound s (pieceAt s l src) (fullCut ar (s .degree) t (pieceAt s l src))
+    good = sound ar s l src t h w d
 
     fc : Fits s (pieceAt s l src)
     fc = fits-piece s l src h
 
-    fl : Fits s (leftOf (s .degree) (fullCut geop (s .degree) t (pieceAt s l src)))
+    fl : Fits s (leftOf (s .degree) (fullCut ar (s .degree) t (pieceAt s l src)))
     fl = fits-left-of s k (good .fits) (good .upto)
 
-    fr : Fits s (rightOf (fullCut geop (s .degree) t (pieceAt s l src)))
+    fr : Fits s (rightOf (fullCut ar (s .degree) t (pieceAt s l src)))
     fr = fits-right-of s k (good .fits) (good .upto)
 
     -- the copy in the slot on the left
@@ -149,12 +149,12 @@ module _ (s : Shape) (l : List Float) (src left right : ℕ) (t : Float) (h : He
       whole₁ = subst (Whole s) (sym piece₁) w
 
       -- the cut there
-      module _ (l₂ : List Float) (at : ℕ) (o : CutAt s l₁ l₂ left (fullCut geop (s .degree) t (pieceAt s l₁ left)) at) where
+      module _ (l₂ : List Float) (at : ℕ) (o : CutAt s l₁ l₂ left (fullCut ar (s .degree) t (pieceAt s l₁ left)) at) where
         memory₂ : l₂ ≡ placed s l left (k .piece)
-        memory₂ = o .memory ∙ (λ j. placed s (e₁ j) left (fullCut geop (s .degree) t (piece₁ j) .piece)) ∙ placed-again s l left c (k .piece) il fc (good .fits) (good .more)
+        memory₂ = o .memory ∙ (λ j. placed s (e₁ j) left (fullCut ar (s .degree) t (piece₁ j) .piece)) ∙ placed-again s l left c (k .piece) il fc (good .fits) (good .more)
 
         at-is : at ≡ k .at
-        at-is = o .at ∙ ap (λ (q : Piece). fullCut geop (s .degree) t q .at) piece₁
+        at-is = o .at ∙ ap (λ (q : Piece). fullCut ar (s .degree) t q .at) piece₁
 
         pub held₂ : Held s l₂ left
         held₂ = subst (λ (v : List Float). Held s v left) (sym memory₂) (held-placed s l left il (k .piece) (good .fits))
@@ -191,7 +191,7 @@ module _ (s : Shape) (l : List Float) (src left right : ℕ) (t : Float) (h : He
           upto₃ = omega (arith, at-is, good .upto, count-points s l₃ left held₃, ap (λ (q : Piece). length (q .points)) piece₃)
 
           -- and what is left of it is kept
-          pub split-done : (l₄ : List Float) → l₄ ≡ placed s l₃ left (leftOf (s .degree) (record { piece = pieceAt s l₃ left; at = at })) → SplitAt s l l₄ left right t (pieceAt s l src) true
+          pub split-done : (l₄ : List Float) → l₄ ≡ placed s l₃ left (leftOf (s .degree) (record { piece = pieceAt s l₃ left; at = at })) → SplitAt ar s l l₄ left right t (pieceAt s l src) true
           unfolding split splitBy wasCut splitInto
           split-done l₄ e₄ =
               let p : ℕ = s .degree in
@@ -203,11 +203,11 @@ module _ (s : Shape) (l : List Float) (src left right : ℕ) (t : Float) (h : He
               let hr : Held s M₃ right = held-placed s M₂ right in₃ (rightOf k) fr in
               let ol : Holding s M left (leftOf p k) = record { held = held-placed s M₃ left i₃ (leftOf p k) fl; piece = piece-placed s M₃ left i₃ (leftOf p k) fl } in
               let or : Holding s M right (rightOf k) = record { held = held-apart s M₃ left right (leftOf p k) i₃ fl lr hr; piece = piece-apart s M₃ left right (leftOf p k) i₃ fl lr hr ∙ piece-placed s M₂ right in₃ (rightOf k) fr } in
-              let both-held : HoldingBoth s l₄ left right (splitBy geop p t c true) = subst (λ (v : List Float). Holding s v left (leftOf p k) × Holding s v right (rightOf k)) (sym e) (ol, or) in
+              let both-held : HoldingBoth s l₄ left right (splitBy ar p t c true) = subst (λ (v : List Float). Holding s v left (leftOf p k) × Holding s v right (rightOf k)) (sym e) (ol, or) in
               record {
-                cut = sym (ap (λ (b : Bool). wasCut (splitBy geop p t c b)) d);
-                memory = e ∙ sym (ap (splitInto s l left right t c) d);
-                halves = subst (λ (b : Bool). HoldingBoth s l₄ left right (splitBy geop p t c b)) (sym d) both-held;
+                cut = sym (ap (λ (b : Bool). wasCut (splitBy ar p t c b)) d);
+                memory = e ∙ sym (ap (splitInto ar s l left right t c) d);
+                halves = subst (λ (b : Bool). HoldingBoth s l₄ left right (splitBy ar p t c b)) (sym d) both-held;
                 others = λ i v a b. ap (λ (m : List Float). part m i v) e ∙ part-beside s M₃ left i (leftOf p k) i₃ fl v a ∙ part-beside s M₂ right i (rightOf k) in₃ fr v b ∙ part-beside s l left i (k .piece) il (good .fits) v a;
               }
 
@@ -228,20 +228,20 @@ keep-none : (s : Shape) (m : List Float) (a : ℕ) (k d c : Piece) → Holding s
 unfolding keepInto
 keep-none s m a k d c o = o
 
-module _ (s : Shape) (m : List Float) (a : ℕ) (t : Float) (c : Piece) (o : Holding s m a c) (f : Fits s c) (w : Whole s c) where
+module _ (ar : Arithmetic) (s : Shape) (m : List Float) (a : ℕ) (t : Float) (c : Piece) (o : Holding s m a c) (f : Fits s c) (w : Whole s c) where
   -- The cut.
   abbrev cutting : Cut
-  cutting = fullCut geop (s .degree) t c
+  cutting = fullCut ar (s .degree) t c
 
-  sound-of : (b : Bool) → within (s .degree) c t ≡ b → b ≡ true → Sound s c (fullCut geop (s .degree) t c)
-  sound-of b e q = full-sound s c t f w (inside-self (start (s .degree) c) (end c) t (e ∙ q))
+  sound-of : (b : Bool) → within (s .degree) c t ≡ b → b ≡ true → Sound s c (fullCut ar (s .degree) t c)
+  sound-of b e q = full-sound ar s c t f w (inside-self (start (s .degree) c) (end c) t (e ∙ q))
 
-  from-by : (b : Bool) → (b ≡ true → Sound s c (fullCut geop (s .degree) t c)) → Holding s (keepInto s m a (cutting .piece) (rightOf cutting) b) a (fromBy geop (s .degree) t c b .piece)
+  from-by : (b : Bool) → (b ≡ true → Sound s c (fullCut ar (s .degree) t c)) → Holding s (keepInto s m a (cutting .piece) (rightOf cutting) b) a (fromBy ar (s .degree) t c b .piece)
   unfolding fromBy
   from-by true g = keep-held s m a (o .held .inside) (cutting .piece) (rightOf cutting) (g refl .fits) (fits-right-of s cutting (g refl .fits) (g refl .upto))
   from-by false g = keep-none s m a (cutting .piece) (rightOf cutting) c o
 
-  upto-by : (b : Bool) → (b ≡ true → Sound s c (fullCut geop (s .degree) t c)) → Holding s (keepInto s m a (cutting .piece) (leftOf (s .degree) cutting) b) a (upToBy geop (s .degree) t c b .piece)
+  upto-by : (b : Bool) → (b ≡ true → Sound s c (fullCut ar (s .degree) t c)) → Holding s (keepInto s m a (cutting .piece) (leftOf (s .degree) cutting) b) a (upToBy ar (s .degree) t c b .piece)
   unfolding upToBy
   upto-by true g = keep-held s m a (o .held .inside) (cutting .piece) (leftOf (s .degree) cutting) (g refl .fits) (fits-left-of s cutting (g refl .fits) (g refl .upto))
   upto-by false g = keep-none s m a (cutting .piece) (leftOf (s .degree) cutting) c o
@@ -249,10 +249,10 @@ module _ (s : Shape) (m : List Float) (a : ℕ) (t : Float) (c : Piece) (o : Hol
   abbrev inside : Bool
   inside = within (s .degree) c t
 
-  pub from-holding : Holding s (keepInto s m a (cutting .piece) (rightOf cutting) inside) a (fromBy geop (s .degree) t c inside .piece)
+  pub from-holding : Holding s (keepInto s m a (cutting .piece) (rightOf cutting) inside) a (fromBy ar (s .degree) t c inside .piece)
   from-holding = from-by inside (sound-of inside refl)
 
-  pub upto-holding : Holding s (keepInto s m a (cutting .piece) (leftOf (s .degree) cutting) inside) a (upToBy geop (s .degree) t c inside .piece)
+  pub upto-holding : Holding s (keepInto s m a (cutting .piece) (leftOf (s .degree) cutting) inside) a (upToBy ar (s .degree) t c inside .piece)
   upto-holding = upto-by inside (sound-of inside refl)
 
   pub from-only : OnlyAt s m (keepInto s m a (cutting .piece) (rightOf cutting) inside) a
@@ -261,14 +261,14 @@ module _ (s : Shape) (m : List Float) (a : ℕ) (t : Float) (c : Piece) (o : Hol
   pub upto-only : OnlyAt s m (keepInto s m a (cutting .piece) (leftOf (s .degree) cutting) inside) a
   upto-only = keep-only s m a (o .held .inside) (cutting .piece) (leftOf (s .degree) cutting) inside (λ q. let g = sound-of inside refl q in (g .fits, fits-left-of s cutting (g .fits) (g .upto)))
 
-module _ (s : Shape) (l : List Float) (src to : ℕ) (lo hi : Float) (h : Held s l src) (w : Whole s (pieceAt s l src)) (i : Inside s l to)
-    (wf : Whole s (fromBy geop (s .degree) lo (pieceAt s l src) (within (s .degree) (pieceAt s l src) lo) .piece)) where
+module _ (ar : Arithmetic) (s : Shape) (l : List Float) (src to : ℕ) (lo hi : Float) (h : Held s l src) (w : Whole s (pieceAt s l src)) (i : Inside s l to)
+    (wf : Whole s (fromBy ar (s .degree) lo (pieceAt s l src) (within (s .degree) (pieceAt s l src) lo) .piece)) where
   abbrev whole : Piece
   whole = pieceAt s l src
 
   -- What is left after the first cut.
   abbrev rest : Piece
-  rest = fromBy geop (s .degree) lo (pieceAt s l src) (within (s .degree) (pieceAt s l src) lo) .piece
+  rest = fromBy ar (s .degree) lo (pieceAt s l src) (within (s .degree) (pieceAt s l src) lo) .piece
 
   whole-fits : Fits s (pieceAt s l src)
   whole-fits = fits-piece s l src h
@@ -283,15 +283,15 @@ module _ (s : Shape) (l : List Float) (src to : ℕ) (lo hi : Float) (h : Held s
     pub copied-whole : Whole s (pieceAt s l₁ to)
     copied-whole = subst (Whole s) (sym (copied .piece)) w
 
-    module _ (l₂ : List Float) (n₂ : ℕ) (o : FromAt s l₁ l₂ to lo (pieceAt s l₁ to) n₂) where
-      cuts₂ : n₂ ≡ fromBy geop (s .degree) lo whole (within (s .degree) whole lo) .cuts
-      cuts₂ = o .cuts ∙ ap (λ (c : Piece). fromBy geop (s .degree) lo c (within (s .degree) c lo) .cuts) (copied .piece)
+    module _ (l₂ : List Float) (n₂ : ℕ) (o : FromAt ar s l₁ l₂ to lo (pieceAt s l₁ to) n₂) where
+      cuts₂ : n₂ ≡ fromBy ar (s .degree) lo whole (within (s .degree) whole lo) .cuts
+      cuts₂ = o .cuts ∙ ap (λ (c : Piece). fromBy ar (s .degree) lo c (within (s .degree) c lo) .cuts) (copied .piece)
 
-      first₂ : l₂ ≡ keepInto s l₁ to (fullCut geop (s .degree) lo whole .piece) (rightOf (fullCut geop (s .degree) lo whole)) (within (s .degree) whole lo)
-      first₂ = o .memory ∙ ap (λ (c : Piece). keepInto s l₁ to (fullCut geop (s .degree) lo c .piece) (rightOf (fullCut geop (s .degree) lo c)) (within (s .degree) c lo)) (copied .piece)
+      first₂ : l₂ ≡ keepInto s l₁ to (fullCut ar (s .degree) lo whole .piece) (rightOf (fullCut ar (s .degree) lo whole)) (within (s .degree) whole lo)
+      first₂ = o .memory ∙ ap (λ (c : Piece). keepInto s l₁ to (fullCut ar (s .degree) lo c .piece) (rightOf (fullCut ar (s .degree) lo c)) (within (s .degree) c lo)) (copied .piece)
 
       pub cut-down : Holding s l₂ to rest
-      cut-down = subst (λ (v : List Float). Holding s v to rest) (sym first₂) (from-holding s l₁ to lo whole copied whole-fits w)
+      cut-down = subst (λ (v : List Float). Holding s v to rest) (sym first₂) (from-holding ar s l₁ to lo whole copied whole-fits w)
 
       pub cut-down-whole : Whole s (pieceAt s l₂ to)
       cut-down-whole = subst (Whole s) (sym (cut-down .piece)) wf
@@ -299,24 +299,24 @@ module _ (s : Shape) (l : List Float) (src to : ℕ) (lo hi : Float) (h : Held s
       rest-fits : Fits s rest
       rest-fits = subst (Fits s) (cut-down .piece) (fits-piece s l₂ to (cut-down .held))
 
-      pub restricted : (l₃ : List Float) (n₃ : ℕ) → UpToAt s l₂ l₃ to hi (pieceAt s l₂ to) n₃ → RestrictAt s l l₃ to lo hi (pieceAt s l src) (n₂ + n₃)
+      pub restricted : (l₃ : List Float) (n₃ : ℕ) → UpToAt ar s l₂ l₃ to hi (pieceAt s l₂ to) n₃ → RestrictAt ar s l l₃ to lo hi (pieceAt s l src) (n₂ + n₃)
       unfolding restrict restrictInto
       restricted l₃ n₃ v =
           let p : ℕ = s .degree in
           let d : Piece = rest in
-          let cuts₃ : n₃ ≡ upToBy geop p hi d (within p d hi) .cuts = v .cuts ∙ ap (λ (c : Piece). upToBy geop p hi c (within p c hi) .cuts) (cut-down .piece) in
-          let m₃ : l₃ ≡ keepInto s l₂ to (fullCut geop p hi d .piece) (leftOf p (fullCut geop p hi d)) (within p d hi)
-          = v .memory ∙ ap (λ (c : Piece). keepInto s l₂ to (fullCut geop p hi c .piece) (leftOf p (fullCut geop p hi c)) (within p c hi)) (cut-down .piece) in
+          let cuts₃ : n₃ ≡ upToBy ar p hi d (within p d hi) .cuts = v .cuts ∙ ap (λ (c : Piece). upToBy ar p hi c (within p c hi) .cuts) (cut-down .piece) in
+          let m₃ : l₃ ≡ keepInto s l₂ to (fullCut ar p hi d .piece) (leftOf p (fullCut ar p hi d)) (within p d hi)
+          = v .memory ∙ ap (λ (c : Piece). keepInto s l₂ to (fullCut ar p hi c .piece) (leftOf p (fullCut ar p hi c)) (within p c hi)) (cut-down .piece) in
           record {
             cuts = λ j. cuts₂ j + cuts₃ j;
-            most = omega (arith, cuts₂, cuts₃, from-few geop p lo whole (within p whole lo), up-to-few geop p hi d (within p d hi));
-            memory = m₃ ∙ ap (λ (v : List Float). keepInto s v to (fullCut geop p hi d .piece) (leftOf p (fullCut geop p hi d)) (within p d hi))
-                (first₂ ∙ ap (λ (v : List Float). keepInto s v to (fullCut geop p lo whole .piece) (rightOf (fullCut geop p lo whole)) (within p whole lo)) e₁);
-            held = subst (λ (v : List Float). Holding s v to (upToBy geop p hi d (within p d hi) .piece)) (sym m₃) (upto-holding s l₂ to hi d cut-down rest-fits wf);
-            others = λ x v q. ap (λ (m : List Float). part m x v) m₃ ∙ upto-only s l₂ to hi d cut-down rest-fits wf x v q ∙ ap (λ (m : List Float). part m x v) first₂
-                ∙ from-only s l₁ to lo whole copied whole-fits w x v q ∙ ap (λ (m : List Float). part m x v) e₁ ∙ part-beside s l to x whole i whole-fits v q;
+            most = omega (arith, cuts₂, cuts₃, from-few ar p lo whole (within p whole lo), up-to-few ar p hi d (within p d hi));
+            memory = m₃ ∙ ap (λ (v : List Float). keepInto s v to (fullCut ar p hi d .piece) (leftOf p (fullCut ar p hi d)) (within p d hi))
+                (first₂ ∙ ap (λ (v : List Float). keepInto s v to (fullCut ar p lo whole .piece) (rightOf (fullCut ar p lo whole)) (within p whole lo)) e₁);
+            held = subst (λ (v : List Float). Holding s v to (upToBy ar p hi d (within p d hi) .piece)) (sym m₃) (upto-holding ar s l₂ to hi d cut-down rest-fits wf);
+            others = λ x v q. ap (λ (m : List Float). part m x v) m₃ ∙ upto-only ar s l₂ to hi d cut-down rest-fits wf x v q ∙ ap (λ (m : List Float). part m x v) first₂
+                ∙ from-only ar s l₁ to lo whole copied whole-fits w x v q ∙ ap (λ (m : List Float). part m x v) e₁ ∙ part-beside s l to x whole i whole-fits v q;
           }
 
 -- a split at t is one at u, where t is u
-pub split-same : (s : Shape) (l m : List Float) (a b : ℕ) (t u : Float) (c : Piece) (r : Bool) → t ≡ u → SplitAt s l m a b t c r → SplitAt s l m a b u c r
-split-same s l m a b t u c r e h = subst (λ (v : Float). SplitAt s l m a b v c r) e h
+pub split-same : (ar : Arithmetic) (s : Shape) (l m : List Float) (a b : ℕ) (t u : Float) (c : Piece) (r : Bool) → t ≡ u → SplitAt ar s l m a b t c r → SplitAt ar s l m a b u c r
+split-same ar s l m a b t u c r e h = subst (λ (v : Float). SplitAt ar s l m a b v c r) e h

@@ -15,6 +15,7 @@ use Rattle.math.specs.declared.scalars.Scalar.{Scalar}
 use Rattle.math.proofs.Bools.{yes, no, pick-yes, pick-no}
 use Rattle.model.specs.NurbCurve.{Piece}
 use Rattle.model.specs.Subdivide.{Visit, Waiting, State, going, over, atDepth, withVisit, withCuts, failedWith, after, step}
+use Rattle.math.specs.Scalars.{Arithmetic}
 use Rattle.geometry.specs.Slots.{wordsOf, pieceAt, depthAt, waitsAt, Inside, Held, Apart, Fit}
 use Rattle.geometry.specs.Ring.{baseOf, ringBase, waiting, Ring, Beside}
 use Rattle.geometry.specs.State.{foundOf, outcomeOf, HandedOn, Visited, withDepths, DepthsOn, Turned, children, cutsOf, withReport, hasBadWeight, stateOf, Next}
@@ -214,12 +215,12 @@ module _ (s : Shape) (l : List Float) (slots h n w : ℕ) (r : Ring s l slots h 
           subst (λ (v : ℕ). Apart s v z) (sym Y) (subst (Apart s (ringBase s slots h n)) (sym Z) yz),
         )
 
-    pub turn-asks : (B : ℕ) → Fit s (pieceAt s l (baseOf s h)) → 2 * s .dim ≤ B
-        → (Held s l x × Fit s (pieceAt s l x) × (2 * s .dim ≤ B)) × (Inside s l y × Inside s l z × Apart s x y × Apart s x z × Apart s y z)
-    turn-asks B f b =
+    pub turn-asks : (ar : Arithmetic) (B : ℕ) → Fit ar s (pieceAt s l (baseOf s h)) → 2 * s .dim ≤ B
+        → (Held s l x × Fit ar s (pieceAt s l x) × (2 * s .dim ≤ B)) × (Inside s l y × Inside s l z × Apart s x y × Apart s x z × Apart s y z)
+    turn-asks ar B f b =
         let xy : Apart s (baseOf s h) (ringBase s slots h n) = other s (ringBase s slots h n) (baseOf s h) (head-apart s l slots h (n - 1) ring′′ n (omega arith) (omega arith)) in
         let xz : Apart s (baseOf s h) (ringBase s slots h (n + 1)) = other s (ringBase s slots h (n + 1)) (baseOf s h) (head-apart s l slots h (n - 1) ring′′ (n + 1) (omega arith) (omega arith)) in (
-          (subst (Held s l) (sym X) (head-waits s l slots h (n - 1) ring′′ .held), subst (λ (v : ℕ). Fit s (pieceAt s l v)) (sym X) f, b),
+          (subst (Held s l) (sym X) (head-waits s l slots h (n - 1) ring′′ .held), subst (λ (v : ℕ). Fit ar s (pieceAt s l v)) (sym X) f, b),
           (
             turn-slots .0,
             turn-slots .1,

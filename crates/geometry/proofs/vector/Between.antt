@@ -13,7 +13,7 @@ use Rattle.lists.proofs.Tab.{length-tab, zipWith-tab}
 use Rattle.lists.proofs.Put.{put-put}
 use Rattle.lists.proofs.Read.{getD-put-before, getD-put-after}
 use Rattle.math.specs.declared.scalars.Scalar.{Scalar}
-use Rattle.math.specs.Scalars.{geop, interpolateS}
+use Rattle.math.specs.Scalars.{Arithmetic, interpolateS}
 use Rattle.model.specs.Vector.{Vector, interpolateV}
 use Rattle.model.specs.Layout.{flat}
 use Rattle.geometry.specs.Slots.{scalarFrom, vectorAt}
@@ -33,14 +33,14 @@ clear-of x w c h = by (leb c x) refl
     by true e = inr (leb→le c x (subst T (sym e) tt))
     by false e = inl (h (nleb→lt c x (subst (λ (v : Bool). T (not v)) (sym e) tt)))
 
-module _ (l : List Float) (a b c d : ℕ) (α : Scalar) where
+module _ (ar : Arithmetic) (l : List Float) (a b c d : ℕ) (α : Scalar) where
   -- Interval number k of the point between.
   abbrev pub mixed : ℕ → Scalar
-  mixed k = interpolateS geop (scalarFrom l (a + 2 * k)) (scalarFrom l (b + 2 * k)) α
+  mixed k = interpolateS ar (scalarFrom l (a + 2 * k)) (scalarFrom l (b + 2 * k)) α
 
   -- The memory after k intervals.
   abbrev pub after : ℕ → List Float
-  after k = put l c (flat (tab k (λ j. interpolateS geop (scalarFrom l (a + 2 * j)) (scalarFrom l (b + 2 * j)) α)))
+  after k = put l c (flat (tab k (λ j. interpolateS ar (scalarFrom l (a + 2 * j)) (scalarFrom l (b + 2 * j)) α)))
 
   module _ (ha : (a + 2 * d ≤ c) ⊎ (c ≤ a)) (hb : (b + 2 * d ≤ c) ⊎ (c ≤ b)) (room : c + 2 * d ≤ length l) where
     long : (k : ℕ) → length (flat (tab k mixed)) ≡ 2 * k
@@ -55,20 +55,20 @@ module _ (l : List Float) (a b c d : ℕ) (α : Scalar) where
         either (inr g) = inr (omega (arith, long k))
 
     -- one turn
-    pub turn : (k : ℕ) (w y : List Float) (p q r : Scalar) → k < d → w ≡ after k → p ≡ scalarFrom w (a + 2 * k) → q ≡ scalarFrom w (b + 2 * k) → r ≡ interpolateS geop p q α
+    pub turn : (k : ℕ) (w y : List Float) (p q r : Scalar) → k < d → w ≡ after k → p ≡ scalarFrom w (a + 2 * k) → q ≡ scalarFrom w (b + 2 * k) → r ≡ interpolateS ar p q α
         → y ≡ put w (c + 2 * k) (r .lo ∷ r .hi ∷ []) → y ≡ after (k + 1)
     turn k w y p q r h e ep eq er ey =
         let v : List Float = flat (tab k mixed) in
         let at : c + 2 * k ≡ c + length v = omega (arith, long k) in
         let pa : p ≡ scalarFrom l (a + 2 * k) = ep ∙ ap (λ (z : List Float). scalarFrom z (a + 2 * k)) e ∙ reads a k ha h in
         let qb : q ≡ scalarFrom l (b + 2 * k) = eq ∙ ap (λ (z : List Float). scalarFrom z (b + 2 * k)) e ∙ reads b k hb h in
-        let rm : r ≡ mixed k = er ∙ (λ i. interpolateS geop (pa i) (qb i) α) in
+        let rm : r ≡ mixed k = er ∙ (λ i. interpolateS ar (pa i) (qb i) α) in
         ey
         ∙ (λ i. put (e i) (at i) (rm i .lo ∷ rm i .hi ∷ []))
         ∙ put-put l c v (mixed k .lo ∷ mixed k .hi ∷ []) (omega (arith, long k))
         ∙ ap (put l c) (sym (flat-snoc k mixed))
 
   -- after the last turn
-  pub done : after d ≡ put l c (flat (interpolateV geop (vectorAt d l a) (vectorAt d l b) α))
+  pub done : after d ≡ put l c (flat (interpolateV ar (vectorAt d l a) (vectorAt d l b) α))
   unfolding interpolateV
-  done = rw (vector-tab d l a, vector-tab d l b) (ap (λ (v : Vector). put l c (flat v)) (sym (zipWith-tab (λ x y. interpolateS geop x y α) d (λ k. scalarFrom l (a + 2 * k)) (λ k. scalarFrom l (b + 2 * k)))))
+  done = rw (vector-tab d l a, vector-tab d l b) (ap (λ (v : Vector). put l c (flat v)) (sym (zipWith-tab (λ x y. interpolateS ar x y α) d (λ k. scalarFrom l (a + 2 * k)) (λ k. scalarFrom l (b + 2 * k)))))

@@ -2,14 +2,12 @@
 use mathlib.Core.Path.{_≡_, refl, sym, ap, _∙_, subst}
 use mathlib.Core.Bool.{Bool, true, false, cond, _&&_}
 use mathlib.Core.List.{List}
-use mathlib.Core.Option.{none}
 use Prim.Native.Nat.{ℕ, zero, suc, _≤_}
 use native.Mathlib.Omega.{arith}
-use lib.Dec.{T}
 use lib.ListN.{length}
 use lib.Ieee.{Float}
 use Rattle.math.specs.declared.scalars.Scalar.{Scalar}
-use Rattle.math.specs.Scalars.{geop}
+use Rattle.math.specs.Scalars.{Arithmetic}
 use Rattle.math.proofs.Bools.{yes, no, pick-yes, pick-no}
 use Rattle.model.specs.NurbCurve.{Piece, start, end, domain, weightsPositive, midParameter}
 use Rattle.model.specs.Split.{Halves, uncut, both, splitMid, Restricted, restrict}
@@ -32,23 +30,23 @@ use Rattle.geometry.proofs.visits.Plans.{visit-plan}
 
 -- ---- a piece that was cut down
 
-module _ (s : Shape) (l m : List Float) (a : ℕ) (hat : Scalar) (c : Piece) (n : ℕ) (r : RestrictAt s l m a (hat .lo) (hat .hi) c n) (long : length m ≡ length l) (w : Bool)
+module _ (ar : Arithmetic) (s : Shape) (l m : List Float) (a : ℕ) (hat : Scalar) (c : Piece) (n : ℕ) (r : RestrictAt ar s l m a (hat .lo) (hat .hi) c n) (long : length m ≡ length l) (w : Bool)
     (W : w ≡ weightsPositive (s .dim) (pieceAt s m a .points)) (b : ℕ) where
   -- What is left of it.
   abbrev left : Restricted
-  left = restrict geop (s .degree) (hat .lo) (hat .hi) c
+  left = restrict ar (s .degree) (hat .lo) (hat .hi) c
 
-  tested : w ≡ weightsPositive (s .dim) (restrict geop (s .degree) (hat .lo) (hat .hi) c .piece .points)
+  tested : w ≡ weightsPositive (s .dim) (restrict ar (s .degree) (hat .lo) (hat .hi) c .piece .points)
   tested = W ∙ ap (λ (x : Piece). weightsPositive (s .dim) (x .points)) (r .held .piece)
 
   one-slot : Beside s a b l m
   one-slot = record { long = long; same = λ x v f g. r .others x v f }
 
-  pub handed-on : w ≡ true → Visited (handOn (s .dim) (restrict geop (s .degree) (hat .lo) (hat .hi) c)) s a b l m (outcome.Restricted n)
+  pub handed-on : w ≡ true → Visited (handOn (s .dim) (restrict ar (s .degree) (hat .lo) (hat .hi) c)) s a b l m (outcome.Restricted n)
   unfolding handOn outcomeOf
   handed-on e = record { is = (λ i. restricted (r .cuts i) (r .held .piece i)) ∙ pick-yes _ _ _ (sym tested ∙ e); beside = one-slot; holding = r .held .held }
 
-  pub handed-bad : w ≡ false → Visited (handOn (s .dim) (restrict geop (s .degree) (hat .lo) (hat .hi) c)) s a b l m BadWeight
+  pub handed-bad : w ≡ false → Visited (handOn (s .dim) (restrict ar (s .degree) (hat .lo) (hat .hi) c)) s a b l m BadWeight
   unfolding handOn outcomeOf
   handed-bad e = record { is = pick-no _ _ _ (sym tested ∙ e); beside = one-slot; holding = tt }
 
@@ -82,11 +80,11 @@ module _ (s : Shape) (m : List Float) (a b : ℕ) (hat : Scalar) where
     bad-half uncut e h t = absurd (yes false (sym e))
     bad-half (both x y) e h t = pick-no _ _ _ (sym (both-tests x y (h .0 .piece) (h .1 .piece)) ∙ t)
 
-module _ (s : Shape) (l m : List Float) (a b : ℕ) (hat : Scalar) (c : Piece) (r : Bool) (h : SplitAt s l m a b (midParameter geop (start (s .degree) c) (end c)) c r) (long : length m ≡ length l) where
+module _ (ar : Arithmetic) (s : Shape) (l m : List Float) (a b : ℕ) (hat : Scalar) (c : Piece) (r : Bool) (h : SplitAt ar s l m a b (midParameter ar (start (s .degree) c) (end c)) c r) (long : length m ≡ length l) where
   two-slots : Beside s a b l m
   two-slots = record { long = long; same = λ x v f g. h .others x v f g }
 
-  pub both-none : r ≡ false → Visited (handBoth (s .dim) hat (splitMid geop (s .degree) c)) s a b l m (Reported hat)
+  pub both-none : r ≡ false → Visited (handBoth (s .dim) hat (splitMid ar (s .degree) c)) s a b l m (Reported hat)
   unfolding splitMid outcomeOf
   both-none e = record { is = no-halves s m a b hat _ (sym e ∙ h .cut); beside = two-slots; holding = tt }
 
@@ -95,40 +93,40 @@ module _ (s : Shape) (l m : List Float) (a b : ℕ) (hat : Scalar) (c : Piece) (
     both-held = holds-both s m a b hat _ (sym e ∙ h .cut) (h .halves)
 
     module _ (u : Bool) (U : u ≡ weightsPositive (s .dim) (pieceAt s m a .points)) where
-      pub both-bad-first : u ≡ false → Visited (handBoth (s .dim) hat (splitMid geop (s .degree) c)) s a b l m BadWeight
+      pub both-bad-first : u ≡ false → Visited (handBoth (s .dim) hat (splitMid ar (s .degree) c)) s a b l m BadWeight
       unfolding splitMid outcomeOf
       both-bad-first f = record { is = bad-half s m a b hat u _ U refl _ (sym e ∙ h .cut) (h .halves) (ap (λ (x : Bool). x && weightsPositive (s .dim) (pieceAt s m b .points)) f); beside = two-slots; holding = tt }
 
       module _ (first : u ≡ true) (v : Bool) (V′ : v ≡ weightsPositive (s .dim) (pieceAt s m b .points)) where
-        pub both-bad-second : v ≡ false → Visited (handBoth (s .dim) hat (splitMid geop (s .degree) c)) s a b l m BadWeight
+        pub both-bad-second : v ≡ false → Visited (handBoth (s .dim) hat (splitMid ar (s .degree) c)) s a b l m BadWeight
         unfolding splitMid outcomeOf
         both-bad-second f = record { is = bad-half s m a b hat u v U V′ _ (sym e ∙ h .cut) (h .halves) (λ i. first i && f i); beside = two-slots; holding = tt }
 
-        pub both-done : v ≡ true → Visited (handBoth (s .dim) hat (splitMid geop (s .degree) c)) s a b l m Halved
+        pub both-done : v ≡ true → Visited (handBoth (s .dim) hat (splitMid ar (s .degree) c)) s a b l m Halved
         unfolding splitMid outcomeOf
         both-done f = record { is = two-halves s m a b hat u v U V′ _ (sym e ∙ h .cut) (h .halves) (λ i. first i && f i); beside = two-slots; holding = both-held }
 
 -- ---- the visit
 
-module _ (q : Question) (c : Piece) (z : Plan) (Z : z ≡ planned geop (q .dim) (q .degree) (q .box) (q .resolution) c) where
-  does : (y : Plan) → z ≡ y → carriedOut geop q c y ≡ visit geop q c
-  does y e = ap (carriedOut geop q c) (sym e ∙ Z) ∙ sym (visit-plan geop q c)
+module _ (ar : Arithmetic) (q : Question) (c : Piece) (z : Plan) (Z : z ≡ planned ar (q .dim) (q .degree) (q .box) (q .resolution) c) where
+  does : (y : Plan) → z ≡ y → carriedOut ar q c y ≡ visit ar q c
+  does y e = ap (carriedOut ar q c) (sym e ∙ Z) ∙ sym (visit-plan ar q c)
 
   module _ (s : Shape) (a b : ℕ) (l m : List Float) (o : Outcome) where
-    pub see-restrict : (hat : Scalar) → z ≡ Restrict hat → Visited (handOn (q .dim) (restrict geop (q .degree) (hat .lo) (hat .hi) c)) s a b l m o → Visited (visit geop q c) s a b l m o
+    pub see-restrict : (hat : Scalar) → z ≡ Restrict hat → Visited (handOn (q .dim) (restrict ar (q .degree) (hat .lo) (hat .hi) c)) s a b l m o → Visited (visit ar q c) s a b l m o
     unfolding carriedOut
     see-restrict hat e h = subst (λ (v : Visit). Visited v s a b l m o) (does (Restrict hat) e) h
 
-    pub see-halve : (hat : Scalar) → z ≡ Halve hat → Visited (handBoth (q .dim) hat (splitMid geop (q .degree) c)) s a b l m o → Visited (visit geop q c) s a b l m o
+    pub see-halve : (hat : Scalar) → z ≡ Halve hat → Visited (handBoth (q .dim) hat (splitMid ar (q .degree) c)) s a b l m o → Visited (visit ar q c) s a b l m o
     unfolding carriedOut
     see-halve hat e h = subst (λ (v : Visit). Visited v s a b l m o) (does (Halve hat) e) h
 
   module _ (s : Shape) (a b : ℕ) (l : List Float) where
-    pub see-skip : z ≡ Skip → Visited (visit geop q c) s a b l l Dropped
+    pub see-skip : z ≡ Skip → Visited (visit ar q c) s a b l l Dropped
     unfolding carriedOut outcomeOf
     see-skip e = record { is = does Skip e; beside = beside-refl s a b l; holding = tt }
 
-    pub see-report : (t : Scalar) → z ≡ Report t → Visited (visit geop q c) s a b l l (Reported t)
+    pub see-report : (t : Scalar) → z ≡ Report t → Visited (visit ar q c) s a b l l (Reported t)
     unfolding carriedOut outcomeOf
     see-report t e = record { is = does (Report t) e; beside = beside-refl s a b l; holding = tt }
 
@@ -140,14 +138,14 @@ isRestrict (Report t) = false
 isRestrict (Restrict t) = true
 isRestrict (Halve t) = false
 
-flat-plan : (dim : ℕ) (box : List Scalar) (resolution : Float) (c : Piece) → isRestrict (planned geop dim zero box resolution c) ≡ false
+flat-plan : (ar : Arithmetic) (dim : ℕ) (box : List Scalar) (resolution : Float) (c : Piece) → isRestrict (planned ar dim zero box resolution c) ≡ false
 unfolding planned planClip greville
-flat-plan dim box resolution c = by (couldOverlap (aabb geop dim (c .points)) box) (Report (domain (start zero c) (end c))) refl
+flat-plan ar dim box resolution c = by (couldOverlap (aabb ar dim (c .points)) box) (Report (domain (start zero c) (end c))) refl
   where
     by : (x : Bool) (r : Plan) → isRestrict r ≡ false → isRestrict (cond x r Skip) ≡ false
     by true r e = e
     by false r e = refl
 
-pub steep : (dim p : ℕ) (box : List Scalar) (resolution : Float) (c : Piece) (z : Plan) (hat : Scalar) → z ≡ planned geop dim p box resolution c → z ≡ Restrict hat → 1 ≤ p
-steep dim (suc p) box resolution c z hat Z e = omega arith
-steep dim zero box resolution c z hat Z e = absurd (yes false (sym (flat-plan dim box resolution c) ∙ ap isRestrict (sym Z ∙ e)))
+pub steep : (ar : Arithmetic) (dim p : ℕ) (box : List Scalar) (resolution : Float) (c : Piece) (z : Plan) (hat : Scalar) → z ≡ planned ar dim p box resolution c → z ≡ Restrict hat → 1 ≤ p
+steep ar dim (suc p) box resolution c z hat Z e = omega arith
+steep ar dim zero box resolution c z hat Z e = absurd (yes false (sym (flat-plan ar dim box resolution c) ∙ ap isRestrict (sym Z ∙ e)))

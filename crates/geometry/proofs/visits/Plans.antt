@@ -7,7 +7,7 @@ use Prim.Native.Nat.{ℕ, zero, suc}
 use lib.ListN.{length, getD}
 use lib.Ieee.{Float, nan}
 use Rattle.math.specs.declared.scalars.Scalar.{Scalar}
-use Rattle.math.specs.Scalars.{Arithmetic, geop}
+use Rattle.math.specs.Scalars.{Arithmetic}
 use Rattle.math.proofs.Bools.{pick-yes, pick-no}
 use Rattle.model.specs.Vector.{Vector}
 use Rattle.model.specs.NurbCurve.{Piece, start, end, domain}
@@ -15,14 +15,13 @@ use Rattle.model.specs.Aabb.{aabb, couldOverlap}
 use Rattle.model.specs.FatLine.{greville, extent, restricts, halves}
 use Rattle.geometry.specs.Abscissae.{held}
 use Rattle.model.specs.Layout.{scalarsOf, pointsOf}
-use Rattle.model.specs.Subdivide.{Question, Visit, dropped, reported}
-use Rattle.model.specs.Split.{splitMid, restrict}
-use Rattle.model.specs.Contains.{clip, carried, handOn, handBoth, shrink, clipped, visit}
+use Rattle.model.specs.Subdivide.{Question, Visit, dropped}
+use Rattle.model.specs.Split.{restrict}
+use Rattle.model.specs.Contains.{clip, carried, handOn, shrink, clipped, visit}
 use Rattle.geometry.specs.Plan.{planHat, planShrink, planClip, planned, carriedOut}
 use Rattle.model.specs.declared.fat_line.Hat.{Hat}
 use Rattle.model.specs.declared.fat_line.Hat.the-variants.{Over, Missing}
 use Rattle.geometry.specs.declared.fat_line.Abscissae.{Abscissae}
-use Rattle.geometry.specs.declared.fat_line.Greville.the-variants.{Some}
 use Rattle.geometry.specs.declared.visits.Plan.{Plan}
 use Rattle.geometry.specs.declared.visits.Plan.the-variants.{Skip, Report, Restrict, Halve}
 use Rattle.geometry.proofs.fat_line.Zeros.{some-greville}
@@ -78,11 +77,11 @@ visit-nodes ar dim p box resolution n m c =
 
 -- ---- with a hat
 
-module _ (dim : ℕ) (box : List Scalar) (resolution a b w : Float) (points : List Vector) (hat : Scalar) (r : Bool) (W : w ≡ carried dim box points) (R : r ≡ restricts geop a b hat (extent dim points) w) where
-  cuts : r ≡ restricts geop a b hat (extent dim points) (carried dim box points)
-  cuts = R ∙ ap (restricts geop a b hat (extent dim points)) W
+module _ (ar : Arithmetic) (dim : ℕ) (box : List Scalar) (resolution a b w : Float) (points : List Vector) (hat : Scalar) (r : Bool) (W : w ≡ carried dim box points) (R : r ≡ restricts ar a b hat (extent dim points) w) where
+  cuts : r ≡ restricts ar a b hat (extent dim points) (carried dim box points)
+  cuts = R ∙ ap (restricts ar a b hat (extent dim points)) W
 
-  pub hat-restrict : r ≡ true → Restrict hat ≡ planHat geop dim box resolution a b points hat
+  pub hat-restrict : r ≡ true → Restrict hat ≡ planHat ar dim box resolution a b points hat
   unfolding planHat
   hat-restrict e = pick-yes _ _ _ (sym cuts ∙ e)
 
@@ -90,23 +89,23 @@ module _ (dim : ℕ) (box : List Scalar) (resolution a b w : Float) (points : Li
     splits : h ≡ halves a b (extent dim points) (carried dim box points) resolution
     splits = H ∙ ap (λ (v : Float). halves a b (extent dim points) v resolution) W
 
-    pub hat-halve : h ≡ true → Halve hat ≡ planHat geop dim box resolution a b points hat
+    pub hat-halve : h ≡ true → Halve hat ≡ planHat ar dim box resolution a b points hat
     unfolding planHat
     hat-halve e = pick-yes _ _ _ (sym splits ∙ e) ∙ pick-no _ _ _ (sym cuts ∙ no)
 
-    pub hat-report : h ≡ false → Report hat ≡ planHat geop dim box resolution a b points hat
+    pub hat-report : h ≡ false → Report hat ≡ planHat ar dim box resolution a b points hat
     unfolding planHat
     hat-report e = pick-no _ _ _ (sym splits ∙ e) ∙ pick-no _ _ _ (sym cuts ∙ no)
 
 -- ---- with abscissae
 
 -- where the degree is not 0 there are some, and they are held
-some-held : (p n : ℕ) (knots : List Float) (x : Abscissae) → (p ≡ 0 → ⊥) → x ≡ held (greville geop p n knots) → greville geop p n knots ≡ some (scalarsOf n (x .at))
+some-held : (ar : Arithmetic) (p n : ℕ) (knots : List Float) (x : Abscissae) → (p ≡ 0 → ⊥) → x ≡ held (greville ar p n knots) → greville ar p n knots ≡ some (scalarsOf n (x .at))
 unfolding held greville
-some-held zero n knots x h e = absurd (h refl)
-some-held (suc p) n knots x h e = some-greville geop (suc p) n knots x e (ap (λ (y : Abscissae). y .has) e)
+some-held ar zero n knots x h e = absurd (h refl)
+some-held ar (suc p) n knots x h e = some-greville ar (suc p) n knots x e (ap (λ (y : Abscissae). y .has) e)
 
-module _ (dim p n : ℕ) (box : List Scalar) (resolution : Float) (knots points : List Float) where
+module _ (ar : Arithmetic) (dim p n : ℕ) (box : List Scalar) (resolution : Float) (knots points : List Float) where
   -- The piece.
   abbrev pub pieceBy : Piece
   pieceBy = record { knots = knots; points = pointsOf (suc dim) n points }
@@ -115,36 +114,36 @@ module _ (dim p n : ℕ) (box : List Scalar) (resolution : Float) (knots points 
   ends = ap (λ (m : ℕ). getD knots m nan) (sym (length-points (suc dim) n points))
 
   -- degree 0 has none
-  pub clip-report : (d : Scalar) → p ≡ 0 → d ≡ domain (getD knots p nan) (getD knots n nan) → Report d ≡ planClip geop dim p box resolution pieceBy (greville geop p n knots)
+  pub clip-report : (d : Scalar) → p ≡ 0 → d ≡ domain (getD knots p nan) (getD knots n nan) → Report d ≡ planClip ar dim p box resolution pieceBy (greville ar p n knots)
   unfolding planClip greville
-  clip-report d e D = ap (λ (v : Scalar). Report v) (D ∙ ap (domain (getD knots p nan)) ends) ∙ sym (ap (λ (m : ℕ). planClip geop dim p box resolution pieceBy (greville geop m n knots)) e)
+  clip-report d e D = ap (λ (v : Scalar). Report v) (D ∙ ap (domain (getD knots p nan)) ends) ∙ sym (ap (λ (m : ℕ). planClip ar dim p box resolution pieceBy (greville ar m n knots)) e)
 
-  module _ (x : Abscissae) (h : Hat) (no : p ≡ 0 → ⊥) (X : x ≡ held (greville geop p n knots))
-      (H : h ≡ clip geop dim (pointsOf (suc dim) n points) (scalarsOf n (x .at)) (domain (getD knots p nan) (getD knots n nan)) 0 box) where
-    opened : planShrink geop dim p box resolution pieceBy h ≡ planClip geop dim p box resolution pieceBy (greville geop p n knots)
+  module _ (x : Abscissae) (h : Hat) (no : p ≡ 0 → ⊥) (X : x ≡ held (greville ar p n knots))
+      (H : h ≡ clip ar dim (pointsOf (suc dim) n points) (scalarsOf n (x .at)) (domain (getD knots p nan) (getD knots n nan)) 0 box) where
+    opened : planShrink ar dim p box resolution pieceBy h ≡ planClip ar dim p box resolution pieceBy (greville ar p n knots)
     unfolding planClip
     opened =
-        ap (planShrink geop dim p box resolution pieceBy)
-        (H ∙ ap (λ (e : Float). clip geop dim (pointsOf (suc dim) n points) (scalarsOf n (x .at)) (domain (getD knots p nan) e) 0 box) ends)
-        ∙ sym (ap (planClip geop dim p box resolution pieceBy) (some-held p n knots x no X))
+        ap (planShrink ar dim p box resolution pieceBy)
+        (H ∙ ap (λ (e : Float). clip ar dim (pointsOf (suc dim) n points) (scalarsOf n (x .at)) (domain (getD knots p nan) e) 0 box) ends)
+        ∙ sym (ap (planClip ar dim p box resolution pieceBy) (some-held ar p n knots x no X))
 
-    pub clip-skip : h ≡ Missing → Skip ≡ planClip geop dim p box resolution pieceBy (greville geop p n knots)
+    pub clip-skip : h ≡ Missing → Skip ≡ planClip ar dim p box resolution pieceBy (greville ar p n knots)
     unfolding planShrink
-    clip-skip e = ap (planShrink geop dim p box resolution pieceBy) (sym e) ∙ opened
+    clip-skip e = ap (planShrink ar dim p box resolution pieceBy) (sym e) ∙ opened
 
-    pub clip-go : (hat : Scalar) (r : Plan) → h ≡ Over hat → r ≡ planHat geop dim box resolution (getD knots p nan) (getD knots n nan) (pointsOf (suc dim) n points) hat
-        → r ≡ planClip geop dim p box resolution pieceBy (greville geop p n knots)
+    pub clip-go : (hat : Scalar) (r : Plan) → h ≡ Over hat → r ≡ planHat ar dim box resolution (getD knots p nan) (getD knots n nan) (pointsOf (suc dim) n points) hat
+        → r ≡ planClip ar dim p box resolution pieceBy (greville ar p n knots)
     unfolding planShrink
-    clip-go hat r e R = R ∙ ap (λ (b : Float). planHat geop dim box resolution (getD knots p nan) b (pointsOf (suc dim) n points) hat) ends ∙ ap (planShrink geop dim p box resolution pieceBy) (sym e) ∙ opened
+    clip-go hat r e R = R ∙ ap (λ (b : Float). planHat ar dim box resolution (getD knots p nan) b (pointsOf (suc dim) n points) hat) ends ∙ ap (planShrink ar dim p box resolution pieceBy) (sym e) ∙ opened
 
   -- ---- the whole
 
-  pub plan-skip : (t : Bool) → t ≡ couldOverlap (aabb geop dim (pointsOf (suc dim) n points)) box → t ≡ false → Skip ≡ planned geop dim p box resolution pieceBy
+  pub plan-skip : (t : Bool) → t ≡ couldOverlap (aabb ar dim (pointsOf (suc dim) n points)) box → t ≡ false → Skip ≡ planned ar dim p box resolution pieceBy
   unfolding planned
   plan-skip t T e = pick-no _ _ _ (sym T ∙ e)
 
-  pub plan-go : (t : Bool) (r : Plan) → t ≡ couldOverlap (aabb geop dim (pointsOf (suc dim) n points)) box → t ≡ true → r ≡ planClip geop dim p box resolution pieceBy (greville geop p n knots)
-      → r ≡ planned geop dim p box resolution pieceBy
+  pub plan-go : (t : Bool) (r : Plan) → t ≡ couldOverlap (aabb ar dim (pointsOf (suc dim) n points)) box → t ≡ true → r ≡ planClip ar dim p box resolution pieceBy (greville ar p n knots)
+      → r ≡ planned ar dim p box resolution pieceBy
   unfolding planned
   plan-go t r T e R =
-      R ∙ ap (λ (m : ℕ). planClip geop dim p box resolution pieceBy (greville geop p m knots)) (sym (length-points (suc dim) n points)) ∙ pick-yes _ _ _ (sym T ∙ e)
+      R ∙ ap (λ (m : ℕ). planClip ar dim p box resolution pieceBy (greville ar p m knots)) (sym (length-points (suc dim) n points)) ∙ pick-yes _ _ _ (sym T ∙ e)

@@ -1,16 +1,14 @@
 -- A visit of the piece in a slot: its knots and points, as the code takes them out of the memory, are the piece. Leans on the laws of slots.
-use mathlib.Core.Path.{_≡_, refl, sym, ap, _∙_}
+use mathlib.Core.Path.{_≡_, sym, ap, _∙_}
 use mathlib.Core.List.{List, [], _++_, append-nil}
 use Prim.Native.Nat.{ℕ, suc, _+_, _*_, _≤_, _<_}
 use native.Mathlib.Nat.{mul-assoc}
 use native.Mathlib.Omega.{arith}
 use lib.ListN.{length}
 use lib.Ieee.{Float}
-use Rattle.math.specs.declared.scalars.Scalar.{Scalar}
-use Rattle.math.specs.Scalars.{geop}
 use Rattle.model.specs.NurbCurve.{Piece}
 use Rattle.model.specs.Layout.{pointsOf}
-use Rattle.geometry.specs.Slots.{countAt, numbers, pieceAt, Sized, Held, Whole}
+use Rattle.geometry.specs.Slots.{countAt, numbers, pieceAt, Held, Whole}
 use Rattle.geometry.specs.declared.slots.Shape.{Shape}
 use Rattle.geometry.proofs.Lists.Numbers.{length-numbers, points-numbers}
 use Rattle.geometry.proofs.slots.Piece.{count-points, fits-piece}

@@ -1,5 +1,4 @@
 -- `curve_could_contain` keeps its promises: a refused call gives its number and writes nothing; any other is searched.
-use native.Mathlib.Omega.{arith}
 use mathlib.Core.Path.{sym, _∙_}
 use lib.ListN.{length}
 use Rattle.model.specs.Call.{Call, lent}

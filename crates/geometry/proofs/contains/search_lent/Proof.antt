@@ -4,6 +4,8 @@ use native.Mathlib.Omega.{arith}
 use lib.ListN.{length}
 use lib.Ieee.{ofBits}
 use borrow.Author.Tests.{not-true, not-false}
+use Rattle.math.specs.Scalars.{geop}
+use Rattle.math.proofs.Laws.{geop-encloses}
 use Rattle.model.specs.Call.{Call, lent}
 use Rattle.model.proofs.Sound.Accepted.{Sizes, sizes}
 use Rattle.geometry.proofs.contains.Lent.{words-in, first-slot, door-asks, box-long, area-left, missed, loaded-room, begins, placed-behind, answers}
@@ -60,7 +62,7 @@ returns c =
     let at-door = misses .before in
     let k = from-door at-door in
     let area = k .args .work .now in record {
-      result = missed (asked k) (k .pre .0) area refl _ (at-door .curve-could-meet-aabb .ensures) (not-true _ (misses .if1 .taken));
+      result = missed (asked k) (k .pre .0) area refl geop _ (at-door .curve-could-meet-aabb .ensures) (not-true _ (misses .if1 .taken));
       memory = area-left (asked k) (k .pre .0) area refl _ (at-door .before .stated-words .ensures) area _ refl (filled .fill .ensures);
     }
 
@@ -85,7 +87,7 @@ search-ring-requires c κs =
     let deep = c .before .before .before in
     let at-load = loaded (deep .before) in
     let k = from-door (door at-load .before) in
-    (begins (asked k) (k .pre .0) (k .args .work .now) refl (k .pre .1) _ (at-load .load .ensures) _ (deep .before .slot-words .ensures) _ (deep .set-depth .ensures), box-long (asked k) (k .pre .0) (k .args .work .now) refl)
+    (begins (asked k) (k .pre .0) (k .args .work .now) refl (k .pre .1) _ (at-load .load .ensures) _ (deep .before .slot-words .ensures) _ (deep .set-depth .ensures) geop geop-encloses, box-long (asked k) (k .pre .0) (k .args .work .now) refl)
 
 fill-requires-2 : tie.Need-fill-requires-2
 fill-requires-2 c κs =
@@ -111,7 +113,7 @@ returns-2 c =
     let k = from-door at-door in
     let area = k .args .work .now in
     let r = at-ring .search-ring .ensures in record {
-      result = answers (asked k) (k .pre .0) area refl (k .pre .1) _ (at-load .load .ensures) _ (deep .before .slot-words .ensures) _ (deep .set-depth .ensures) _ _ (at-door .curve-could-meet-aabb .ensures) (not-false _ (passes .if1 .left)) (r .found);
+      result = answers (asked k) (k .pre .0) area refl (k .pre .1) _ (at-load .load .ensures) _ (deep .before .slot-words .ensures) _ (deep .set-depth .ensures) geop _ _ (at-door .curve-could-meet-aabb .ensures) (not-false _ (passes .if1 .left)) (r .found);
       memory = area-left (asked k) (k .pre .0) area refl _ (at-door .before .stated-words .ensures) _ _ (r .rest ∙ placed-behind (asked k) (k .pre .0) area refl (k .pre .1) _ (at-load .load .ensures) _ (deep .before .slot-words .ensures) _ (deep .set-depth .ensures)) (filled .fill2 .ensures);
     }
 

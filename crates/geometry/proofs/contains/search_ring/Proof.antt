@@ -44,12 +44,12 @@ waits c = omega (arith, c .before .before .before .if1 .taken)
 more : (c : tie.Else2 Inv-loop μ-loop) → loop-of c .loop .q .counts .visited < from-loop (loop-of c) .args .nodes
 more c = omega (arith, c .if2 .left, loop-of c .loop .inv .within)
 
-asks : (c : tie.Else2 Inv-loop μ-loop) → Ready (from-loop (loop-of c) .args .nodes) (from-loop (loop-of c) .args .s) (loop-of c .loop .work) (loop-of c .loop .q)
+asks : (c : tie.Else2 Inv-loop μ-loop) → Ready geop (from-loop (loop-of c) .args .nodes) (from-loop (loop-of c) .args .s) (loop-of c .loop .work) (loop-of c .loop .q)
 asks c =
     let k = from-loop (loop-of c) in
     let g = k .args in
     let l = loop-of c .loop in
-    ready (g .s) (g .point-box .now) (g .resolution) (g .nodes) (g .work .now) (k .pre .0) (l .work) (l .q) (l .inv) (waits c) (more c)
+    ready geop (g .s) (g .point-box .now) (g .resolution) (g .nodes) (g .work .now) (k .pre .0) (l .work) (l .q) (l .inv) (waits c) (more c)
 
 -- it has been visited
 abbrev left-of : tie.After-visit-next Inv-loop μ-loop → tie.Else2 Inv-loop μ-loop
@@ -70,7 +70,7 @@ gives c =
     let k = from-loop (loop-of left) in
     let g = k .args in
     let l = loop-of left .loop in
-    comes (g .s) (g .point-box .now) (g .resolution) (g .nodes) (g .work .now) (k .pre .0) (l .work) (l .q) (l .inv) (waits left) (more left)
+    comes geop (g .s) (g .point-box .now) (g .resolution) (g .nodes) (g .work .now) (k .pre .0) (l .work) (l .q) (l .inv) (waits left) (more left)
     _ _ _ _ (v .visit-next .kept .0) (v .before .before .next-depth .ensures) (v .visit-next .ensures) (c .after-visit .ensures)
 
 -- ---- before the loop
@@ -123,7 +123,7 @@ after-visit-requires c κs =
     let a = asks left in
     let i = loop-of left .loop .inv in (
       (i .ring .start, waits left, omega (arith, a .room), omega (arith, k .pre .0 .few)),
-      (omega (arith, i .within, k .pre .0 .few), omega (arith, a .cuts), cuts-few _ (k .args .s) _ _ _ _ _ _ _ (v .visit-next .ensures)),
+      (omega (arith, i .within, k .pre .0 .few), omega (arith, a .cuts), cuts-few geop _ (k .args .s) _ _ _ _ _ _ _ (v .visit-next .ensures)),
     )
 
 has-bad-weight-requires : tie.Need-has-bad-weight-requires Inv-loop μ-loop

@@ -79,7 +79,7 @@ visit-requires c κs =
     let k = from-last at-b in
     let a = k .args in
     turn-asks (a .s) (a .work .now) (a .slots) (a .q .head) (a .q .pending) (a .w) (k .pre .0 .0) (k .pre .0 .1) (k .pre .0 .2) (k .pre .1 .0 .1) _ _ _
-    (head-slot c) (first-slot at-b) (second-slot at-b) _ (k .pre .1 .1 .0) (k .pre .1 .1 .1)
+    (head-slot c) (first-slot at-b) (second-slot at-b) geop _ (k .pre .1 .1 .0) (k .pre .1 .1 .1)
 
 -- ---- what it hands on gets its depth
 

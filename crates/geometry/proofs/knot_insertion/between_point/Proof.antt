@@ -1,4 +1,5 @@
 -- `between_point` equals its definition: the point between two neighbouring points, in the place of the upper one.
+use Rattle.math.specs.Scalars.{geop}
 use Rattle.geometry.proofs.vector.Between.{clear-of}
 use Rattle.geometry.proofs.knot_insertion.Triangle.{between-fits, between-done}
 use borrow.Author.Needs.{needs}
@@ -32,7 +33,7 @@ returns : tie.Need-returns
 returns c =
     let k = c .before .before .before .before .before .before .before .before in
     let g = k .args in
-    between-done (g .s) (g .work .now) (g .base) (g .j) (g .alpha) (k .pre .0) (k .pre .1) _ _ (c .before .before .before .before .before .before .place-of .ensures) (c .before .before .before .before .before .place-of2 .ensures) _ (c .before .before .interpolate .ensures)
+    between-done (g .s) (g .work .now) (g .base) (g .j) (g .alpha) (k .pre .0) (k .pre .1) _ _ (c .before .before .before .before .before .before .place-of .ensures) (c .before .before .before .before .before .place-of2 .ensures) geop _ (c .before .before .interpolate .ensures)
 
 pub between-point-spec : {M : Type 1} → statement M
 between-point-spec =

@@ -2,6 +2,7 @@
 use mathlib.Core.Path.{sym, _∙_}
 use mathlib.Core.Logic.{inl, inr}
 use lib.Ieee.{ofBits}
+use Rattle.math.specs.Scalars.{geop}
 use Rattle.geometry.proofs.knot_insertion.Insert.{blend-zero, blend-one, blend-mid}
 use borrow.Author.Needs.{needs}
 use native.Mathlib.Omega.{arith}
@@ -33,7 +34,7 @@ returns c =
     let at-is-same = taken1 .before in
     let k = from-is-same at-is-same in
     let g = k .args in
-    at-copy .copy .ensures ∙ blend-zero (g .work .now) (g .a) (g .b) (g .d) (g .alpha) (sym (at-is-same .is-same .ensures) ∙ taken1 .if1 .taken) (omega arith)
+    at-copy .copy .ensures ∙ blend-zero geop (g .work .now) (g .a) (g .b) (g .d) (g .alpha) (sym (at-is-same .is-same .ensures) ∙ taken1 .if1 .taken) (omega arith)
 
 is-same-requires-2 : tie.Need-is-same-requires-2
 is-same-requires-2 c κs = search needs
@@ -46,7 +47,7 @@ returns-2 c =
     let at-is-same = passed1 .before in
     let k = from-is-same at-is-same in
     let g = k .args in
-    blend-one (g .work .now) (g .a) (g .b) (g .d) (g .alpha) (sym (at-is-same .is-same .ensures) ∙ passed1 .if1 .left) (sym (at-is-same2 .is-same2 .ensures) ∙ c .if2 .taken) (omega arith)
+    blend-one geop (g .work .now) (g .a) (g .b) (g .d) (g .alpha) (sym (at-is-same .is-same .ensures) ∙ passed1 .if1 .left) (sym (at-is-same2 .is-same2 .ensures) ∙ c .if2 .taken) (omega arith)
 
 interpolate-requires : tie.Need-interpolate-requires
 interpolate-requires c κs = ((omega arith, omega arith, omega arith), (inl (omega arith), inr (omega arith)))
@@ -64,7 +65,7 @@ returns-3 c =
     let at-is-same = passed1 .before in
     let k = from-is-same at-is-same in
     let g = k .args in
-    at-interpolate .interpolate .ensures ∙ blend-mid (g .work .now) (g .a) (g .b) (g .d) (g .alpha) (sym (at-is-same .is-same .ensures) ∙ passed1 .if1 .left) (sym (at-is-same2 .is-same2 .ensures) ∙ passed2 .if2 .left)
+    at-interpolate .interpolate .ensures ∙ blend-mid geop (g .work .now) (g .a) (g .b) (g .d) (g .alpha) (sym (at-is-same .is-same .ensures) ∙ passed1 .if1 .left) (sym (at-is-same2 .is-same2 .ensures) ∙ passed2 .if2 .left)
 
 pub blend-into-spec : {M : Type 1} → statement M
 blend-into-spec =

@@ -36,8 +36,8 @@ cut-from-requires c κs =
     let at-copy-right = c .before .before .before in
     let k = from-copy-right at-copy-right in
     let g = k .args in (
-      copied (g .s) (g .work .now) (g .src) (g .to) (g .lo) (g .hi) (k .pre .0) (k .pre .1 .whole) (k .pre .2) (once k) _ (at-copy-right .copy-right .ensures) .held,
-      copied-whole (g .s) (g .work .now) (g .src) (g .to) (g .lo) (g .hi) (k .pre .0) (k .pre .1 .whole) (k .pre .2) (once k) _ (at-copy-right .copy-right .ensures),
+      copied geop (g .s) (g .work .now) (g .src) (g .to) (g .lo) (g .hi) (k .pre .0) (k .pre .1 .whole) (k .pre .2) (once k) _ (at-copy-right .copy-right .ensures) .held,
+      copied-whole geop (g .s) (g .work .now) (g .src) (g .to) (g .lo) (g .hi) (k .pre .0) (k .pre .1 .whole) (k .pre .2) (once k) _ (at-copy-right .copy-right .ensures),
     )
 
 cut-up-to-requires : tie.Need-cut-up-to-requires
@@ -46,8 +46,8 @@ cut-up-to-requires c κs =
     let at-copy-right = to-copy-right at-cut-from in
     let k = from-copy-right at-copy-right in
     let g = k .args in (
-      cut-down (g .s) (g .work .now) (g .src) (g .to) (g .lo) (g .hi) (k .pre .0) (k .pre .1 .whole) (k .pre .2) (once k) _ (at-copy-right .copy-right .ensures) _ _ (at-cut-from .cut-from .ensures) .held,
-      cut-down-whole (g .s) (g .work .now) (g .src) (g .to) (g .lo) (g .hi) (k .pre .0) (k .pre .1 .whole) (k .pre .2) (once k) _ (at-copy-right .copy-right .ensures) _ _ (at-cut-from .cut-from .ensures),
+      cut-down geop (g .s) (g .work .now) (g .src) (g .to) (g .lo) (g .hi) (k .pre .0) (k .pre .1 .whole) (k .pre .2) (once k) _ (at-copy-right .copy-right .ensures) _ _ (at-cut-from .cut-from .ensures) .held,
+      cut-down-whole geop (g .s) (g .work .now) (g .src) (g .to) (g .lo) (g .hi) (k .pre .0) (k .pre .1 .whole) (k .pre .2) (once k) _ (at-copy-right .copy-right .ensures) _ _ (at-cut-from .cut-from .ensures),
     )
 
 add-result : tie.Need-add-result
@@ -70,7 +70,7 @@ returns c =
     let at-copy-right = to-copy-right at-cut-from in
     let k = from-copy-right at-copy-right in
     let g = k .args in
-    restricted (g .s) (g .work .now) (g .src) (g .to) (g .lo) (g .hi) (k .pre .0) (k .pre .1 .whole) (k .pre .2) (once k) _ (at-copy-right .copy-right .ensures) _ _ (at-cut-from .cut-from .ensures) _ _ (at-cut-up-to .cut-up-to .ensures)
+    restricted geop (g .s) (g .work .now) (g .src) (g .to) (g .lo) (g .hi) (k .pre .0) (k .pre .1 .whole) (k .pre .2) (once k) _ (at-copy-right .copy-right .ensures) _ _ (at-cut-from .cut-from .ensures) _ _ (at-cut-up-to .cut-up-to .ensures)
 
 pub restrict-spec : {M : Type 1} → statement M
 restrict-spec =

@@ -2,6 +2,7 @@
 use mathlib.Core.Path.{_≡_, refl, sym, _∙_}
 use Prim.Native.Nat.{_-_, _≤_}
 use lib.ListN.{length}
+use Rattle.math.specs.Scalars.{geop}
 use Rattle.lists.proofs.Put.{put-nil}
 use Rattle.math.proofs.Laws.{fraction-own, between-own}
 use Rattle.model.specs.Layout.{flat}
@@ -12,7 +13,7 @@ use Rattle.geometry.proofs.vector.interpolate.Statement.{statement}
 use Rattle.geometry.proofs.vector.interpolate.Tie as tie
 
 abbrev Inv-loop : tie.InvT-loop
-Inv-loop words₀ a b c d f k₀ words k = (k ≤ d) × ((length words ≡ length words₀) × (words ≡ after words₀ a b c d (f .alpha) k))
+Inv-loop words₀ a b c d f k₀ words k = (k ≤ d) × ((length words ≡ length words₀) × (words ≡ after geop words₀ a b c d (f .alpha) k))
 
 abbrev μ-loop : tie.MeasureT-loop
 μ-loop words₀ a b c d f k₀ words k = d - k
@@ -73,7 +74,7 @@ loop-again c =
     let l = at-loop .loop in
     let g = k .args in
     let t = in-loop .loop-test .taken in
-    (omega (arith, t), (at-set-scalar .set-scalar .kept .0 ∙ l .inv .1 .0, turn (g .words .now) (g .a) (g .b) (g .c) (g .d) (at-fraction .fraction .result .alpha) (k .pre .1 .0) (k .pre .1 .1) (k .pre .0 .2) (l .k) _ _ _ _ _ (omega (arith, t)) (l .inv .1 .1) (at-scalar-from .scalar-from .ensures) (at-scalar-from2 .scalar-from2 .ensures) (at-between .between .ensures ∙ between-own _ _ _ _ (at-fraction .fraction .ensures)) (at-set-scalar .set-scalar .ensures)))
+    (omega (arith, t), (at-set-scalar .set-scalar .kept .0 ∙ l .inv .1 .0, turn geop (g .words .now) (g .a) (g .b) (g .c) (g .d) (at-fraction .fraction .result .alpha) (k .pre .1 .0) (k .pre .1 .1) (k .pre .0 .2) (l .k) _ _ _ _ _ (omega (arith, t)) (l .inv .1 .1) (at-scalar-from .scalar-from .ensures) (at-scalar-from2 .scalar-from2 .ensures) (at-between .between .ensures ∙ between-own _ _ _ _ (at-fraction .fraction .ensures)) (at-set-scalar .set-scalar .ensures)))
 
 same-length : tie.Need-same-length Inv-loop μ-loop
 same-length c = c .before .loop .inv .1 .0
@@ -84,8 +85,8 @@ returns c =
     let u = c .before .before in
     let g = u .before .before .args in
     let e : l .k ≡ g .d = omega arith in
-    let at = after (g .words .now) (g .a) (g .b) (g .c) (g .d) in
-    l .inv .1 .1 ∙ (λ i. at (fraction-own _ _ (u .fraction .ensures) i) (e i)) ∙ done (g .words .now) (g .a) (g .b) (g .c) (g .d) (g .alpha)
+    let at = after geop (g .words .now) (g .a) (g .b) (g .c) (g .d) in
+    l .inv .1 .1 ∙ (λ i. at (fraction-own _ _ (u .fraction .ensures) i) (e i)) ∙ done geop (g .words .now) (g .a) (g .b) (g .c) (g .d) (g .alpha)
 
 pub interpolate-spec : {M : Type 1} → statement M
 interpolate-spec =

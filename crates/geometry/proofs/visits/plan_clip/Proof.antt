@@ -48,7 +48,7 @@ returns c =
     let at-greville-abscissae = at-enum-told2 .before .before in
     let k = from-greville-abscissae at-greville-abscissae in
     let a = k .args in
-    clip-report (a .dim) (a .degree) (a .count) (scalarsOf (a .dim) (a .point-box .now)) (a .resolution) (a .knots .now) (a .points .now) _ (none-degree geop (a .degree) (a .count) (a .knots .now) (at-greville-abscissae .greville-abscissae .result) (at-greville-abscissae .greville-abscissae .ensures) (at-enum-told2 .enum-told2 .given .1)) (c .domain .ensures)
+    clip-report geop (a .dim) (a .degree) (a .count) (scalarsOf (a .dim) (a .point-box .now)) (a .resolution) (a .knots .now) (a .points .now) _ (none-degree geop (a .degree) (a .count) (a .knots .now) (at-greville-abscissae .greville-abscissae .result) (at-greville-abscissae .greville-abscissae .ensures) (at-enum-told2 .enum-told2 .given .1)) (c .domain .ensures)
 
 slice-aggregate-clip : tie.Need-slice-aggregate-clip
 slice-aggregate-clip c = search needs
@@ -74,7 +74,7 @@ returns-2 c =
     let at-greville-abscissae = at-enum-told .before .before in
     let k = from-greville-abscissae at-greville-abscissae in
     let a = k .args in
-    clip-skip (a .dim) (a .degree) (a .count) (scalarsOf (a .dim) (a .point-box .now)) (a .resolution) (a .knots .now) (a .points .now) (at-greville-abscissae .greville-abscissae .result) (at-clip .clip .result) (some-degree geop (a .degree) (a .count) (a .knots .now) (at-greville-abscissae .greville-abscissae .result) (at-greville-abscissae .greville-abscissae .ensures) (at-enum-told .enum-told .given .1)) (at-greville-abscissae .greville-abscissae .ensures) (at-clip .clip .ensures) (c .enum-told3 .given .1)
+    clip-skip geop (a .dim) (a .degree) (a .count) (scalarsOf (a .dim) (a .point-box .now)) (a .resolution) (a .knots .now) (a .points .now) (at-greville-abscissae .greville-abscissae .result) (at-clip .clip .result) (some-degree geop (a .degree) (a .count) (a .knots .now) (at-greville-abscissae .greville-abscissae .result) (at-greville-abscissae .greville-abscissae .ensures) (at-enum-told .enum-told .given .1)) (at-greville-abscissae .greville-abscissae .ensures) (at-clip .clip .ensures) (c .enum-told3 .given .1)
 
 plan-hat-requires : tie.Need-plan-hat-requires
 plan-hat-requires c κs = search needs
@@ -87,7 +87,7 @@ returns-3 c =
     let at-greville-abscissae = at-enum-told .before .before in
     let k = from-greville-abscissae at-greville-abscissae in
     let a = k .args in
-    clip-go (a .dim) (a .degree) (a .count) (scalarsOf (a .dim) (a .point-box .now)) (a .resolution) (a .knots .now) (a .points .now) (at-greville-abscissae .greville-abscissae .result) (at-clip .clip .result) (some-degree geop (a .degree) (a .count) (a .knots .now) (at-greville-abscissae .greville-abscissae .result) (at-greville-abscissae .greville-abscissae .ensures) (at-enum-told .enum-told .given .1)) (at-greville-abscissae .greville-abscissae .ensures) (at-clip .clip .ensures) _ _ (at-hat .hat .given .1) (c .plan-hat .ensures)
+    clip-go geop (a .dim) (a .degree) (a .count) (scalarsOf (a .dim) (a .point-box .now)) (a .resolution) (a .knots .now) (a .points .now) (at-greville-abscissae .greville-abscissae .result) (at-clip .clip .result) (some-degree geop (a .degree) (a .count) (a .knots .now) (at-greville-abscissae .greville-abscissae .result) (at-greville-abscissae .greville-abscissae .ensures) (at-enum-told .enum-told .given .1)) (at-greville-abscissae .greville-abscissae .ensures) (at-clip .clip .ensures) _ _ (at-hat .hat .given .1) (c .plan-hat .ensures)
 
 pub plan-clip-spec : {M : Type 1} → statement M
 plan-clip-spec =
