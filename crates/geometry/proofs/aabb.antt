@@ -1,3 +1,3 @@
 -- Laws behind the functions of src/aabb.rt; the folders beside them have the functions' proofs.
+pub mod Unions
 pub mod Box
-pub mod Widening

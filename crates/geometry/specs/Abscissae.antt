@@ -1,13 +1,18 @@
--- How the code holds the abscissae: in an array beside an enum. Definitions only.
+-- The sum behind an abscissa, and how the code holds the abscissae: in an array beside an enum. Definitions only.
 use mathlib.Core.List.{List}
 use mathlib.Core.Option.{Option, none, some}
 use lib.ListN.{replicate}
-use Rattle.lists.specs.Lists.{put}
+use lib.Ieee.{Float}
+use Rattle.lists.specs.Lists.{put, foldl}
 use Rattle.math.specs.declared.scalars.Scalar.{Scalar}
-use Rattle.math.specs.Scalars.{zeroF}
+use Rattle.math.specs.Scalars.{Arithmetic, zeroF, sharp}
 use Rattle.model.specs.Layout.{flat}
 use Rattle.geometry.specs.declared.fat_line.Abscissae.{Abscissae}
 use Rattle.geometry.specs.declared.fat_line.Greville.the-variants.{Some, None}
+
+-- The sum of some knots, one after the other, from s on.
+abbrev pub summed : Arithmetic → Scalar → List Float → Scalar
+summed ar s knots = foldl (λ s u. ar .add s (sharp u)) s knots
 
 -- How the abscissae stand in an array beside their enum: lo and hi side by side from the front on, and zeros behind them.
 unfoldable pub held : Option (List Scalar) → Abscissae

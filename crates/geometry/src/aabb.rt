@@ -3,10 +3,8 @@ use crate::nurb_curve::coordinate;
 use crate::nurb_curve::repeats;
 use crate::nurb_curve::scalar_at;
 use crate::nurb_curve::value_or_entire;
-use math::floats::greater;
-use math::floats::lesser;
-use math::floats::next_down;
-use math::floats::next_up;
+use math::bounds::Bounds;
+use math::bounds::Divisor;
 use math::scalars::Divided;
 use math::scalars::Scalar;
 use model::fat_line::Hat;
@@ -14,10 +12,9 @@ ghost use mathlib.Core.Path.{_≡_};
 ghost use mathlib.Core.List.{map};
 ghost use Prim.Native.Nat.{suc, _*_, _≤_, _<_};
 ghost use lib.ListN.{length};
-ghost use Rattle.math.specs.Scalars.{geop, ZERO, ONE, unionS, inverseS};
-ghost use Rattle.model.specs.Vector.{coordinate};
+ghost use Rattle.math.specs.Scalars.{geop, ZERO, ONE, unionS};
+ghost use Rattle.math.specs.Bounds.{divisorOf};
 ghost use Rattle.model.specs.Layout.{scalarsOf, pointAt, pointsOf};
-ghost use Rattle.geometry.specs.Aabb.{rawPlace};
 ghost use Rattle.model.specs.Aabb.{unions, place, aabb, couldOverlap, along, meets, couldMeet};
 
 // Coordinate k of point i over its weight.
@@ -30,38 +27,16 @@ fn place(points: &[f64], dim: usize, i: usize, k: usize) -> Scalar
     value_or_entire(x.div(w))
 }
 
-// A weight, beside its reciprocal.
-struct Inverted {
-    weight: Scalar,
-    inverse: Scalar,
-}
-
-// The weight w beside its reciprocal, which is taken over from the last weight where w repeats it.
-fn inverse_of(w: Scalar, last: Inverted) -> Inverted
-    requires { ⌜ last .inverse ≡ inverseS (last .weight) ⌝ }
-    ensures { λ r. ⌜ (r .weight ≡ w) × (r .inverse ≡ inverseS w) ⌝ }
+// The divisor w, which is the last one where w repeats its value.
+fn divisor_of(w: Scalar, last: Divisor) -> Divisor
+    requires { ⌜ last ≡ divisorOf (last .value) ⌝ }
+    ensures { λ r. ⌜ r ≡ divisorOf w ⌝ }
 {
-    let v = last.weight;
+    let v = last.value;
     if repeats(w, v) {
         return last;
     }
-    Inverted {
-        weight: w,
-        inverse: w.inverse(),
-    }
-}
-
-// `place` before it is widened, for the weight w of point i.
-fn raw_place(points: &[f64], dim: usize, i: usize, k: usize, w: Inverted) -> Scalar
-    requires { ⌜ (dim ≤ 3) × (i < 32) × (k < dim) × (2 * (suc dim * suc i) ≤ length (now points)) ⌝ }
-    requires { ⌜ (w .weight ≡ coordinate (pointAt (suc dim) (now points) i) dim) × (w .inverse ≡ inverseS (w .weight)) ⌝ }
-    ensures { λ r. ⌜ r ≡ rawPlace dim k (pointAt (suc dim) (now (points .entry)) i) ⌝ }
-{
-    let v = w.weight;
-    if v.has_zero() {
-        return Scalar::entire();
-    }
-    coordinate(points, dim, i, k).corners(w.inverse)
+    Divisor::of(w)
 }
 
 // The box of a piece along axis k: the union over its points, which is widened once, since neighbours keep the order of numbers.
@@ -69,26 +44,15 @@ fn axis_box(points: &[f64], dim: usize, count: usize, k: usize) -> Scalar
     requires { ⌜ (dim ≤ 3) × (1 ≤ count) × (count ≤ 32) × (k < dim) × (2 * (suc dim * count) ≤ length (now points)) ⌝ }
     ensures { λ r. ⌜ r ≡ unions (map (λ q. place geop dim k q) (pointsOf (suc dim) count (now (points .entry)))) ⌝ }
 {
-    let w = coordinate(points, dim, 0, dim);
-    let mut last = Inverted {
-        weight: w,
-        inverse: w.inverse(),
-    };
-    let first = raw_place(points, dim, 0, k, last);
-    let mut lo = first.lo;
-    let mut hi = first.hi;
+    let mut last = Divisor::of(coordinate(points, dim, 0, dim));
+    let mut all = Bounds::over(coordinate(points, dim, 0, k), last);
     let mut i = 1;
     while i < count {
-        last = inverse_of(coordinate(points, dim, i, dim), last);
-        let p = raw_place(points, dim, i, k, last);
-        lo = lesser(lo, p.lo);
-        hi = greater(hi, p.hi);
+        last = divisor_of(coordinate(points, dim, i, dim), last);
+        all = all.join(Bounds::over(coordinate(points, dim, i, k), last));
         i += 1;
     }
-    Scalar {
-        lo: next_down(lo),
-        hi: next_up(hi),
-    }
+    all.widen()
 }
 
 // The box of a piece and the lent box could meet in every axis.

@@ -4,9 +4,9 @@ use crate::nurb_curve::domain;
 use crate::nurb_curve::in_domain;
 use crate::nurb_curve::scalar_at;
 use crate::nurb_curve::value_or_entire;
+use math::bounds::Bounds;
+use math::bounds::Divisor;
 use math::floats::max;
-use math::floats::min;
-use math::floats::next_down;
 use math::floats::next_up;
 use math::root::sqrt;
 use math::scalars::Divided;
@@ -17,13 +17,14 @@ ghost use mathlib.Core.Bool.{cond, _||_};
 ghost use mathlib.Core.List.{zipWith, map};
 ghost use Prim.Native.Nat.{_+_, _*_, _≤_, _<_, suc};
 ghost use lib.ListN.{length};
-ghost use Rattle.lists.specs.Lists.{foldl, put};
-ghost use Rattle.math.specs.Scalars.{geop, ZERO, ENTIRE, couldBeEqual, unionS, addS, mulS, divS, zeroF, sharp, middle, widthS, fourFifthsS};
+ghost use Rattle.lists.specs.Lists.{put};
+ghost use Rattle.math.specs.Scalars.{geop, ZERO, zeroF, sharp, middle, widthS};
+ghost use Rattle.math.specs.Bounds.{overS};
 ghost use Rattle.model.specs.Layout.{scalarsOf, pointAt, pointsOf, flat};
 ghost use Rattle.model.specs.Aabb.{unions};
 ghost use Rattle.model.specs.FatLine.{window, greville, crossing, fatLineZeros, cartesian, square, distance, extent, toF64, widest, carriedBy, carriedWidth, restricts, halves};
-ghost use Rattle.geometry.specs.Abscissae.{held};
-ghost use Rattle.geometry.specs.Zeros.{fromFirst, offRun};
+ghost use Rattle.geometry.specs.Abscissae.{summed, held};
+ghost use Rattle.geometry.specs.Zeros.{fromFirst, chordAt, offRun, levelZeros, slopedZeros};
 ghost use lib.Dec.{ltb};
 ghost use lib.Ieee.{binary64, add, sub, div, lt};
 ghost use Rattle.math.specs.Picks.{maxF};
@@ -40,9 +41,9 @@ pub(crate) fn window(knots: &[f64], i: usize, degree: usize) -> &[f64]
     &knots[i + 1..i + degree + 1]
 }
 
-// The sum of a window of knots, times the reciprocal of their number: their mean.
-fn abscissa(w: &[f64], reciprocal: Scalar) -> Scalar
-    ensures { λ r. ⌜ r ≡ mulS (foldl (λ s u. addS s (sharp u)) ZERO (now (w .entry))) reciprocal ⌝ }
+// The sum of a window of knots, over their number: their mean.
+fn abscissa(w: &[f64], number: Divisor) -> Scalar
+    ensures { λ r. ⌜ r ≡ overS (summed geop ZERO (now (w .entry))) number ⌝ }
 {
     let mut sum = Scalar::ZERO;
     let mut j = 0;
@@ -50,7 +51,7 @@ fn abscissa(w: &[f64], reciprocal: Scalar) -> Scalar
         sum = sum.add(Scalar::from_f64(w[j]));
         j += 1;
     }
-    sum.times(reciprocal)
+    sum.over(number)
 }
 
 // Whether there are abscissae: degree 0 has none.
@@ -77,10 +78,10 @@ pub(crate) fn greville_abscissae(knots: &[f64], degree: usize, count: usize) -> 
             at,
         };
     }
-    let reciprocal = Scalar::from_f64(degree as f64).inverse();
+    let number = Divisor::of(Scalar::from_f64(degree as f64));
     let mut i = 0;
     while i < count {
-        let x = abscissa(window(knots, i, degree), reciprocal);
+        let x = abscissa(window(knots, i, degree), number);
         at[2 * i] = x.lo;
         at[2 * i + 1] = x.hi;
         i += 1;
@@ -108,7 +109,8 @@ pub(crate) fn unions(l: &[f64], count: usize) -> Scalar
 // How far each abscissa lies from the first, written to the front of dx.
 pub(crate) fn from_first(xi: &[f64], count: usize, dx: &mut [f64])
     requires { ⌜ (0 < count) × ((2 * count ≤ length (now xi)) × (2 * count ≤ length (now dx))) ⌝ }
-    ensures { λ _. ⌜ now (dx .exit) ≡ put (now (dx .entry)) 0 (flat (fromFirst (scalarsOf count (now (xi .entry))))) ⌝ }
+    ensures { λ _.
+        ⌜ now (dx .exit) ≡ put (now (dx .entry)) 0 (flat (fromFirst geop (scalarsOf count (now (xi .entry))))) ⌝ }
 {
     let x0 = scalar_at(xi, 0);
     let mut i = 0;
@@ -122,39 +124,30 @@ pub(crate) fn from_first(xi: &[f64], count: usize, dx: &mut [f64])
 
 // The chord from a point of value y0, at a run of x from there.
 pub(crate) fn chord(slope: Scalar, y0: Scalar, x: Scalar) -> Scalar
-    ensures { λ r. ⌜ r ≡ addS y0 (mulS slope x) ⌝ }
+    ensures { λ r. ⌜ r ≡ chordAt geop slope y0 x ⌝ }
 {
     y0.add(slope.times(x))
 }
 
-// The union of the offsets of all points, the first too, where one step outward at the end serves all, since the neighbours of doubles keep their order.
+// The union of the offsets of all points, the first too, which is widened once, since the neighbours of doubles keep their order.
 pub(crate) fn band(dx: &[f64], d: &[f64], count: usize, slope: Scalar, y0: Scalar) -> Scalar
     requires { ⌜ (0 < count) × ((2 * count ≤ length (now dx)) × (2 * count ≤ length (now d))) ⌝ }
     ensures { λ r.
-        ⌜ r ≡ unions
-        (zipWith (λ x y. offRun slope y0 x y) (scalarsOf count (now (dx .entry))) (scalarsOf count (now (d .entry)))) ⌝ }
+        let runs = scalarsOf count (now (dx .entry)) in
+        ⌜ r ≡ unions (zipWith (λ x y. offRun geop slope y0 x y) runs (scalarsOf count (now (d .entry)))) ⌝ }
 {
-    let c = chord(slope, y0, scalar_at(dx, 0));
-    let y = scalar_at(d, 0);
-    let mut lo = y.lo - c.hi;
-    let mut hi = y.hi - c.lo;
+    let mut all = Bounds::difference(scalar_at(d, 0), chord(slope, y0, scalar_at(dx, 0)));
     let mut i = 1;
     while i < count {
-        let c = chord(slope, y0, scalar_at(dx, i));
-        let y = scalar_at(d, i);
-        lo = min(lo, y.lo - c.hi);
-        hi = max(hi, y.hi - c.lo);
+        all = all.join(Bounds::difference(scalar_at(d, i), chord(slope, y0, scalar_at(dx, i))));
         i += 1;
     }
-    Scalar {
-        lo: next_down(lo),
-        hi: next_up(hi),
-    }
+    all.widen()
 }
 
 // The zeros where the chord has no slope, of values in this range: anywhere, if some value could be zero.
 pub(crate) fn level_zeros(range: Scalar) -> Hat
-    ensures { λ r. ⌜ r ≡ cond (couldBeEqual range ZERO) (Hat.Over ENTIRE) Hat.Missing ⌝ }
+    ensures { λ r. ⌜ r ≡ levelZeros range ⌝ }
 {
     if range.could_be_equal(Scalar::ZERO) {
         return Hat::Over(Scalar::entire());
@@ -174,9 +167,7 @@ pub(crate) fn crossing(x0: Scalar, q: Divided) -> Hat
 
 // The zeros where the chord has a slope: nowhere, if the band misses zero from the first point to the last.
 pub(crate) fn sloped_zeros(slope: Scalar, x0: Scalar, y0: Scalar, last: Scalar, band: Scalar) -> Hat
-    ensures { λ r.
-        ⌜ r ≡ cond (couldBeEqual (addS (unionS y0 last) band) ZERO) (crossing geop x0 (divS (addS y0 band) slope))
-        Hat.Missing ⌝ }
+    ensures { λ r. ⌜ r ≡ slopedZeros geop slope x0 y0 last band ⌝ }
 {
     if y0.union(last).add(band).could_be_equal(Scalar::ZERO) {
         return crossing(x0, y0.add(band).div(slope));
@@ -188,7 +179,7 @@ pub(crate) fn sloped_zeros(slope: Scalar, x0: Scalar, y0: Scalar, last: Scalar, 
 pub(crate) fn fat_line_zeros(xi: &[f64], dx: &[f64], d: &[f64], count: usize) -> Hat
     requires { ⌜ (0 < count)
         × ((2 * count ≤ length (now xi)) × ((2 * count ≤ length (now dx)) × (2 * count ≤ length (now d)))) ⌝ }
-    requires { ⌜ scalarsOf count (now dx) ≡ fromFirst (scalarsOf count (now xi)) ⌝ }
+    requires { ⌜ scalarsOf count (now dx) ≡ fromFirst geop (scalarsOf count (now xi)) ⌝ }
     ensures { λ r. ⌜ r ≡ fatLineZeros geop (scalarsOf count (now (xi .entry))) (scalarsOf count (now (d .entry))) ⌝ }
 {
     let x0 = scalar_at(xi, 0);
@@ -391,14 +382,14 @@ pub(crate) fn carried(points: &[f64], point_box: &[f64], dim: usize, count: usiz
 
 // Four fifths, as an interval.
 fn four_fifths() -> Scalar
-    ensures { λ r. ⌜ r ≡ fourFifthsS ⌝ }
+    ensures { λ r. ⌜ r ≡ geop .fourFifths ⌝ }
 {
     value_or_entire(Scalar::from_ratio(4, 5))
 }
 
 // The hat is definitely below four fifths of the domain.
 fn narrow(a: f64, b: f64, hat: Scalar) -> bool
-    ensures { λ r. ⌜ r ≡ lt (widthS hat) (mulS (sharp (widthS (domain a b))) fourFifthsS .lo) ⌝ }
+    ensures { λ r. ⌜ r ≡ lt (widthS hat) (geop .mul (sharp (widthS (domain a b))) (geop .fourFifths) .lo) ⌝ }
 {
     let most = domain(a, b).width().mul(four_fifths());
     hat.width().lo < most.lo

@@ -108,7 +108,7 @@ fn clip_axis(
 ) -> Hat
     requires { ⌜ ((0 < count) × (2 * count ≤ length (now xi)))
         × ((k < dim) × ((2 * (suc dim * count) ≤ length (now points)) × (2 * count ≤ length (now d)))) ⌝ }
-    requires { ⌜ (2 * count ≤ length (now dx)) × (scalarsOf count (now dx) ≡ fromFirst (scalarsOf count (now xi))) ⌝ }
+    requires { ⌜ (2 * count ≤ length (now dx)) × (scalarsOf count (now dx) ≡ fromFirst geop (scalarsOf count (now xi))) ⌝ }
     ensures { λ r.
         ⌜ r ≡ narrowed hat
         (fatLineZeros geop (scalarsOf count (now (xi .entry)))

@@ -6,7 +6,7 @@ use math::scalars::Divided;
 use math::scalars::Scalar;
 use model::fat_line::Hat;
 ghost use mathlib.Core.Path.{_≡_};
-ghost use Rattle.math.specs.Scalars.{ENTIRE};
+ghost use Rattle.math.specs.Scalars.{geop, ENTIRE};
 ghost use Rattle.geometry.specs.Zeros.{paired, ZerosFound, offBy, begun, taken, zerosOf};
 
 // The chord of a control polygon, and its band: the union of what the points taken in so far lie off it, or of their values where there is no chord.
@@ -34,7 +34,7 @@ fn anywhere() -> Hat
 
 // How far a point lies off the chord through (x0, y0), or its value where there is no chord.
 fn off(slope: Divided, x0: Scalar, y0: Scalar, x: Scalar, y: Scalar) -> Scalar
-    ensures { λ r. ⌜ r ≡ offBy slope x0 y0 x y ⌝ }
+    ensures { λ r. ⌜ r ≡ offBy geop slope x0 y0 x y ⌝ }
 {
     let Divided::Value(s) = slope else {
         return y;
@@ -44,7 +44,7 @@ fn off(slope: Divided, x0: Scalar, y0: Scalar, x: Scalar, y: Scalar) -> Scalar
 
 // The line from (x0, y0) to (x, y), with the first point taken in.
 fn begin(x0: Scalar, y0: Scalar, x: Scalar, y: Scalar) -> Line
-    ensures { λ r. ⌜ r ≡ begun x0 y0 x y ⌝ }
+    ensures { λ r. ⌜ r ≡ begun geop x0 y0 x y ⌝ }
 {
     let slope = y.sub(y0).div(x.sub(x0));
     let band = off(slope, x0, y0, x0, y0);
@@ -59,7 +59,7 @@ fn begin(x0: Scalar, y0: Scalar, x: Scalar, y: Scalar) -> Line
 
 // The line with one more point taken in.
 fn take(l: Line, x: Scalar, y: Scalar) -> Line
-    ensures { λ r. ⌜ r ≡ taken l x y ⌝ }
+    ensures { λ r. ⌜ r ≡ taken geop l x y ⌝ }
 {
     let x0 = l.x0;
     let y0 = l.y0;
@@ -77,7 +77,7 @@ fn take(l: Line, x: Scalar, y: Scalar) -> Line
 
 // The zeros, once each point is taken in.
 fn end(l: Line) -> Hat
-    ensures { λ r. ⌜ r ≡ zerosOf (l .x0) (l .y0) (l .last) (l .band) (l .slope) ⌝ }
+    ensures { λ r. ⌜ r ≡ zerosOf geop (l .x0) (l .y0) (l .last) (l .band) (l .slope) ⌝ }
 {
     let slope = l.slope;
     let Divided::Value(s) = slope else {
@@ -88,7 +88,7 @@ fn end(l: Line) -> Hat
 
 // Where the spline could be zero whose graph has the control polygon (xi i, d i): anywhere, if the slices are no polygon.
 pub fn fat_line_zeros(xi: &[Scalar], d: &[Scalar]) -> Hat
-    ensures { λ r. ⌜ ZerosFound (now (xi .entry)) (now (d .entry)) r ⌝ }
+    ensures { λ r. ⌜ ZerosFound geop (now (xi .entry)) (now (d .entry)) r ⌝ }
 {
     let n = d.len();
     if !paired(xi.len(), n) {

@@ -11,5 +11,6 @@ pub mod Alpha
 pub mod Instance
 pub mod Proper
 pub mod Widen
+pub mod Bounds
 pub mod Positive
 pub mod Factors

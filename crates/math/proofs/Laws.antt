@@ -15,14 +15,16 @@ pub use Rattle.math.proofs.Doubles.Tests.{ne-nan, no-nan}
 pub use Rattle.math.proofs.Doubles.Nonneg.{square-nonneg, add-number, add-grows}
 -- ---- picks
 
--- the lesser and the greater are one of the two, and the greater is at least each
-pub use Rattle.math.proofs.Doubles.Least.{min-either, max-either, max-left, max-second}
--- picks by one comparison are `min` and `max`, and numbers, where the first operand is a number; the corners of a product are numbers and doubles
-pub use Rattle.math.proofs.Picks.{lesser-number, greater-number, lesser-min, greater-max, corners-lower, corners-upper, corners-doubles}
+-- the greater is one of the two, and at least each
+pub use Rattle.math.proofs.Doubles.Least.{max-either, max-left, max-second}
 -- ---- intervals
 
--- a union of intervals that were widened is widened once
-pub use Rattle.math.proofs.Intervals.Widen.{widened-union}
+-- bounds that are not widened yet: what a difference and a quotient are once they are widened, and that they are doubles
+pub use Rattle.math.proofs.Intervals.Bounds.{AreDoubles, difference-doubles, over-doubles, widen-difference, widen-over-own}
+-- joined bounds that are doubles are widened once
+pub use Rattle.math.proofs.Intervals.Bounds.{Joins, doubles-join}
+-- a divisor that was made of an interval divides as that does
+pub use Rattle.math.proofs.Intervals.Bounds.{over-own, divisor-own}
 -- a fraction has its alpha, and to go it is to interpolate
 pub use Rattle.math.proofs.Intervals.Factors.{fraction-own, between-own}
 -- the Rust's arithmetic encloses

@@ -1,4 +1,4 @@
--- Laws of plain values: of doubles, of intervals, of the square root. The folders floats/, scalars/ and root/ have the proofs of the functions.
+-- Laws of plain values: of doubles, of intervals, of the square root. The folders floats/, bounds/, scalars/ and root/ have the proofs of the functions.
 pub mod Bools
 pub mod Doubles
 pub mod Intervals

@@ -8,6 +8,7 @@ use lib.Ieee.{Float, nan, inf, fin, binary64, add, sub, mul, div, lt, le, eq, of
 use Rattle.math.specs.Neighbours.{nextUp, nextDown}
 use Rattle.math.specs.Picks.{minF, maxF}
 use Rattle.math.specs.declared.scalars.Scalar.{Scalar}
+use Rattle.math.specs.declared.bounds.Bounds.{Bounds}
 use Rattle.math.specs.declared.scalars.Divided.{Divided}
 use Rattle.math.specs.declared.scalars.Divided.the-variants.{Value, Failed}
 
@@ -128,7 +129,7 @@ abbrev pub most4 : Float → Float → Float → Float → Float
 most4 a b c d = maxF (maxF (maxF (maxF (inf true) a) b) c) d
 
 -- the least and the greatest of the four products of two intervals' bounds: their product before it is widened
-unfoldable pub corners : Scalar → Scalar → Scalar
+unfoldable pub corners : Scalar → Scalar → Bounds
 corners x y =
     let a = mul binary64 (x .lo) (y .lo) in
     let b = mul binary64 (x .lo) (y .hi) in

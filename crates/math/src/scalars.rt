@@ -1,5 +1,7 @@
 // Intervals of f64, rounded outward: what the search needs of geop-core-math's scalars/mod.rs, under its names.
 // A function's promise names the definition that it equals, in specs/, for every operand, NaN and the infinities included.
+use crate::bounds::Bounds;
+use crate::bounds::Divisor;
 use crate::floats::down;
 use crate::floats::greater;
 use crate::floats::lesser;
@@ -10,9 +12,10 @@ use crate::floats::next_up;
 use crate::floats::up;
 ghost use mathlib.Core.Path.{_≡_};
 ghost use mathlib.Core.Bool.{true};
-ghost use Rattle.math.specs.Scalars.{geop, ENTIRE, sharp, middle, widthS, addS, subS, corners, mulS, inverseS};
+ghost use Rattle.math.specs.Scalars.{geop, ENTIRE, sharp, middle, widthS, addS, subS, mulS, inverseS};
 ghost use Rattle.math.specs.Scalars.{unionS, intersectS, interpolateS};
 ghost use Rattle.math.specs.Scalars.{hasZero, couldBeEqual, definitelyGreater, definitelyLess, isSubsetOf, isExactly, inUnit, sameOperands};
+ghost use Rattle.math.specs.Bounds.{overS};
 ghost use Rattle.math.specs.Paper.{Divides, IsRatio};
 ghost use Rattle.math.specs.Factors.{isFactor, inOrder, allInOrder, fractionOf, betweenS};
 
@@ -97,24 +100,10 @@ impl Scalar {
         }
     }
 
-    // The least and the greatest of the four products of the bounds: the product before it is widened.
-    pub fn corners(self, other: Scalar) -> Scalar
-        ensures { λ r. ⌜ r ≡ corners self other ⌝ }
-    {
-        let a = self.lo * other.lo;
-        let b = self.lo * other.hi;
-        let c = self.hi * other.lo;
-        let d = self.hi * other.hi;
-        let inf = f64::from_bits(0x7ff0_0000_0000_0000);
-        let lo = lesser(lesser(lesser(lesser(inf, a), b), c), d);
-        let hi = greater(greater(greater(greater(-inf, a), b), c), d);
-        Scalar { lo, hi }
-    }
-
     pub fn mul(self, other: Scalar) -> Scalar
         ensures { λ r. ⌜ r ≡ mulS self other ⌝ }
     {
-        let c = self.corners(other);
+        let c = Bounds::product(self, other);
         Scalar {
             lo: down(c.lo),
             hi: up(c.hi),
@@ -277,6 +266,17 @@ impl Scalar {
             return other.scale(self);
         }
         self.mul(other)
+    }
+
+    // The quotient by a divisor that is at hand, or the whole line where it holds zero.
+    pub fn over(self, d: Divisor) -> Scalar
+        ensures { λ r. ⌜ r ≡ overS self d ⌝ }
+    {
+        let w = d.value;
+        if w.has_zero() {
+            return Scalar::entire();
+        }
+        self.times(d.inverse)
     }
 
     // What a + m and p + q have in common: where the sums meet before they are widened, each bound is widened once, after the pick.

@@ -11,33 +11,33 @@ use Rattle.lists.proofs.Tab.{tab-whole, zipWith-tab}
 use Rattle.math.specs.declared.scalars.Scalar.{Scalar}
 use Rattle.math.specs.declared.scalars.Divided.{Divided}
 use Rattle.math.specs.declared.scalars.Divided.the-variants.{Value, Failed}
-use Rattle.math.specs.Scalars.{geop, absent, ZERO, ENTIRE, couldBeEqual, unionS, addS, subS, divS}
+use Rattle.math.specs.Scalars.{Arithmetic, absent, ENTIRE}
 use Rattle.math.proofs.Bools.{and-l, and-r}
 use Rattle.model.specs.Aabb.{unions}
-use Rattle.model.specs.FatLine.{offset, crossing, zerosBy, fatLineZeros}
+use Rattle.model.specs.FatLine.{offset, zerosBy, fatLineZeros}
 use Rattle.model.specs.Paper.{hatOf}
 use Rattle.model.specs.declared.fat_line.Hat.{Hat}
-use Rattle.model.specs.declared.fat_line.Hat.the-variants.{Over, Missing}
-use Rattle.geometry.specs.Zeros.{paired, polygonZeros, ZerosFound, offBy, begun, taken, zerosOf}
+use Rattle.model.specs.declared.fat_line.Hat.the-variants.{Over}
+use Rattle.geometry.specs.Zeros.{paired, polygonZeros, ZerosFound, levelZeros, slopedZeros, offBy, begun, taken, zerosOf}
 use Rattle.geometry.specs.declared.zeros.Line.{Line}
-use Rattle.geometry.proofs.fat_line.Zeros.{unions-first, unions-turn}
+use Rattle.geometry.proofs.aabb.Unions.{unions-first, unions-turn}
 
 -- ---- where the lists are no polygon, and where they are one
 
-pub no-polygon : (ξ d : List Scalar) (t : Bool) → t ≡ paired (length ξ) (length d) → T (not t) → Over ENTIRE ≡ polygonZeros ξ d
+pub no-polygon : (ar : Arithmetic) (ξ d : List Scalar) (t : Bool) → t ≡ paired (length ξ) (length d) → T (not t) → Over ENTIRE ≡ polygonZeros ar ξ d
 unfolding polygonZeros
-no-polygon ξ d true e h = absurd h
-no-polygon ξ d false e h = ap (λ (b : Bool). cond b (fatLineZeros geop ξ d) (Over ENTIRE)) e
+no-polygon ar ξ d true e h = absurd h
+no-polygon ar ξ d false e h = ap (λ (b : Bool). cond b (fatLineZeros ar ξ d) (Over ENTIRE)) e
 
-pub a-polygon : (ξ d : List Scalar) (t : Bool) → t ≡ paired (length ξ) (length d) → T t → fatLineZeros geop ξ d ≡ polygonZeros ξ d
+pub a-polygon : (ar : Arithmetic) (ξ d : List Scalar) (t : Bool) → t ≡ paired (length ξ) (length d) → T t → fatLineZeros ar ξ d ≡ polygonZeros ar ξ d
 unfolding polygonZeros
-a-polygon ξ d true e h = ap (λ (b : Bool). cond b (fatLineZeros geop ξ d) (Over ENTIRE)) e
-a-polygon ξ d false e h = absurd h
+a-polygon ar ξ d true e h = ap (λ (b : Bool). cond b (fatLineZeros ar ξ d) (Over ENTIRE)) e
+a-polygon ar ξ d false e h = absurd h
 
 -- the definition's answer, on paper
-pub zeros-found : (ξ d : List Scalar) (r : Hat) → r ≡ polygonZeros ξ d → ZerosFound ξ d r
+pub zeros-found : (ar : Arithmetic) (ξ d : List Scalar) (r : Hat) → r ≡ polygonZeros ar ξ d → ZerosFound ar ξ d r
 unfolding polygonZeros
-zeros-found ξ d r e = record { result = e; paper = ap hatOf e ∙ on-paper (paired (length ξ) (length d)) (fatLineZeros geop ξ d) }
+zeros-found ar ξ d r e = record { result = e; paper = ap hatOf e ∙ on-paper (paired (length ξ) (length d)) (fatLineZeros ar ξ d) }
   where
     on-paper : (t : Bool) (h : Hat) → hatOf (cond t h (Over ENTIRE)) ≡ cond t (hatOf h) (some ENTIRE)
     on-paper true h = refl
@@ -58,7 +58,7 @@ not-empty m n h = ltb→lt 0 n (and-r (eqb m n) (ltb 0 n) h)
 
 -- ---- what the turns keep
 
-module _ (ξ d : List Scalar) where
+module _ (ar : Arithmetic) (ξ d : List Scalar) where
   abbrev x₀ : Scalar
   x₀ = getD ξ 0 absent
 
@@ -66,25 +66,25 @@ module _ (ξ d : List Scalar) where
   y₀ = getD d 0 absent
 
   abbrev slope : Divided
-  slope = divS (subS (lastD d absent) y₀) (subS (lastD ξ absent) x₀)
+  slope = ar .div (ar .sub (lastD d absent) y₀) (ar .sub (lastD ξ absent) x₀)
 
   -- what point j lies off the chord
   abbrev off : ℕ → Scalar
-  off j = offBy slope x₀ y₀ (getD ξ j absent) (getD d j absent)
+  off j = offBy ar slope x₀ y₀ (getD ξ j absent) (getD d j absent)
 
   -- The line with the first i points taken in.
   abbrev pub lineOf : ℕ → Line
   lineOf i = record { x0 = x₀; y0 = y₀; last = lastD d absent; slope = slope; band = unions (tab i off) }
 
-  pub line-first : (r : Line) → length ξ ≡ length d → r ≡ begun x₀ y₀ (getD ξ (length d - 1) absent) (lastD d absent) → r ≡ lineOf 1
+  pub line-first : (r : Line) → length ξ ≡ length d → r ≡ begun ar x₀ y₀ (getD ξ (length d - 1) absent) (lastD d absent) → r ≡ lineOf 1
   unfolding begun
-  line-first r h e = e ∙ ap (λ (n : ℕ). begun x₀ y₀ (getD ξ (n - 1) absent) (lastD d absent)) (sym h) ∙ ap (λ (b : Scalar). record { x0 = x₀; y0 = y₀; last = lastD d absent; slope = slope; band = b }) (unions-first off)
+  line-first r h e = e ∙ ap (λ (n : ℕ). begun ar x₀ y₀ (getD ξ (n - 1) absent) (lastD d absent)) (sym h) ∙ ap (λ (b : Scalar). record { x0 = x₀; y0 = y₀; last = lastD d absent; slope = slope; band = b }) (unions-first off)
 
-  pub line-turn : (i : ℕ) (l r : Line) → 0 < i → l ≡ lineOf i → r ≡ taken l (getD ξ i absent) (getD d i absent) → r ≡ lineOf (i + 1)
+  pub line-turn : (i : ℕ) (l r : Line) → 0 < i → l ≡ lineOf i → r ≡ taken ar l (getD ξ i absent) (getD d i absent) → r ≡ lineOf (i + 1)
   unfolding taken
   line-turn i l r h e g =
       g
-      ∙ ap (λ (k : Line). taken k (getD ξ i absent) (getD d i absent)) e
+      ∙ ap (λ (k : Line). taken ar k (getD ξ i absent) (getD d i absent)) e
       ∙ ap (λ (b : Scalar). record { x0 = x₀; y0 = y₀; last = lastD d absent; slope = slope; band = b }) (unions-turn off i _ _ _ h refl refl refl)
 
   -- ---- at the end
@@ -95,16 +95,16 @@ module _ (ξ d : List Scalar) where
       sym (zipWith-tab f (length d) (λ j. getD ξ j absent) (λ j. getD d j absent))
       ∙ (λ k. zipWith f ((ap (λ (n : ℕ). tab n (λ j. getD ξ j absent)) (sym h) ∙ tab-whole ξ absent) k) (tab-whole d absent k))
 
-  zeros-by : length ξ ≡ length d → (q : Divided) → zerosOf x₀ y₀ (lastD d absent) (unions (tab (length d) (λ j. offBy q x₀ y₀ (getD ξ j absent) (getD d j absent)))) q ≡ zerosBy geop ξ d x₀ y₀ q
+  zeros-by : length ξ ≡ length d → (q : Divided) → zerosOf ar x₀ y₀ (lastD d absent) (unions (tab (length d) (λ j. offBy ar q x₀ y₀ (getD ξ j absent) (getD d j absent)))) q ≡ zerosBy ar ξ d x₀ y₀ q
   unfolding zerosOf zerosBy offBy
-  zeros-by h Failed = ap (λ (l : List Scalar). cond (couldBeEqual (unions l) ZERO) (Over ENTIRE) Missing) (tab-whole d absent)
+  zeros-by h Failed = ap (λ (l : List Scalar). levelZeros (unions l)) (tab-whole d absent)
   zeros-by h (Value s) =
-      ap (λ (l : List Scalar). cond (couldBeEqual (addS (unionS y₀ (lastD d absent)) (unions l)) ZERO) (crossing geop x₀ (divS (addS y₀ (unions l)) s)) Missing)
-      (zip-off h (λ x y. offset geop s x₀ y₀ x y))
+      ap (λ (l : List Scalar). slopedZeros ar s x₀ y₀ (lastD d absent) (unions l))
+      (zip-off h (λ x y. offset ar s x₀ y₀ x y))
 
-  pub line-done : (i : ℕ) (l : Line) (r : Hat) → length ξ ≡ length d → i ≡ length d → l ≡ lineOf i → r ≡ zerosOf (l .x0) (l .y0) (l .last) (l .band) (l .slope) → r ≡ fatLineZeros geop ξ d
+  pub line-done : (i : ℕ) (l : Line) (r : Hat) → length ξ ≡ length d → i ≡ length d → l ≡ lineOf i → r ≡ zerosOf ar (l .x0) (l .y0) (l .last) (l .band) (l .slope) → r ≡ fatLineZeros ar ξ d
   unfolding fatLineZeros
   line-done i l r h n e g =
       g
-      ∙ ap (λ (k : Line). zerosOf (k .x0) (k .y0) (k .last) (k .band) (k .slope)) (e ∙ ap (λ (m : ℕ). lineOf m) n)
+      ∙ ap (λ (k : Line). zerosOf ar (k .x0) (k .y0) (k .last) (k .band) (k .slope)) (e ∙ ap (λ (m : ℕ). lineOf m) n)
       ∙ zeros-by h slope

@@ -4,6 +4,7 @@ use Prim.Native.Nat.{_≤_, _-_}
 use native.Mathlib.Omega.{arith}
 use borrow.Author.Tests.{not-true, not-false}
 use Rattle.lists.specs.Lists.{tab}
+use Rattle.math.specs.Scalars.{geop}
 use Rattle.model.specs.Layout.{scalarAt}
 use Rattle.model.specs.Aabb.{aabb, couldOverlap}
 use Rattle.geometry.proofs.aabb.Box.{axisAt, overlapFrom, overlap-start, overlap-keep, overlap-stop, overlap-end}
@@ -12,7 +13,7 @@ use Rattle.geometry.proofs.aabb.aabb_could_overlap.Tie as tie
 
 abbrev Inv-loop : tie.InvT-loop
 Inv-loop points point-box dim count k₀ k =
-    (k ≤ dim) × (overlapFrom dim (axisAt dim count points) (scalarAt point-box) k ≡ couldOverlap (tab dim (axisAt dim count points)) (tab dim (scalarAt point-box)))
+    (k ≤ dim) × (overlapFrom dim (axisAt geop dim count points) (scalarAt point-box) k ≡ couldOverlap (tab dim (axisAt geop dim count points)) (tab dim (scalarAt point-box)))
 
 abbrev μ-loop : tie.MeasureT-loop
 μ-loop points point-box dim count k₀ k = dim - k
@@ -20,7 +21,7 @@ abbrev μ-loop : tie.MeasureT-loop
 loop-holds : tie.Need-loop-holds Inv-loop μ-loop
 loop-holds c =
     let a = c .before .before .args in
-    (omega arith, overlap-start (a .dim) (axisAt (a .dim) (a .count) (a .points .now)) (scalarAt (a .point-box .now)))
+    (omega arith, overlap-start (a .dim) (axisAt geop (a .dim) (a .count) (a .points .now)) (scalarAt (a .point-box .now)))
 
 axis-box-requires : tie.Need-axis-box-requires Inv-loop μ-loop
 axis-box-requires c κs = omega arith
@@ -37,7 +38,7 @@ returns c =
     let s = c .before .before in
     let l = s .before .before .before in
     let a = l .before .before .before .args in
-    overlap-stop (a .dim) (axisAt (a .dim) (a .count) (a .points .now)) (scalarAt (a .point-box .now)) (l .loop .k) (l .loop .inv .1) (omega arith)
+    overlap-stop (a .dim) (axisAt geop (a .dim) (a .count) (a .points .now)) (scalarAt (a .point-box .now)) (l .loop .k) (l .loop .inv .1) (omega arith)
     _ _ _ (s .before .axis-box .ensures) (s .scalar-at .ensures) (c .before .could-be-equal .ensures) (not-true _ (c .if1 .taken))
 
 add-k : tie.Need-add-k Inv-loop μ-loop
@@ -52,7 +53,7 @@ loop-again c =
     let l = s .before .before .before in
     let a = l .before .before .before .args in (
       omega arith,
-      overlap-keep (a .dim) (axisAt (a .dim) (a .count) (a .points .now)) (scalarAt (a .point-box .now)) (l .loop .k) (l .loop .inv .1) (omega arith)
+      overlap-keep (a .dim) (axisAt geop (a .dim) (a .count) (a .points .now)) (scalarAt (a .point-box .now)) (l .loop .k) (l .loop .inv .1) (omega arith)
           _ _ _ (s .before .axis-box .ensures) (s .scalar-at .ensures) (c .before .could-be-equal .ensures) (not-false _ (c .if1 .left)),
     )
 
@@ -61,7 +62,7 @@ unfolding aabb
 returns-2 c =
     let l = c .before in
     let a = l .before .before .before .args in
-    overlap-end (a .dim) (axisAt (a .dim) (a .count) (a .points .now)) (scalarAt (a .point-box .now)) (l .loop .k) (l .loop .inv .1) (omega arith)
+    overlap-end (a .dim) (axisAt geop (a .dim) (a .count) (a .points .now)) (scalarAt (a .point-box .now)) (l .loop .k) (l .loop .inv .1) (omega arith)
 
 pub aabb-could-overlap-spec : {M : Type 1} → statement M
 aabb-could-overlap-spec =

@@ -1,6 +1,6 @@
 -- `along` equals its definition: missing where a quotient failed, and else the union of both.
 use mathlib.Core.Path.{ap, _∙_}
-use Rattle.math.specs.Scalars.{subS}
+use Rattle.math.specs.Scalars.{geop}
 use Rattle.math.specs.declared.scalars.Scalar.{Scalar}
 use borrow.Author.Needs.{needs}
 use Rattle.geometry.proofs.aabb.Box.{along-first, along-second, along-both}
@@ -30,7 +30,7 @@ returns c =
     let k = c .before .before in
     let m = k .before .before .before in
     let a = m .before .args in
-    along-first (a .e) (a .a) (a .b) _ _ _ (m .sub .ensures) (k .before .sub2 .ensures ∙ ap (λ (v : Scalar). subS v (a .a)) (k .before .before .lower .ensures)) (k .div .ensures .result) (c .enum-told .given .1)
+    along-first geop (a .e) (a .a) (a .b) _ _ _ (m .sub .ensures) (k .before .sub2 .ensures ∙ ap (λ (v : Scalar). geop .sub v (a .a)) (k .before .before .lower .ensures)) (k .div .ensures .result) (c .enum-told .given .1)
 
 upper-requires : tie.Need-upper-requires
 upper-requires c κs = search needs
@@ -59,8 +59,8 @@ returns-2 c =
     let at-sub = at-lower .before in
     let k = at-sub .before in
     let a = k .args in
-    along-second (a .e) (a .a) (a .b) _ _ _ (at-sub .sub .ensures) (at-sub2 .sub2 .ensures ∙ ap (λ (v : Scalar). subS v (a .a)) (at-lower .lower .ensures)) (at-div .div .ensures .result)
-    _ (at-first .first .given .1) _ _ (at-sub3 .sub3 .ensures ∙ ap (λ (v : Scalar). subS v (a .a)) (at-upper .upper .ensures)) (at-div2 .div2 .ensures .result) (c .enum-told2 .given .1)
+    along-second geop (a .e) (a .a) (a .b) _ _ _ (at-sub .sub .ensures) (at-sub2 .sub2 .ensures ∙ ap (λ (v : Scalar). geop .sub v (a .a)) (at-lower .lower .ensures)) (at-div .div .ensures .result)
+    _ (at-first .first .given .1) _ _ (at-sub3 .sub3 .ensures ∙ ap (λ (v : Scalar). geop .sub v (a .a)) (at-upper .upper .ensures)) (at-div2 .div2 .ensures .result) (c .enum-told2 .given .1)
 
 union-requires : tie.Need-union-requires
 union-requires c κs = search needs
@@ -78,8 +78,8 @@ returns-3 c =
     let at-sub = at-lower .before in
     let k = at-sub .before in
     let a = k .args in
-    along-both (a .e) (a .a) (a .b) _ _ _ (at-sub .sub .ensures) (at-sub2 .sub2 .ensures ∙ ap (λ (v : Scalar). subS v (a .a)) (at-lower .lower .ensures)) (at-div .div .ensures .result)
-    _ (at-first .first .given .1) _ _ (at-sub3 .sub3 .ensures ∙ ap (λ (v : Scalar). subS v (a .a)) (at-upper .upper .ensures)) (at-div2 .div2 .ensures .result) _ _ (at-second .second .given .1) (c .union .ensures)
+    along-both geop (a .e) (a .a) (a .b) _ _ _ (at-sub .sub .ensures) (at-sub2 .sub2 .ensures ∙ ap (λ (v : Scalar). geop .sub v (a .a)) (at-lower .lower .ensures)) (at-div .div .ensures .result)
+    _ (at-first .first .given .1) _ _ (at-sub3 .sub3 .ensures ∙ ap (λ (v : Scalar). geop .sub v (a .a)) (at-upper .upper .ensures)) (at-div2 .div2 .ensures .result) _ _ (at-second .second .given .1) (c .union .ensures)
 
 pub along-spec : {M : Type 1} → statement M
 along-spec =

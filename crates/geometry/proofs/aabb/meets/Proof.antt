@@ -65,7 +65,7 @@ returns c =
     let at-loop = at-place .before .before in
     let k = from-loop at-loop in
     let a = k .args in
-    segment-stop (a .dim) (pointAt (suc (a .dim)) (a .points .now) 0) (pointAt (suc (a .dim)) (a .points .now) 1) (a .point-box .now) (at-loop .loop .range) (at-loop .loop .k) _ (at-loop .loop .inv .1) (omega arith)
+    segment-stop geop (a .dim) (pointAt (suc (a .dim)) (a .points .now) 0) (pointAt (suc (a .dim)) (a .points .now) 1) (a .point-box .now) (at-loop .loop .range) (at-loop .loop .k) _ (at-loop .loop .inv .1) (omega arith)
     _ _ _ (at-scalar-at .scalar-at .ensures) (at-place .place .ensures) (at-place2 .place2 .ensures) _ (at-along .along .ensures) _ (at-part .part .given .1) _ (at-could-be-equal .could-be-equal .ensures) (not-true _ (c .if1 .taken))
 
 intersect-requires : tie.Need-intersect-requires Inv-loop μ-loop
@@ -92,10 +92,10 @@ loop-again c =
       omega arith,
       ⊎-elim
           (λ w.
-          segment-narrow (a .dim) (pointAt (suc (a .dim)) (a .points .now) 0) (pointAt (suc (a .dim)) (a .points .now) 1) (a .point-box .now) (at-loop .loop .range) (at-loop .loop .k) _ (at-loop .loop .inv .1) (omega arith)
+          segment-narrow geop (a .dim) (pointAt (suc (a .dim)) (a .points .now) 0) (pointAt (suc (a .dim)) (a .points .now) 1) (a .point-box .now) (at-loop .loop .range) (at-loop .loop .k) _ (at-loop .loop .inv .1) (omega arith)
           _ _ _ (at-scalar-at .scalar-at .ensures) (at-place .place .ensures) (at-place2 .place2 .ensures) _ (at-along .along .ensures) _ (w .1 .given .1) _ (w .3 .ensures) _ _ (not-false _ (w .4 .left)) (w .5 .ensures) (w .6))
           (λ w.
-          segment-skip (a .dim) (pointAt (suc (a .dim)) (a .points .now) 0) (pointAt (suc (a .dim)) (a .points .now) 1) (a .point-box .now) (at-loop .loop .range) (at-loop .loop .k) _ (at-loop .loop .inv .1) (omega arith)
+          segment-skip geop (a .dim) (pointAt (suc (a .dim)) (a .points .now) 0) (pointAt (suc (a .dim)) (a .points .now) 1) (a .point-box .now) (at-loop .loop .range) (at-loop .loop .k) _ (at-loop .loop .inv .1) (omega arith)
           _ _ _ (at-scalar-at .scalar-at .ensures) (at-place .place .ensures) (at-place2 .place2 .ensures) _ (at-along .along .ensures) _ (w .1 .given .1) (w .2))
           (c .match .came),
     )
@@ -105,7 +105,7 @@ returns-2 c =
     let at-loop = c .before in
     let k = from-loop at-loop in
     let a = k .args in
-    segment-end (a .dim) (pointAt (suc (a .dim)) (a .points .now) 0) (pointAt (suc (a .dim)) (a .points .now) 1) (a .point-box .now) (at-loop .loop .range) (at-loop .loop .k) _ (at-loop .loop .inv .1) (omega arith)
+    segment-end geop (a .dim) (pointAt (suc (a .dim)) (a .points .now) 0) (pointAt (suc (a .dim)) (a .points .now) 1) (a .point-box .now) (at-loop .loop .range) (at-loop .loop .k) _ (at-loop .loop .inv .1) (omega arith)
 
 pub meets-spec : {M : Type 1} → statement M
 meets-spec =

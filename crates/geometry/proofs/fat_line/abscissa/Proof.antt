@@ -1,21 +1,23 @@
--- `abscissa` is the product of the sum, which the turns keep, and the reciprocal.
+-- `abscissa` is the sum, which the turns keep, over the divisor.
 use mathlib.Core.Path.{_≡_, refl, ap, _∙_}
 use Prim.Native.Nat.{_-_, _≤_}
 use native.Mathlib.Omega.{arith}
 use lib.ListN.{length, drop}
 use lib.Ieee.{ofBits}
-use Rattle.math.specs.Scalars.{ZERO, mulS}
+use Rattle.math.specs.Scalars.{geop, ZERO}
+use Rattle.math.specs.Bounds.{overS}
 use Rattle.math.specs.declared.scalars.Scalar.{Scalar}
-use Rattle.geometry.proofs.fat_line.Zeros.{summed, sum-turn, sum-done}
+use Rattle.geometry.specs.Abscissae.{summed}
+use Rattle.geometry.proofs.fat_line.Zeros.{sum-turn, sum-done}
 use borrow.Author.Needs.{needs}
 use Rattle.geometry.proofs.fat_line.abscissa.Statement.{statement}
 use Rattle.geometry.proofs.fat_line.abscissa.Tie as tie
 
 abbrev Inv-loop : tie.InvT-loop
-Inv-loop w reciprocal sum₀ j₀ sum j = (j ≤ length w) × (summed sum (drop j w) ≡ summed ZERO w)
+Inv-loop w number sum₀ j₀ sum j = (j ≤ length w) × (summed geop sum (drop j w) ≡ summed geop ZERO w)
 
 abbrev μ-loop : tie.MeasureT-loop
-μ-loop w reciprocal sum₀ j₀ sum j = length w - j
+μ-loop w number sum₀ j₀ sum j = length w - j
 
 loop-holds : tie.Need-loop-holds Inv-loop μ-loop
 unfolding ofBits
@@ -43,16 +45,16 @@ loop-again : tie.Need-loop-again Inv-loop μ-loop
 loop-again c =
     let at-from-f64 = c .before in
     let at-loop = at-from-f64 .before .before .before in
-    (omega arith, sum-turn _ (at-loop .loop .sum) _ _ (at-loop .loop .j) (omega arith) (at-from-f64 .from-f64 .ensures) (c .add .ensures) (at-loop .loop .inv .1))
+    (omega arith, sum-turn geop _ (at-loop .loop .sum) _ _ (at-loop .loop .j) (omega arith) (at-from-f64 .from-f64 .ensures) (c .add .ensures) (at-loop .loop .inv .1))
 
-times-requires : tie.Need-times-requires Inv-loop μ-loop
-times-requires c κs = search needs
+over-requires : tie.Need-over-requires Inv-loop μ-loop
+over-requires c κs = search needs
 
 returns : tie.Need-returns Inv-loop μ-loop
 returns c =
     let l = c .before .before in
     let a = l .before .before .args in
-    c .times .ensures ∙ ap (λ (s : Scalar). mulS s (a .reciprocal)) (sum-done (a .w .now) (l .loop .sum) (l .loop .j) (omega arith) (l .loop .inv .1))
+    c .over .ensures ∙ ap (λ (s : Scalar). overS s (a .number)) (sum-done geop (a .w .now) (l .loop .sum) (l .loop .j) (omega arith) (l .loop .inv .1))
 
 pub abscissa-spec : {M : Type 1} → statement M
 abscissa-spec =
@@ -68,5 +70,5 @@ abscissa-spec =
     add-j
     loop-less
     loop-again
-    times-requires
+    over-requires
     returns)

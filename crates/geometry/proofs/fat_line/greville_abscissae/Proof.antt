@@ -14,14 +14,14 @@ use Rattle.geometry.proofs.fat_line.greville_abscissae.Statement.{state
 use Rattle.geometry.proofs.fat_line.greville_abscissae.Tie as tie
 
 abbrev Inv-loop : tie.InvT-loop
-Inv-loop knots degree count at₀ reciprocal i₀ at i = (i ≤ count) × (at ≡ put at₀ 0 (flat (tab i (λ j. abscissa geop degree (window degree knots j)))))
+Inv-loop knots degree count at₀ number i₀ at i = (i ≤ count) × (at ≡ put at₀ 0 (flat (tab i (λ j. abscissa geop degree (window degree knots j)))))
 
 abbrev μ-loop : tie.MeasureT-loop
-μ-loop knots degree count at₀ reciprocal i₀ at i = count - i
+μ-loop knots degree count at₀ number i₀ at i = count - i
 
 returns : tie.Need-returns Inv-loop μ-loop
 unfolding ofBits
-returns c = held-none (c .before .before .args .degree) _ _ (c .if1 .taken)
+returns c = held-none geop (c .before .before .args .degree) _ _ (c .if1 .taken)
 
 int-to-float-from-f64 : tie.Need-int-to-float-from-f64 Inv-loop μ-loop
 int-to-float-from-f64 c = in-float _ (c .before .before .before .pre .0)
@@ -29,8 +29,8 @@ int-to-float-from-f64 c = in-float _ (c .before .before .before .pre .0)
 from-f64-requires : tie.Need-from-f64-requires Inv-loop μ-loop
 from-f64-requires c κs = tt
 
-inverse-requires : tie.Need-inverse-requires Inv-loop μ-loop
-inverse-requires c κs = tt
+of-requires : tie.Need-of-requires Inv-loop μ-loop
+of-requires c κs = tt
 
 loop-holds : tie.Need-loop-holds Inv-loop μ-loop
 loop-holds c =
@@ -74,14 +74,14 @@ loop-again : tie.Need-loop-again Inv-loop μ-loop
 loop-again c =
     let at-window = c .before in
     let at-loop = at-window .before .before in
-    let at-inverse = at-loop .before in
-    let at-from-f64 = at-inverse .before in
+    let at-of = at-loop .before in
+    let at-from-f64 = at-of .before in
     let passed1 = at-from-f64 .before .before in
     let k = passed1 .before .before in
     let a = k .args in (
       omega arith,
       flat-next (λ j. abscissa geop (a .degree) (window (a .degree) (a .knots .now) j)) _ (at-loop .loop .at) (at-loop .loop .i) (c .abscissa .result) (omega arith) (at-loop .loop .inv .1)
-          (mean-is (a .degree) _ _ _ _ (passed1 .if1 .left) (k .pre .0) (at-from-f64 .from-f64 .ensures) (at-inverse .inverse .ensures) (c .abscissa .ensures) ∙ ap (λ (w : List Float). abscissa geop (a .degree) w) (at-window .window .ensures)),
+          (mean-is (a .degree) _ _ _ _ (at-from-f64 .from-f64 .ensures) (at-of .of .ensures) (c .abscissa .ensures) ∙ ap (λ (w : List Float). abscissa geop (a .degree) w) (at-window .window .ensures)),
     )
 
 returns-2 : tie.Need-returns-2 Inv-loop μ-loop
@@ -91,7 +91,7 @@ returns-2 c =
     let passed1 = at-loop .before .before .before .before in
     let k = passed1 .before .before in
     let a = k .args in
-    held-some (a .degree) (a .count) (at-loop .loop .i) (a .knots .now) (at-loop .loop .at) (passed1 .if1 .left) (omega arith) (at-loop .loop .inv .1)
+    held-some geop (a .degree) (a .count) (at-loop .loop .i) (a .knots .now) (at-loop .loop .at) (passed1 .if1 .left) (omega arith) (at-loop .loop .inv .1)
 
 pub greville-abscissae-spec : {M : Type 1} → statement M
 greville-abscissae-spec =
@@ -102,7 +102,7 @@ greville-abscissae-spec =
     returns
     int-to-float-from-f64
     from-f64-requires
-    inverse-requires
+    of-requires
     loop-holds
     window-requires
     abscissa-requires

@@ -4,7 +4,7 @@ use Prim.Native.Nat.{ℕ, _-_, _≤_, _<_}
 use native.Mathlib.Omega.{arith}
 use Rattle.model.specs.Layout.{scalarAt, scalarsOf}
 use Rattle.model.specs.Aabb.{unions}
-use Rattle.geometry.proofs.fat_line.Zeros.{unions-first, unions-turn}
+use Rattle.geometry.proofs.aabb.Unions.{unions-first, unions-turn}
 use borrow.Author.Needs.{needs}
 use Rattle.geometry.proofs.fat_line.unions.Statement.{statement}
 use Rattle.geometry.proofs.fat_line.unions.Tie as tie

@@ -20,7 +20,7 @@ Inv-loop xi points point-box dim count start end dx d₀ hat₀ k₀ d hat k =
     (k ≤ dim)
     × (length d ≡ 64)
     × (length dx ≡ 64)
-    × (scalarsOf count dx ≡ fromFirst (scalarsOf count xi))
+    × (scalarsOf count dx ≡ fromFirst geop (scalarsOf count xi))
     × (left geop dim (pointsOf (suc dim) count points) (scalarsOf count xi) point-box hat k ≡ clip geop dim (pointsOf (suc dim) count points) (scalarsOf count xi) (domain start end) 0 (scalarsOf dim point-box))
 
 abbrev μ-loop : tie.MeasureT-loop
@@ -57,8 +57,8 @@ loop-holds c =
     let a = k .args in
     let n = length-replicate 64 (ofBits binary64 0) in
     let p = k .pre in
-    let kept = from-first-kept (a .xi .now) _ _ (a .count) (p .0 .0) (omega (arith, n, p .0 .1)) (at-from-first .from-first .ensures) in
-    let held = from-first-held (a .xi .now) _ _ (a .count) (p .0 .0) (at-from-first .from-first .ensures) in
+    let kept = from-first-kept geop (a .xi .now) _ _ (a .count) (p .0 .0) (omega (arith, n, p .0 .1)) (at-from-first .from-first .ensures) in
+    let held = from-first-held geop (a .xi .now) _ _ (a .count) (p .0 .0) (at-from-first .from-first .ensures) in
     (omega arith, n, kept ∙ n, held, ap (λ hat. left geop (a .dim) (pointsOf (suc (a .dim)) (a .count) (a .points .now)) (scalarsOf (a .count) (a .xi .now)) (a .point-box .now) hat 0) (c .union .ensures ∙ (λ i. unionS (at-from-f64 .from-f64 .ensures i) (at-from-f642 .from-f642 .ensures i))))
 
 scalar-at-requires : tie.Need-scalar-at-requires Inv-loop μ-loop

@@ -117,7 +117,7 @@ record Turn (xs ys : List Scalar) : Type 0 where
   value : Val
   some : 0 < i
   most : i ≤ length ys
-  is : line ≡ lineOf xs ys i
+  is : line ≡ lineOf geop xs ys i
   has : Is L.the-row line (value ∷ [])
 
 abbrev Nearer : (xs ys : List Scalar) → Turn xs ys → Turn xs ys → Type 0
@@ -177,7 +177,7 @@ module _ {M : Type 1} (𝓤 : URA M) (H : Heap 𝓤) (A : Atoms 𝓤) (W : Given
       owned ! S.the-row (Is S.the-row) (LL.makes S.the-type S′.the-plain 𝓤 H A) x₀ _ hx₀ $ fjoin ! $
       nothing ! $ join ! $ frame ! $ done !
 
-  said-begin : (x₀ y₀ x y : Scalar) (r : Line) → ent 𝓤 (ensured 𝓤 H A begin-fn.ended (begin-fn.clauses 𝓤 H A mem run) tt (x₀, (y₀, (x, (y, tt)))) tt r) (fact 𝓤 (r ≡ begun x₀ y₀ x y))
+  said-begin : (x₀ y₀ x y : Scalar) (r : Line) → ent 𝓤 (ensured 𝓤 H A begin-fn.ended (begin-fn.clauses 𝓤 H A mem run) tt (x₀, (y₀, (x, (y, tt)))) tt r) (fact 𝓤 (r ≡ begun geop x₀ y₀ x y))
   said-begin x₀ y₀ x y r = exE 𝓤 _ (λ ws. snd∗ 𝓤 (sem 𝓤 H A (lasts begin-fn.ended tt (x₀, (y₀, (x, (y, tt)))) ws)) _)
 
   -- a line, with the machine value v, and two intervals
@@ -195,7 +195,7 @@ module _ {M : Type 1} (𝓤 : URA M) (H : Heap 𝓤) (A : Atoms 𝓤) (W : Given
       owned ! L.the-row (Is L.the-row) (LL.makes L.the-type L′.the-plain 𝓤 H A) l _ hl $ fjoin ! $
       nothing ! $ join ! $ frame ! $ done !
 
-  said-take : (l : Line) (x y : Scalar) (r : Line) → ent 𝓤 (ensured 𝓤 H A take-fn.ended (take-fn.clauses 𝓤 H A mem run) tt (l, (x, (y, tt))) tt r) (fact 𝓤 (r ≡ taken l x y))
+  said-take : (l : Line) (x y : Scalar) (r : Line) → ent 𝓤 (ensured 𝓤 H A take-fn.ended (take-fn.clauses 𝓤 H A mem run) tt (l, (x, (y, tt))) tt r) (fact 𝓤 (r ≡ taken geop l x y))
   said-take l x y r = exE 𝓤 _ (λ ws. snd∗ 𝓤 (sem 𝓤 H A (lasts take-fn.ended tt (l, (x, (y, tt))) ws)) _)
 
   -- a line, with the machine value v
@@ -211,7 +211,7 @@ module _ {M : Type 1} (𝓤 : URA M) (H : Heap 𝓤) (A : Atoms 𝓤) (W : Given
       owned ! L.the-row (Is L.the-row) (LL.makes L.the-type L′.the-plain 𝓤 H A) l _ hl $ fjoin ! $
       nothing ! $ join ! $ frame ! $ done !
 
-  said-end : (l : Line) (r : Hat) → ent 𝓤 (ensured 𝓤 H A end-fn.ended (end-fn.clauses 𝓤 H A mem run) tt (l, tt) tt r) (fact 𝓤 (r ≡ zerosOf (l .x0) (l .y0) (l .last) (l .band) (l .slope)))
+  said-end : (l : Line) (r : Hat) → ent 𝓤 (ensured 𝓤 H A end-fn.ended (end-fn.clauses 𝓤 H A mem run) tt (l, tt) tt r) (fact 𝓤 (r ≡ zerosOf geop (l .x0) (l .y0) (l .last) (l .band) (l .slope)))
   said-end l r = exE 𝓤 _ (λ ws. snd∗ 𝓤 (sem 𝓤 H A (lasts end-fn.ended tt (l, tt) ws)) _)
 
   -- ---- the walk
@@ -247,10 +247,10 @@ module _ {M : Type 1} (𝓤 : URA M) (H : Heap 𝓤) (A : Atoms 𝓤) (W : Given
     abbrev Own₂ : Fml
     Own₂ = ShrSlice (named 1) κ₂ S.the-row .own ref₂ (at .1 .0)
 
-    exits : (v : Val) (r : Hat) → r ≡ polygonZeros xs ys → Is O.the-row r (v ∷ []) → ent 𝓤 (⋆ 𝓤 H A (‵ (flft κ₁ q₁) ∷ ‵ (flft κ₂ q₂) ∷ ‵ Own₁ ∷ ‵ Own₂ ∷ [])) (Post v)
+    exits : (v : Val) (r : Hat) → r ≡ polygonZeros geop xs ys → Is O.the-row r (v ∷ []) → ent 𝓤 (⋆ 𝓤 H A (‵ (flft κ₁ q₁) ∷ ‵ (flft κ₂ q₂) ∷ ‵ Own₁ ∷ ‵ Own₂ ∷ [])) (Post v)
     exits v r e is =
         qed W (‵ (flft κ₁ q₁) ∷ ‵ (flft κ₂ q₂) ∷ ‵ Own₁ ∷ ‵ Own₂ ∷ []) ∵
-        suffices ! _ (ends-at 𝓤 H A f.ended stayed (f.clauses 𝓤 H A mem run) W (((κ₁, (κ₂, tt)), (q₁, (q₂, tt)), tt, (ref₁, (ref₂, tt)), at), tt) v r (tt, (tt, tt)) (tt, (tt, tt))) $ says ! (zeros-found xs ys r e) $
+        suffices ! _ (ends-at 𝓤 H A f.ended stayed (f.clauses 𝓤 H A mem run) W (((κ₁, (κ₂, tt)), (q₁, (q₂, tt)), tt, (ref₁, (ref₂, tt)), at), tt) v r (tt, (tt, tt)) (tt, (tt, tt))) $ says ! (zeros-found geop xs ys r e) $
         nothing ! $ move ! (2 ∷ 0 ∷ []) $ join ! $ move ! (1 ∷ 0 ∷ []) $ join ! $ nothing ! $ move ! (3 ∷ 0 ∷ []) $ fjoin ! $ move ! (2 ∷ 0 ∷ []) $ fjoin ! $ move ! (1 ∷ 0 ∷ []) $ frame ! $ frame ! $
         owned ! O.the-row (Is O.the-row) (EL.makes O.the-type O′.the-plain 𝓤 H A) r _ is $ done !
 
@@ -299,7 +299,7 @@ module _ {M : Type 1} (𝓤 : URA M) (H : Heap 𝓤) (A : Atoms 𝓤) (W : Given
         Head t = At (holds word l₃ (vint w64 n)) (holds line l₅ (t .value)) (holds word l₆ (vint w64 (t .i)))
 
         -- the locals are freed, and the slices are handed back
-        leaves : (v : Val) (r : Hat) → r ≡ polygonZeros xs ys → Is O.the-row r (v ∷ []) → Sq W (Ctx (room hat l₀) (room (slice 0) l₁) (room (slice 1) l₂) (room word l₃) (room line l₅) (room word l₆)) (frees En (prop (Post v)))
+        leaves : (v : Val) (r : Hat) → r ≡ polygonZeros geop xs ys → Is O.the-row r (v ∷ []) → Sq W (Ctx (room hat l₀) (room (slice 0) l₁) (room (slice 1) l₂) (room word l₃) (room line l₅) (room word l₆)) (frees En (prop (Post v)))
         leaves v r e is =
             move ! (4 ∷ 34 ∷ []) $ free1 ! $ move ! (4 ∷ 33 ∷ []) $ free1 ! $ move ! (4 ∷ 32 ∷ []) $ free1 ! $ move ! (4 ∷ 31 ∷ []) $ free1 ! $ move ! (4 ∷ 30 ∷ []) $ free1 ! $ move ! (4 ∷ 29 ∷ []) $ free1 ! $
             move ! (4 ∷ 28 ∷ []) $ free1 ! $ move ! (4 ∷ 27 ∷ []) $ free1 ! $ move ! (4 ∷ 26 ∷ []) $ free1 ! $ move ! (4 ∷ 25 ∷ []) $ free1 ! $ move ! (4 ∷ 24 ∷ []) $ free1 ! $ move ! (4 ∷ 23 ∷ []) $ free1 ! $
@@ -313,7 +313,7 @@ module _ {M : Type 1} (𝓤 : URA M) (H : Heap 𝓤) (A : Atoms 𝓤) (W : Given
         abbrev Turned : Turn xs ys → Out → SProp 𝓤
         Turned t = afterTurn 𝓤 H (Below 𝓤 H A (Nearer xs ys) Head t) (afterBlock 𝓤 H (afterSeq 𝓤 H (Wp 𝓤 H C Λ En code.Mir.t-20 (atReturn 𝓤 H En Post)) (atReturn 𝓤 H En Post)))
 
-        module _ (same : m ≡ n) (pos : 0 < n) (whole-is : fatLineZeros geop xs ys ≡ polygonZeros xs ys) where
+        module _ (same : m ≡ n) (pos : 0 < n) (whole-is : fatLineZeros geop xs ys ≡ polygonZeros geop xs ys) where
           -- one more point is taken in
           more : (t : Turn xs ys) → t .i < n → Sq W (Head t) (runs C Λ En code.Mir.turn-1 (anyQ (Turned t)))
           unfolding afterTurn
@@ -338,7 +338,7 @@ module _ {M : Type 1} (𝓤 : URA M) (H : Heap 𝓤) (A : Atoms 𝓤) (W : Given
               land ! (from ! (stop !)) (store ! 9 refl (LL.lawful L.the-type L′.the-laws 𝓤 H A W .typed r _ is .0)) $
               assigns-last ! (bin ! (load ! (from ! (stop !)) (look ! 10 refl)) (lit ! tt) (record { fits = next-fits })) (from ! (stop !)) (store ! 10 refl (tt, record { fits = next-fits })) $
               forget ! 23 refl $ forget ! 24 refl $ forget ! 25 refl $ forget ! 26 refl $ forget ! 27 refl $ forget ! 28 refl $ forget ! 29 refl $
-              again ! (Nearer xs ys) Head t (record { i = t .i + 1; line = r; value = w; some = omega arith; most = omega arith; is = line-turn xs ys (t .i) (t .line) r (t .some) (t .is) e; has = is }) (omega arith)))))
+              again ! (Nearer xs ys) Head t (record { i = t .i + 1; line = r; value = w; some = omega arith; most = omega arith; is = line-turn geop xs ys (t .i) (t .line) r (t .some) (t .is) e; has = is }) (omega arith)))))
             where
               scaled : t .i * 16 < 2 ^ 64
               scaled = omega (arith, g₂ .1)
@@ -357,7 +357,7 @@ module _ {M : Type 1} (𝓤 : URA M) (H : Heap 𝓤) (A : Atoms 𝓤) (W : Given
               calls-at ! fm End knows-end (to-end (t .line) (t .value)) (and-then ! (load ! (from ! (stop !)) (look ! 10 refl)) (no-more !))
               (λ w. hears ! tt O.the-row _ _ (said-end (t .line)) w (λ r e is.
               land ! (from ! (stop !)) (init ! 4 refl (EL.lawful O.the-type O′.the-laws 𝓤 H A W tt .typed r _ is .0)) $
-              returns ! (look ! 4 refl) $ forget ! 4 refl $ forget ! 5 refl $ forget ! 6 refl $ forget ! 7 refl $ forget ! 9 refl $ forget ! 10 refl $ forget ! 23 refl $ leaves w r (line-done xs ys (t .i) (t .line) r same all-taken (t .is) e ∙ whole-is) is))
+              returns ! (look ! 4 refl) $ forget ! 4 refl $ forget ! 5 refl $ forget ! 6 refl $ forget ! 7 refl $ forget ! 9 refl $ forget ! 10 refl $ forget ! 23 refl $ leaves w r (line-done geop xs ys (t .i) (t .line) r same all-taken (t .is) e ∙ whole-is) is))
             where
               all-taken : t .i ≡ n
               all-taken = omega (arith, t .most)
@@ -398,7 +398,7 @@ module _ {M : Type 1} (𝓤 : URA M) (H : Heap 𝓤) (A : Atoms 𝓤) (W : Given
               land ! (from ! (stop !)) (init ! 9 refl (LL.lawful L.the-type L′.the-laws 𝓤 H A W .typed r _ is .0)) $
               assigns ! (of-opd ! (lit ! tt)) (from ! (stop !)) (init ! 10 refl (tt, record { fits = lit< tt })) $
               forget ! 8 refl $ forget ! 12 refl $ forget ! 14 refl $ forget ! 15 refl $ forget ! 16 refl $ forget ! 17 refl $ forget ! 18 refl $ forget ! 19 refl $ forget ! 20 refl $ forget ! 21 refl $ forget ! 22 refl $ first ! $ blocks ! $
-              loops ! 𝓣 (Nearer xs ys) (nearer-wf xs ys) Head turns (record { i = 1; line = r; value = w; some = omega arith; most = omega arith; is = line-first xs ys r same e; has = is })))))))
+              loops ! 𝓣 (Nearer xs ys) (nearer-wf xs ys) Head turns (record { i = 1; line = r; value = w; some = omega arith; most = omega arith; is = line-first geop xs ys r same e; has = is })))))))
             where
               scaled : (n - 1) * 16 < 2 ^ 64
               scaled = omega (arith, g₂ .1)
@@ -419,8 +419,8 @@ module _ {M : Type 1} (𝓤 : URA M) (H : Heap 𝓤) (A : Atoms 𝓤) (W : Given
             calls-at ! fm Anywhere knows-anywhere to-anywhere (no-more !)
             (λ w₁. hears ! tt O.the-row _ _ said-anywhere w₁ (λ r e₁ is₁.
             land ! (from ! (stop !)) (init ! 4 refl (EL.lawful O.the-type O′.the-laws 𝓤 H A W tt .typed r _ is₁ .0)) $
-            returns-within ! Post refl (look ! 4 refl) $ forget ! 4 refl $ forget ! 5 refl $ forget ! 6 refl $ forget ! 7 refl $ forget ! 11 refl $ forget ! 12 refl $ forget ! 13 refl $ leaves w₁ r (e₁ ∙ no-polygon xs ys t e none) is₁)))
-            (λ one. skips ! $ forget ! 11 refl $ forget ! 12 refl $ forget ! 13 refl $ by ! (begins (as-many m n (is-pair m n t e one)) (not-empty m n (is-pair m n t e one)) (a-polygon xs ys t e (not-not t one))))))
+            returns-within ! Post refl (look ! 4 refl) $ forget ! 4 refl $ forget ! 5 refl $ forget ! 6 refl $ forget ! 7 refl $ forget ! 11 refl $ forget ! 12 refl $ forget ! 13 refl $ leaves w₁ r (e₁ ∙ no-polygon geop xs ys t e none) is₁)))
+            (λ one. skips ! $ forget ! 11 refl $ forget ! 12 refl $ forget ! 13 refl $ by ! (begins (as-many m n (is-pair m n t e one)) (not-empty m n (is-pair m n t e one)) (a-polygon geop xs ys t e (not-not t one))))))
 
         -- the slices are passed, and what is had of them is taken apart
         enters : Sq W (room pair l₂₅ ∷ dies pair l₂₅ ∷ room tyPtr l₂₄ ∷ dies tyPtr l₂₄ ∷ room word l₂₃ ∷ dies word l₂₃ ∷ room pair l₂₂ ∷ dies pair l₂₂ ∷ room tyPtr l₂₁ ∷ dies tyPtr l₂₁

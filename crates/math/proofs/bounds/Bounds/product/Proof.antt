@@ -1,10 +1,10 @@
--- `corners` equals its definition: the least and the greatest of the four products, each pick taken from a number.
+-- `product` equals its definition: the least and the greatest of the four products, each pick taken from a number.
 use lib.Ieee.{nanBits, ofBits, neg}
 use Rattle.math.specs.Scalars.{corners}
 use Rattle.math.proofs.Picks.{least-of, most-of}
 use borrow.Author.Needs.{needs}
-use Rattle.math.proofs.scalars.Scalar.corners.Statement.{statement}
-use Rattle.math.proofs.scalars.Scalar.corners.Tie as tie
+use Rattle.math.proofs.bounds.Bounds.product.Statement.{statement}
+use Rattle.math.proofs.bounds.Bounds.product.Tie as tie
 
 float-from-bits-inf : tie.Need-float-from-bits-inf
 unfolding nanBits
@@ -48,8 +48,8 @@ returns c =
     let lo = least-of _ _ _ _ _ _ _ _ (l1 .lesser .ensures) (l2 .lesser2 .ensures) (l3 .lesser3 .ensures) (l4 .lesser4 .ensures) in
     λ i. record { lo = lo i; hi = hi i }
 
-pub corners-spec : {M : Type 1} → statement M
-corners-spec =
+pub product-spec : {M : Type 1} → statement M
+product-spec =
     tie.close
     (tie.spec
     float-from-bits-inf
