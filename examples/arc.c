@@ -1,4 +1,5 @@
-/* The question of arc.txt, asked from C: prints the same seven lines as bin/gripcheck examples/arc.txt. */
+/* The question of arc.txt, asked from C: prints the same seven lines as bin/gripcheck examples/arc.txt. A first argument is the revision of the arithmetic, as
+ * behind 'rev=' in a text; without one it is 1. */
 #include <inttypes.h>
 #include <stdio.h>
 #include <stdlib.h>
@@ -16,8 +17,9 @@ static void print_bound(const char *name, int enclosed, double x)
         printf("%s=-\n", name);
 }
 
-int main(void)
+int main(int argc, char **argv)
 {
+    size_t rev = argc > 1 ? strtoul(argv[1], NULL, 10) : 1;
     enum { DIM = 2, DEGREE = 2, COUNT = 3, NODES = 64 };
     static const double knots[COUNT + DEGREE + 1] = {0, 0, 0, 1, 1, 1};
     static const double points[2 * (DIM + 1) * COUNT] = {
@@ -38,8 +40,9 @@ int main(void)
     double bounds[2];
     if (work == NULL)
         return 1;
-    uint64_t refusal = puhlwazo_curve_could_contain(DIM, DEGREE, COUNT, knots, sizeof knots / sizeof *knots, points, sizeof points / sizeof *points,
-                                                    box, sizeof box / sizeof *box, 0.001, NODES, work, words_needed, counts, bounds);
+    uint64_t refusal = puhlwazo_curve_could_contain(rev, DIM, DEGREE, COUNT, knots, sizeof knots / sizeof *knots, points,
+                                                    sizeof points / sizeof *points, box, sizeof box / sizeof *box, 0.001, NODES, work, words_needed,
+                                                    counts, bounds);
     free(work);
 
     if (refusal != 0)

@@ -1,4 +1,5 @@
-//! The question of arc.txt, asked from Rust: prints the same seven lines as bin/gripcheck examples/arc.txt.
+//! The question of arc.txt, asked from Rust: prints the same seven lines as bin/gripcheck examples/arc.txt. A first argument is the revision of the
+//! arithmetic, as behind 'rev=' in a text; without one it is 1.
 
 mod puhlwazo {
     //! A safe face of the library: slices become pointers and lengths, and the numbers of an answer one enum.
@@ -10,6 +11,7 @@ mod puhlwazo {
     unsafe extern "C" {
         fn puhlwazo_work_words(dim: usize, degree: usize, count: usize, nodes: usize) -> usize;
         fn puhlwazo_curve_could_contain(
+            rev: usize,
             dim: usize,
             degree: usize,
             count: usize,
@@ -67,8 +69,9 @@ mod puhlwazo {
         unsafe { puhlwazo_work_words(curve.dim, curve.degree, curve.count, nodes) }
     }
 
-    /// Whether the curve passes through the box, and between which two parameters.
+    /// Whether the curve passes through the box, and between which two parameters, in a revision of the arithmetic: 1 or 2.
     pub fn curve_could_contain(
+        rev: usize,
         curve: &Curve,
         point_box: &[f64],
         resolution: f64,
@@ -79,6 +82,7 @@ mod puhlwazo {
         // SAFETY: pointers and lengths are those of slices, and what is written overlaps nothing, since it is borrowed mutably.
         let refusal = unsafe {
             puhlwazo_curve_could_contain(
+                rev,
                 curve.dim,
                 curve.degree,
                 curve.count,
@@ -125,10 +129,11 @@ fn main() {
             4.0, 4.0, 0.0, 0.0, 1.0, 1.0, // (4, 0)
         ],
     };
+    let rev = std::env::args().nth(1).map_or(1, |word| word.parse().unwrap_or(0));
     let nodes = 64;
     let mut work = vec![0.0; work_words(&curve, nodes)];
     let (result, counts, pending, bounds) =
-        match curve_could_contain(&curve, &[1.9, 2.1, 1.9, 2.1], 0.001, nodes, &mut work) {
+        match curve_could_contain(rev, &curve, &[1.9, 2.1, 1.9, 2.1], 0.001, nodes, &mut work) {
             Found::Nothing(counts) => ("none".to_string(), counts, 0, None),
             Found::Enclosed(lo, hi, counts) => ("enclosed".to_string(), counts, 0, Some((lo, hi))),
             Found::Spent(pending, counts) => ("spent".to_string(), counts, pending, None),

@@ -34,7 +34,7 @@ extern "C" {
 #endif
 
 /* Counted up when a declaration below changes its meaning or its form. */
-#define PUHLWAZO_VERSION 3
+#define PUHLWAZO_VERSION 4
 
 /* How many numbers a call writes to `counts`. They may become more in a later version, behind the ones that are there: give the array this length. */
 #define PUHLWAZO_COUNTS 5
@@ -55,7 +55,9 @@ enum {
     PUHLWAZO_REFUSED = 3   /* the call is refused, by the number that the function gives */
 };
 
-/* dim         coordinates: 2 or 3
+/* rev         the revision of the arithmetic. 1: every bound is moved outward by one double, as the Rust library geop does it. 2: the tightest bounds of
+ *             IEEE 1788; a bound is moved only where rounding left it inside the exact one. Whatever is said here holds of both
+ * dim         coordinates: 2 or 3
  * degree      at most 7
  * count       control points: from degree + 1 to 32
  * knots       count + degree + 1 numbers that never fall
@@ -65,15 +67,16 @@ enum {
  * resolution  a piece of the path is not halved where its size, or its part of the domain, is no larger. Cutting a piece down to what the box leaves of it does
  *             not look at the resolution: with any of them a piece can still be cut
  * nodes       at most so many pieces are visited: at most 4,096
- * work        lent memory: at least puhlwazo_work_words(dim, degree, count, nodes) numbers, with any contents. A refusal by 1 to 10 leaves it as it was; any
- *             other call leaves 0 in its first puhlwazo_work_words(..) numbers, and the rest as it was
+ * work        lent memory: at least puhlwazo_work_words(dim, degree, count, nodes) numbers, with any contents. A refusal by 16 or by 1 to 10 leaves it as it
+ *             was; any other call leaves 0 in its first puhlwazo_work_words(..) numbers, and the rest as it was
  * counts      gets [0] the kind of the answer; [1] visited: how many pieces were; [2] pending: how many were left (0 unless spent); [3] cuts: how often an end
  *             was cut off, 1 or 2 for each piece that was cut down to what the box leaves of it and queued, also where it still waits at the end; [4] depth:
  *             how often the piece that was halved most had been halved, of those that were visited. It is below visited, unless both are 0.
- *             [1] to [4] are 0 after a refusal by 1 to 10, and where the box misses at once
+ *             [1] to [4] are 0 after a refusal by 16 or by 1 to 10, and where the box misses at once
  * bounds      gets lo and hi: both finite, in the domain, and lo at most hi (0 and 0 unless enclosed)
  *
- * Gives 0, or the number of the refusal; of several the least:
+ * Gives 0, or the number of the refusal; of several the one that stands first here, 16 before 1:
+ *   16  rev is not 1 or 2
  *    1  dim is not 2 or 3
  *    2  degree is above 7
  *    3  count is below degree + 1 or above 32
@@ -88,6 +91,7 @@ enum {
  *   11  in a piece that the search cut, the lo of a weight is not above 0 any more: counts[1] tells after how many visits, counts[3] has the cuts before that
  *       piece, and counts[4] the depth up to the last visit. The curve itself is at fault */
 uint64_t puhlwazo_curve_could_contain(
+    size_t rev,
     size_t dim, size_t degree, size_t count,
     const double *knots, size_t knots_length,
     const double *points, size_t points_length,
@@ -96,8 +100,8 @@ uint64_t puhlwazo_curve_could_contain(
     double *work, size_t work_length,
     uint64_t counts[PUHLWAZO_COUNTS], double bounds[2]);
 
-/* How many numbers of work area a call with these sizes needs; 0 exactly for sizes that are refused by 1, 2, 3 or 9, whatever else is lent: there is nothing to
- * ask then. */
+/* How many numbers of work area a call with these sizes needs, in either revision; 0 exactly for sizes that are refused by 1, 2, 3 or 9, whatever else is
+ * lent: there is nothing to ask then. */
 size_t puhlwazo_work_words(size_t dim, size_t degree, size_t count, size_t nodes);
 
 #ifdef __cplusplus

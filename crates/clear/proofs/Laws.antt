@@ -4,9 +4,8 @@ use mathlib.Core.Bool.{true, false}
 use mathlib.Core.List.{List}
 use Prim.Native.Nat.{ℕ, zero, suc}
 use lib.Ieee.{Float}
-use Rattle.math.specs.Scalars.{geop}
 use Rattle.math.proofs.Bools.{yes, no}
-use Rattle.model.specs.Call.{Call, refusal, searchedBy, searched}
+use Rattle.model.specs.Call.{Call, refusal, arithmeticOf, searchedBy, searched, answerTo}
 use Rattle.model.specs.Enclosure.{Accepted, HitsEnclosed}
 use Rattle.model.specs.declared.contains.Found.{Found}
 use Rattle.model.specs.declared.contains.Found.the-variants.{Nothing}
@@ -14,17 +13,17 @@ use Rattle.model.specs.Promise.{Answers}
 use Rattle.clear.specs.Clear.{isClear, Clears}
 
 -- a refused call does not come out as nothing
-pub accepted : (c : Call) (v k d : ℕ) → Nothing v k d ≡ searched geop c → Accepted c
+pub accepted : (c : Call) (v k d : ℕ) → Nothing v k d ≡ answerTo c → Accepted c
 unfolding searched searchedBy isClear
 accepted c v k d h = go (refusal c) refl h
   where
-    go : (n : ℕ) → refusal c ≡ n → Nothing v k d ≡ searchedBy geop c n → refusal c ≡ 0
+    go : (n : ℕ) → refusal c ≡ n → Nothing v k d ≡ searchedBy (arithmeticOf c) c n → refusal c ≡ 0
     go zero e h = e
     go (suc n) e h = absurd (no true (ap isClear h) tt)
 
 module _ (c : Call) (before after : List Float) (r : Found) (P : Answers c before after r) where
   -- The promises, of the answer that the definition gives.
-  same : Answers c before after (searched geop c)
+  same : Answers c before after (answerTo c)
   same = subst (Answers c before after) (P .result) P
 
   pub clear : (v k d : ℕ) → r ≡ Nothing v k d → Clears c before after true

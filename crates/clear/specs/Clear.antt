@@ -4,8 +4,7 @@ use mathlib.Core.Bool.{Bool, true, false}
 use mathlib.Core.List.{List}
 use lib.Ieee.{Float}
 use Rattle.exact.specs.Rational.{ℚ}
-use Rattle.math.specs.Scalars.{geop}
-use Rattle.model.specs.Call.{Call, searched}
+use Rattle.model.specs.Call.{Call, answerTo}
 use Rattle.model.specs.Enclosure.{HitAt}
 use Rattle.model.specs.Promise.{Answers}
 use Rattle.model.specs.declared.contains.Found.{Found}
@@ -21,8 +20,8 @@ isClear (Refused n v k d) = false
 -- The call c, which found `before` in its work area and left `after`, was found to be clear (r), or not.
 pub record Clears (c : Call) (before after : List Float) (r : Bool) : Type 0 where
   -- It is clear where the search says so.
-  pub result : r ≡ isClear (searched geop c)
+  pub result : r ≡ isClear (answerTo c)
   -- The search keeps its promises; of these, the work area's is about what is seen here.
-  pub answers : Answers c before after (searched geop c)
+  pub answers : Answers c before after (answerTo c)
   -- A curve that is clear meets the box at no parameter t of its domain, both ends included.
   pub clear : r ≡ true → (t : ℚ) → HitAt c t → ⊥

@@ -5,8 +5,9 @@ ghost use lib.ListN.{length};
 ghost use Rattle.model.specs.Call.{lent};
 ghost use Rattle.clear.specs.Clear.{Clears};
 
-// The search has shown that the curve meets the box at no parameter t of its domain, a rational number, both ends included. A search that was refused or spent has shown nothing.
+// The search has shown, in the revision that is named, that the curve meets the box at no parameter t of its domain, a rational number, both ends included. A search that was refused or spent has shown nothing.
 pub fn is_clear(
+    rev: usize,
     dim: usize,
     degree: usize,
     count: usize,
@@ -19,10 +20,11 @@ pub fn is_clear(
 ) -> bool
     ensures { λ r.
         let k = now (knots .entry) in let p = now (points .entry) in let b = now («point_box» .entry) in
-        let c = lent dim degree count k p b resolution nodes (length (now (work .entry))) in
+        let c = lent rev dim degree count k p b resolution nodes (length (now (work .entry))) in
         ⌜ Clears c (now (work .entry)) (now (work .exit)) r ⌝ }
 {
     match curve_could_contain(
+        rev,
         dim,
         degree,
         count,

@@ -1,4 +1,5 @@
-// What a call may lend: the checks 1 to 10 of the scope, each equal to its definition. 1 to 3 look at the sizes, 1 to 8 at a curve, 9 and 10 at the nodes and the work area.
+// What a call may lend: the check 16 of request E8 and 1 to 10 of the scope, each equal to its definition. 16 looks at the revision, 1 to 3 at the sizes, 1 to 8 at a curve,
+// 9 and 10 at the nodes and the work area.
 use crate::nurb_curve::weights_positive;
 ghost use mathlib.Core.Path.{_≡_};
 ghost use Prim.Native.Nat.{suc, max, _+_, _*_, _≤_, _<_};
@@ -9,7 +10,7 @@ ghost use mathlib.Core.Bool.{true, _&&_, _||_};
 ghost use Rattle.lists.specs.Lists.{all};
 ghost use Rattle.math.specs.Scalars.{zeroF};
 ghost use Rattle.model.specs.Layout.{scalarsOf, slotWords};
-ghost use Rattle.model.specs.Call.{AllDoubles, curveOf, lent, usable, ordered, rising, multiplicityOk, knotsValid, nodesFit, sizesRefusal, statedWords};
+ghost use Rattle.model.specs.Call.{AllDoubles, curveOf, lent, usable, ordered, rising, multiplicityOk, knotsValid, nodesFit, revisionFits, revisionRefusal, sizesRefusal, statedWords};
 ghost use Rattle.geometry.specs.Call.{CurveRefused, CallRefused};
 ghost use Rattle.geometry.specs.Multiplicity.{repeatsAt, multiplicityOkAt};
 
@@ -144,6 +145,23 @@ fn knots_valid(degree: usize, count: usize, knots: &[f64]) -> bool
         return false;
     }
     multiplicities_ok(degree, a, b, knots)
+}
+
+// 16: the revision is 1 or 2.
+pub(crate) fn revision_fits(rev: usize) -> bool
+    ensures { λ r. ⌜ r ≡ revisionFits rev ⌝ }
+{
+    rev == 1 || rev == 2
+}
+
+// 16, or 0 where the revision is 1 or 2.
+pub fn revision_refusal(rev: usize) -> usize
+    ensures { λ r. ⌜ r ≡ revisionRefusal rev ⌝ }
+{
+    if !revision_fits(rev) {
+        return 16;
+    }
+    0
 }
 
 // 1: the dimension is 2 or 3.
@@ -301,8 +319,9 @@ pub fn stated_words(dim: usize, degree: usize, count: usize, nodes: usize) -> us
     (nodes + 3) * slot_words(dim, degree, count)
 }
 
-// The number from 1 to 10 by which a call is refused, or 0.
+// The number by which a call is refused, or 0: 16, then 1 to 10.
 pub(crate) fn refusal(
+    rev: usize,
     dim: usize,
     degree: usize,
     count: usize,
@@ -315,8 +334,12 @@ pub(crate) fn refusal(
 ) -> usize
     ensures { λ r.
         let k = now (knots .entry) in let p = now (points .entry) in let b = now («point_box» .entry) in
-        ⌜ CallRefused (lent dim degree count k p b resolution nodes «work_len») r ⌝ }
+        ⌜ CallRefused (lent rev dim degree count k p b resolution nodes «work_len») r ⌝ }
 {
+    let first = revision_refusal(rev);
+    if first != 0 {
+        return first;
+    }
     let number = curve_refusal(
         dim,
         degree,

@@ -23,10 +23,10 @@ use model::subdivide::Counts;
 ghost use mathlib.Core.Path.{_≡_};
 ghost use Prim.Native.Nat.{_+_, _*_, _≤_, _<_};
 ghost use lib.ListN.{length};
-ghost use Rattle.math.specs.Scalars.{geop};
+ghost use Rattle.math.specs.Revision.{arithmetic};
 ghost use Rattle.model.specs.Contains.{visit};
 ghost use Rattle.model.specs.Subdivide.{positiveZero, complete};
-ghost use Rattle.model.specs.Call.{lent};
+ghost use Rattle.model.specs.Call.{lent, arithmeticOf};
 ghost use Rattle.model.specs.Enclosure.{Doubles, Accepted};
 ghost use Rattle.model.specs.Promise.{Answers};
 ghost use Rattle.geometry.specs.Call.{Searches};
@@ -98,13 +98,14 @@ fn visit_next(
     slots: usize,
     w: usize,
     d: usize,
+    second: bool,
 ) -> Outcome
     requires { ⌜ Ring s (now work) slots (q .head) (q .pending) × (1 ≤ q .pending) × (q .pending + 1 < slots) ⌝ }
     requires { ⌜ (slots ≤ 0x1000_0000) × (w ≡ wordsOf s) × (d ≤ 0x1000) ⌝ }
-    requires { ⌜ Fit geop s (pieceAt s (now work) (baseOf s (q .head))) × (2 * s .dim ≤ length (now «point_box»)) ⌝ }
+    requires { ⌜ Fit (arithmetic second) s (pieceAt s (now work) (baseOf s (q .head))) × (2 * s .dim ≤ length (now «point_box»)) ⌝ }
     ensures { λ r.
         let l = now (work .entry) in
-        let seen = visit geop (askedOf s (now («point_box» .entry)) resolution 0) (pieceAt s l (baseOf s (q .head))) in
+        let seen = visit (arithmetic second) (askedOf s (now («point_box» .entry)) resolution 0) (pieceAt s l (baseOf s (q .head))) in
         let a = ringBase s slots (q .head) (q .pending) in
         let b = ringBase s slots (q .head) (q .pending + 1) in
         ⌜ Turned seen s a b d l (now (work .exit)) r ⌝ }
@@ -113,7 +114,16 @@ fn visit_next(
     let pending = q.pending;
     let a = slot_base(0, w, wrap(head + pending, slots));
     let b = slot_base(0, w, wrap(head + (pending + 1), slots));
-    let o = visit(work, slot_base(0, w, head), a, b, s, point_box, resolution);
+    let o = visit(
+        work,
+        slot_base(0, w, head),
+        a,
+        b,
+        s,
+        point_box,
+        resolution,
+        second,
+    );
     set_depths(work, a, b, s, w, d, o);
     o
 }
@@ -125,12 +135,13 @@ fn search_ring(
     point_box: &[f64],
     resolution: f64,
     nodes: usize,
+    second: bool,
 ) -> Found
-    requires { ⌜ Begins geop s (askedOf s (now «point_box») resolution nodes) (now work) ⌝ }
+    requires { ⌜ Begins (arithmetic second) s (askedOf s (now «point_box») resolution nodes) (now work) ⌝ }
     requires { ⌜ 2 * s .dim ≤ length (now «point_box») ⌝ }
     ensures { λ r.
         let asked = askedOf s (now («point_box» .entry)) resolution nodes in
-        ⌜ RingSearched geop s asked (now (work .entry)) (now (work .exit)) r ⌝ }
+        ⌜ RingSearched (arithmetic second) s asked (now (work .entry)) (now (work .exit)) r ⌝ }
 {
     let w = slot_words(s.dim, s.degree, s.count);
     let slots = nodes + 3;
@@ -153,7 +164,7 @@ fn search_ring(
             return Found::Spent(q.pending, v.visited, v.cuts, v.depth);
         }
         let d = next_depth(work, q, s, w);
-        let o = visit_next(work, q, s, point_box, resolution, slots, w, d);
+        let o = visit_next(work, q, s, point_box, resolution, slots, w, d, second);
         q = after_visit(q, d, o, slots);
         if has_bad_weight(o) {
             let v = q.counts;
@@ -167,6 +178,7 @@ fn search_ring(
 
 // The search of a call that nothing is wrong with. The stated words of the work area are 0 at its end.
 fn search_lent(
+    rev: usize,
     dim: usize,
     degree: usize,
     count: usize,
@@ -177,28 +189,30 @@ fn search_lent(
     nodes: usize,
     work: &mut [f64],
 ) -> Found
-    requires { let c = lent dim degree count (now knots) (now points) (now «point_box») resolution nodes (length (now work)) in
+    requires { let c = lent rev dim degree count (now knots) (now points) (now «point_box») resolution nodes (length (now work)) in
         ⌜ Accepted c × Doubles c ⌝ }
     ensures { λ r.
         let k = now (knots .entry) in let p = now (points .entry) in let b = now («point_box» .entry) in
-        let c = lent dim degree count k p b resolution nodes (length (now (work .entry))) in
-        ⌜ Searches geop c (now (work .entry)) (now (work .exit)) r ⌝ }
+        let c = lent rev dim degree count k p b resolution nodes (length (now (work .entry))) in
+        ⌜ Searches (arithmeticOf c) c (now (work .entry)) (now (work .exit)) r ⌝ }
 {
+    let second = rev == 2;
     let words = stated_words(dim, degree, count, nodes);
-    if !curve_could_meet_aabb(points, point_box, dim, degree, count) {
+    if !curve_could_meet_aabb(points, point_box, dim, degree, count, second) {
         fill(work, 0, words, 0.0);
         return Found::Nothing(0, 0, 0);
     }
     let s = Shape { dim, degree, count };
     load(work, 0, s, knots, points);
     set_depth(work, 0, slot_words(dim, degree, count), 0);
-    let r = search_ring(work, s, point_box, resolution, nodes);
+    let r = search_ring(work, s, point_box, resolution, nodes, second);
     fill(work, 0, words, 0.0);
     r
 }
 
 // Whether the curve passes through the box, and between which two parameters.
 //
+// `rev` names the revision of the arithmetic: 1 is the Rust's, 2 the tightest bounds of IEEE 1788. Any other number is refused by 16.
 // The curve has `count` control points, of `dim` coordinates and a weight, and `degree`. `points` holds lo and hi of each coordinate and, last, of the
 // weight, one point behind the other; each coordinate is multiplied by the weight. `knots` are count + degree + 1 numbers. `point_box` holds lo and hi of
 // the box on each axis. A piece is not halved where its size, or its part of the domain, is no larger than `resolution`; cutting it down to what the box leaves
@@ -211,6 +225,7 @@ fn search_lent(
 // Nothing is asked of the caller: every input comes to a result. Each promise is a field of `Answers` (crates/model/specs/Promise.antt), under a sentence:
 // result, paper, memory, encloses, within, zeros, order, debug.
 pub fn curve_could_contain(
+    rev: usize,
     dim: usize,
     degree: usize,
     count: usize,
@@ -223,10 +238,11 @@ pub fn curve_could_contain(
 ) -> Found
     ensures { λ r.
         let k = now (knots .entry) in let p = now (points .entry) in let b = now («point_box» .entry) in
-        let c = lent dim degree count k p b resolution nodes (length (now (work .entry))) in
+        let c = lent rev dim degree count k p b resolution nodes (length (now (work .entry))) in
         ⌜ Answers c (now (work .entry)) (now (work .exit)) r ⌝ }
 {
     let number = refusal(
+        rev,
         dim,
         degree,
         count,
@@ -241,6 +257,7 @@ pub fn curve_could_contain(
         return Found::Refused(number as u64, 0, 0, 0);
     }
     search_lent(
+        rev,
         dim,
         degree,
         count,

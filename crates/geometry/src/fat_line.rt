@@ -19,11 +19,13 @@ ghost use Prim.Native.Nat.{_+_, _*_, _≤_, _<_, suc};
 ghost use lib.ListN.{length};
 ghost use Rattle.lists.specs.Lists.{put};
 ghost use Rattle.math.specs.Scalars.{geop, ZERO, zeroF, sharp, middle, widthS};
-ghost use Rattle.math.specs.Bounds.{overS};
+ghost use Rattle.math.specs.Tight.{tight};
+ghost use Rattle.math.specs.Revision.{arithmetic};
+ghost use Rattle.math.specs.Bounds.{overS, divisorOf};
 ghost use Rattle.model.specs.Layout.{scalarsOf, pointAt, pointsOf, flat};
 ghost use Rattle.model.specs.Aabb.{unions};
 ghost use Rattle.model.specs.FatLine.{window, greville, crossing, fatLineZeros, cartesian, square, distance, extent, toF64, widest, carriedBy, carriedWidth, restricts, halves};
-ghost use Rattle.geometry.specs.Abscissae.{summed, held};
+ghost use Rattle.geometry.specs.Abscissae.{summed, meanOver, held};
 ghost use Rattle.geometry.specs.Zeros.{fromFirst, chordAt, offRun, levelZeros, slopedZeros};
 ghost use lib.Dec.{ltb};
 ghost use lib.Ieee.{binary64, add, sub, div, lt};
@@ -41,17 +43,41 @@ pub(crate) fn window(knots: &[f64], i: usize, degree: usize) -> &[f64]
     &knots[i + 1..i + degree + 1]
 }
 
-// The sum of a window of knots, over their number: their mean.
-fn abscissa(w: &[f64], number: Divisor) -> Scalar
+// The sum of a window of knots, over their number: their mean, in revision 1.
+fn abscissa_wide(w: &[f64], number: Divisor) -> Scalar
     ensures { λ r. ⌜ r ≡ overS (summed geop ZERO (now (w .entry))) number ⌝ }
 {
     let mut sum = Scalar::ZERO;
     let mut j = 0;
     while j < w.len() {
-        sum = sum.add(Scalar::from_f64(w[j]));
+        sum = sum.add(Scalar::from_f64(w[j]), false);
         j += 1;
     }
     sum.over(number)
+}
+
+// The same in revision 2.
+fn abscissa_tight(w: &[f64], number: Scalar) -> Scalar
+    ensures { λ r. ⌜ r ≡ meanOver tight (now (w .entry)) number ⌝ }
+{
+    let mut sum = Scalar::ZERO;
+    let mut j = 0;
+    while j < w.len() {
+        sum = sum.add(Scalar::from_f64(w[j]), true);
+        j += 1;
+    }
+    value_or_entire(sum.div(number, true))
+}
+
+// The same in the revision that is asked for.
+fn abscissa(w: &[f64], number: Divisor, second: bool) -> Scalar
+    requires { ⌜ number ≡ divisorOf (number .value) ⌝ }
+    ensures { λ r. ⌜ r ≡ meanOver (arithmetic second) (now (w .entry)) (number .value) ⌝ }
+{
+    if second {
+        return abscissa_tight(w, number.value);
+    }
+    abscissa_wide(w, number)
 }
 
 // Whether there are abscissae: degree 0 has none.
@@ -67,9 +93,14 @@ pub struct Abscissae {
 }
 
 // One abscissa for each point.
-pub(crate) fn greville_abscissae(knots: &[f64], degree: usize, count: usize) -> Abscissae
+pub(crate) fn greville_abscissae(
+    knots: &[f64],
+    degree: usize,
+    count: usize,
+    second: bool,
+) -> Abscissae
     requires { ⌜ (degree ≤ 7) × ((count ≤ 32) × (count + degree ≤ length (now knots))) ⌝ }
-    ensures { λ r. ⌜ r ≡ held (greville geop degree count (now (knots .entry))) ⌝ }
+    ensures { λ r. ⌜ r ≡ held (greville (arithmetic second) degree count (now (knots .entry))) ⌝ }
 {
     let mut at = [0.0; 64];
     if degree == 0 {
@@ -81,7 +112,7 @@ pub(crate) fn greville_abscissae(knots: &[f64], degree: usize, count: usize) -> 
     let number = Divisor::of(Scalar::from_f64(degree as f64));
     let mut i = 0;
     while i < count {
-        let x = abscissa(window(knots, i, degree), number);
+        let x = abscissa(window(knots, i, degree), number, second);
         at[2 * i] = x.lo;
         at[2 * i + 1] = x.hi;
         i += 1;
@@ -107,15 +138,15 @@ pub(crate) fn unions(l: &[f64], count: usize) -> Scalar
 }
 
 // How far each abscissa lies from the first, written to the front of dx.
-pub(crate) fn from_first(xi: &[f64], count: usize, dx: &mut [f64])
+pub(crate) fn from_first(xi: &[f64], count: usize, dx: &mut [f64], second: bool)
     requires { ⌜ (0 < count) × ((2 * count ≤ length (now xi)) × (2 * count ≤ length (now dx))) ⌝ }
     ensures { λ _.
-        ⌜ now (dx .exit) ≡ put (now (dx .entry)) 0 (flat (fromFirst geop (scalarsOf count (now (xi .entry))))) ⌝ }
+        ⌜ now (dx .exit) ≡ put (now (dx .entry)) 0 (flat (fromFirst (arithmetic second) (scalarsOf count (now (xi .entry))))) ⌝ }
 {
     let x0 = scalar_at(xi, 0);
     let mut i = 0;
     while i < count {
-        let x = scalar_at(xi, i).sub(x0);
+        let x = scalar_at(xi, i).sub(x0, second);
         dx[2 * i] = x.lo;
         dx[2 * i + 1] = x.hi;
         i += 1;
@@ -123,26 +154,64 @@ pub(crate) fn from_first(xi: &[f64], count: usize, dx: &mut [f64])
 }
 
 // The chord from a point of value y0, at a run of x from there.
-pub(crate) fn chord(slope: Scalar, y0: Scalar, x: Scalar) -> Scalar
-    ensures { λ r. ⌜ r ≡ chordAt geop slope y0 x ⌝ }
+pub(crate) fn chord(slope: Scalar, y0: Scalar, x: Scalar, second: bool) -> Scalar
+    ensures { λ r. ⌜ r ≡ chordAt (arithmetic second) slope y0 x ⌝ }
 {
-    y0.add(slope.times(x))
+    y0.add(slope.times(x, second), second)
 }
 
-// The union of the offsets of all points, the first too, which is widened once, since the neighbours of doubles keep their order.
-pub(crate) fn band(dx: &[f64], d: &[f64], count: usize, slope: Scalar, y0: Scalar) -> Scalar
+// The union of the offsets of all points, the first too, in revision 1: widened once, since the neighbours of doubles keep their order.
+fn band_wide(dx: &[f64], d: &[f64], count: usize, slope: Scalar, y0: Scalar) -> Scalar
     requires { ⌜ (0 < count) × ((2 * count ≤ length (now dx)) × (2 * count ≤ length (now d))) ⌝ }
     ensures { λ r.
         let runs = scalarsOf count (now (dx .entry)) in
         ⌜ r ≡ unions (zipWith (λ x y. offRun geop slope y0 x y) runs (scalarsOf count (now (d .entry)))) ⌝ }
 {
-    let mut all = Bounds::difference(scalar_at(d, 0), chord(slope, y0, scalar_at(dx, 0)));
+    let mut all = Bounds::difference(scalar_at(d, 0), chord(slope, y0, scalar_at(dx, 0), false));
     let mut i = 1;
     while i < count {
-        all = all.join(Bounds::difference(scalar_at(d, i), chord(slope, y0, scalar_at(dx, i))));
+        let y = scalar_at(d, i);
+        all = all.join(Bounds::difference(y, chord(slope, y0, scalar_at(dx, i), false)));
         i += 1;
     }
     all.widen()
+}
+
+// The same in revision 2: the union of the offsets, each of them rounded outward.
+fn band_tight(dx: &[f64], d: &[f64], count: usize, slope: Scalar, y0: Scalar) -> Scalar
+    requires { ⌜ (0 < count) × ((2 * count ≤ length (now dx)) × (2 * count ≤ length (now d))) ⌝ }
+    ensures { λ r.
+        let runs = scalarsOf count (now (dx .entry)) in
+        ⌜ r ≡ unions (zipWith (λ x y. offRun tight slope y0 x y) runs (scalarsOf count (now (d .entry)))) ⌝ }
+{
+    let mut all = scalar_at(d, 0).sub(chord(slope, y0, scalar_at(dx, 0), true), true);
+    let mut i = 1;
+    while i < count {
+        let y = scalar_at(d, i);
+        all = all.union(y.sub(chord(slope, y0, scalar_at(dx, i), true), true));
+        i += 1;
+    }
+    all
+}
+
+// The same in the revision that is asked for.
+pub(crate) fn band(
+    dx: &[f64],
+    d: &[f64],
+    count: usize,
+    slope: Scalar,
+    y0: Scalar,
+    second: bool,
+) -> Scalar
+    requires { ⌜ (0 < count) × ((2 * count ≤ length (now dx)) × (2 * count ≤ length (now d))) ⌝ }
+    ensures { λ r.
+        let runs = scalarsOf count (now (dx .entry)) in
+        ⌜ r ≡ unions (zipWith (λ x y. offRun (arithmetic second) slope y0 x y) runs (scalarsOf count (now (d .entry)))) ⌝ }
+{
+    if second {
+        return band_tight(dx, d, count, slope, y0);
+    }
+    band_wide(dx, d, count, slope, y0)
 }
 
 // The zeros where the chord has no slope, of values in this range: anywhere, if some value could be zero.
@@ -156,40 +225,56 @@ pub(crate) fn level_zeros(range: Scalar) -> Hat
 }
 
 // Where the band crosses zero: anywhere, if the chord could be level.
-pub(crate) fn crossing(x0: Scalar, q: Divided) -> Hat
-    ensures { λ r. ⌜ r ≡ crossing geop x0 q ⌝ }
+pub(crate) fn crossing(x0: Scalar, q: Divided, second: bool) -> Hat
+    ensures { λ r. ⌜ r ≡ crossing (arithmetic second) x0 q ⌝ }
 {
     let Divided::Value(v) = q else {
         return Hat::Over(Scalar::entire());
     };
-    Hat::Over(x0.sub(v))
+    Hat::Over(x0.sub(v, second))
 }
 
 // The zeros where the chord has a slope: nowhere, if the band misses zero from the first point to the last.
-pub(crate) fn sloped_zeros(slope: Scalar, x0: Scalar, y0: Scalar, last: Scalar, band: Scalar) -> Hat
-    ensures { λ r. ⌜ r ≡ slopedZeros geop slope x0 y0 last band ⌝ }
+pub(crate) fn sloped_zeros(
+    slope: Scalar,
+    x0: Scalar,
+    y0: Scalar,
+    last: Scalar,
+    band: Scalar,
+    second: bool,
+) -> Hat
+    ensures { λ r. ⌜ r ≡ slopedZeros (arithmetic second) slope x0 y0 last band ⌝ }
 {
-    if y0.union(last).add(band).could_be_equal(Scalar::ZERO) {
-        return crossing(x0, y0.add(band).div(slope));
+    if y0.union(last)
+        .add(band, second)
+        .could_be_equal(Scalar::ZERO) {
+        return crossing(x0, y0.add(band, second).div(slope, second), second);
     }
     Hat::Missing
 }
 
 // Where the spline could be zero whose graph has the control polygon (xi i, d i). How far each abscissa lies from the first stands in dx.
-pub(crate) fn fat_line_zeros(xi: &[f64], dx: &[f64], d: &[f64], count: usize) -> Hat
+pub(crate) fn fat_line_zeros(xi: &[f64], dx: &[f64], d: &[f64], count: usize, second: bool) -> Hat
     requires { ⌜ (0 < count)
         × ((2 * count ≤ length (now xi)) × ((2 * count ≤ length (now dx)) × (2 * count ≤ length (now d)))) ⌝ }
-    requires { ⌜ scalarsOf count (now dx) ≡ fromFirst geop (scalarsOf count (now xi)) ⌝ }
-    ensures { λ r. ⌜ r ≡ fatLineZeros geop (scalarsOf count (now (xi .entry))) (scalarsOf count (now (d .entry))) ⌝ }
+    requires { ⌜ scalarsOf count (now dx) ≡ fromFirst (arithmetic second) (scalarsOf count (now xi)) ⌝ }
+    ensures { λ r. ⌜ r ≡ fatLineZeros (arithmetic second) (scalarsOf count (now (xi .entry))) (scalarsOf count (now (d .entry))) ⌝ }
 {
     let x0 = scalar_at(xi, 0);
     let y0 = scalar_at(d, 0);
     let last = scalar_at(d, count - 1);
     let run = scalar_at(dx, count - 1);
-    let Divided::Value(slope) = last.sub(y0).div(run) else {
+    let Divided::Value(slope) = last.sub(y0, second).div(run, second) else {
         return level_zeros(unions(d, count));
     };
-    sloped_zeros(slope, x0, y0, last, band(dx, d, count, slope, y0))
+    sloped_zeros(
+        slope,
+        x0,
+        y0,
+        last,
+        band(dx, d, count, slope, y0, second),
+        second,
+    )
 }
 
 // ---- sizes: plain doubles, for choices that need not be exact
@@ -380,18 +465,13 @@ pub(crate) fn carried(points: &[f64], point_box: &[f64], dim: usize, count: usiz
 
 // ---- restriction and stalled, on a domain from a to b
 
-// Four fifths, as an interval.
-fn four_fifths() -> Scalar
-    ensures { λ r. ⌜ r ≡ geop .fourFifths ⌝ }
-{
-    value_or_entire(Scalar::from_ratio(4, 5))
-}
-
 // The hat is definitely below four fifths of the domain.
-fn narrow(a: f64, b: f64, hat: Scalar) -> bool
-    ensures { λ r. ⌜ r ≡ lt (widthS hat) (geop .mul (sharp (widthS (domain a b))) (geop .fourFifths) .lo) ⌝ }
+fn narrow(a: f64, b: f64, hat: Scalar, second: bool) -> bool
+    ensures { λ r. ⌜ r ≡ lt (widthS hat) ((arithmetic second) .mul (sharp (widthS (domain a b))) ((arithmetic second) .fourFifths) .lo) ⌝ }
 {
-    let most = domain(a, b).width().mul(four_fifths());
+    let most = domain(a, b)
+        .width()
+        .mul(Scalar::four_fifths(second), second);
     hat.width().lo < most.lo
 }
 
@@ -403,13 +483,20 @@ fn reaches_in(a: f64, b: f64, hat: Scalar) -> bool
 }
 
 // The piece is to be cut down to the hat: the size definitely exceeds the carried width, and the cut takes off enough.
-pub(crate) fn restriction(a: f64, b: f64, hat: Scalar, size: f64, carried: f64) -> bool
-    ensures { λ r. ⌜ r ≡ restricts geop a b hat size carried ⌝ }
+pub(crate) fn restriction(
+    a: f64,
+    b: f64,
+    hat: Scalar,
+    size: f64,
+    carried: f64,
+    second: bool,
+) -> bool
+    ensures { λ r. ⌜ r ≡ restricts (arithmetic second) a b hat size carried ⌝ }
 {
     if !(carried < size) {
         return false;
     }
-    if !narrow(a, b, hat) {
+    if !narrow(a, b, hat, second) {
         return false;
     }
     reaches_in(a, b, hat)
@@ -437,14 +524,15 @@ pub(crate) fn restricts(
     b: f64,
     hat: Scalar,
     carried: f64,
+    second: bool,
 ) -> bool
     requires { ⌜ (dim ≤ 3) × (1 ≤ count) × (count ≤ 32) × (2 * (suc dim * count) ≤ length (now points)) ⌝ }
-    ensures { λ r. ⌜ r ≡ restricts geop a b hat (extent dim (pointsOf (suc dim) count (now (points .entry)))) carried ⌝ }
+    ensures { λ r. ⌜ r ≡ restricts (arithmetic second) a b hat (extent dim (pointsOf (suc dim) count (now (points .entry)))) carried ⌝ }
 {
     if !reaches_in(a, b, hat) {
         return false;
     }
-    if !narrow(a, b, hat) {
+    if !narrow(a, b, hat, second) {
         return false;
     }
     exceeds(points, dim, count, carried)

@@ -7,7 +7,8 @@ ghost use mathlib.Core.Bool.{true, _&&_};
 ghost use Prim.Native.Nat.{suc, _+_, _*_, _≤_, _<_};
 ghost use lib.ListN.{length};
 ghost use lib.Ieee.{lt};
-ghost use Rattle.math.specs.Scalars.{geop, zeroF, ENTIRE, valueOr, isSame};
+ghost use Rattle.math.specs.Scalars.{zeroF, ENTIRE, valueOr, isSame};
+ghost use Rattle.math.specs.Revision.{arithmetic};
 ghost use Rattle.model.specs.Vector.{coordinate};
 ghost use Rattle.model.specs.Layout.{scalarAt, pointAt, pointsOf};
 ghost use Rattle.model.specs.NurbCurve.{domain, inDomain, midParameter, weightsPositive};
@@ -56,11 +57,11 @@ pub(crate) fn in_domain(a: f64, b: f64, t: f64) -> bool
 }
 
 // The middle of (a + b) / 2.
-pub(crate) fn mid_parameter(a: f64, b: f64) -> f64
-    ensures { λ r. ⌜ r ≡ midParameter geop a b ⌝ }
+pub(crate) fn mid_parameter(a: f64, b: f64, second: bool) -> f64
+    ensures { λ r. ⌜ r ≡ midParameter (arithmetic second) a b ⌝ }
 {
-    let sum = Scalar::from_f64(a).add(Scalar::from_f64(b));
-    value_or_entire(sum.div(Scalar::TWO)).to_f64()
+    let sum = Scalar::from_f64(a).add(Scalar::from_f64(b), second);
+    value_or_entire(sum.div(Scalar::TWO, second)).to_f64()
 }
 
 // Both bounds are above zero.

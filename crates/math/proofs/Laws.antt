@@ -19,16 +19,20 @@ pub use Rattle.math.proofs.Doubles.Nonneg.{square-nonneg, add-number, a
 pub use Rattle.math.proofs.Doubles.Least.{max-either, max-left, max-second}
 -- ---- intervals
 
--- bounds that are not widened yet: what a difference and a quotient are once they are widened, and that they are doubles
-pub use Rattle.math.proofs.Intervals.Bounds.{AreDoubles, difference-doubles, over-doubles, widen-difference, widen-over-own}
--- joined bounds that are doubles are widened once
-pub use Rattle.math.proofs.Intervals.Bounds.{Joins, doubles-join}
+-- bounds of revision 1 that are not widened yet: what a difference and a quotient are once they are widened, and of which kind they are
+pub use Rattle.math.proofs.Intervals.Bounds.{AreDoubles, AreNumbers, difference-doubles, over-numbers, widen-difference, widen-over-own}
+-- bounds are widened once, after they are joined, or picked where they are numbers
+pub use Rattle.math.proofs.Intervals.Bounds.{Gathers, doubles-join, numbers-pick}
 -- a divisor that was made of an interval divides as that does
 pub use Rattle.math.proofs.Intervals.Bounds.{over-own, divisor-own}
 -- a fraction has its alpha, and to go it is to interpolate
 pub use Rattle.math.proofs.Intervals.Factors.{fraction-own, between-own}
 -- the Rust's arithmetic encloses
 pub use Rattle.math.proofs.Intervals.Instance.{geop-encloses}
+-- so does the tightest, and it is the tightest; in either revision the arithmetic encloses and keeps intervals in order
+pub use Rattle.math.proofs.Tight.Instance.{tight-encloses}
+pub use Rattle.math.proofs.Tight.Quotients.{tight-tightest}
+pub use Rattle.math.proofs.Tight.Revisions.{second-is, first-is, encloses, arithmetic-in-order}
 -- ---- the square root
 
 -- the root of a double is a double, and not below zero where the operand is not; a limit is below a root where the square of the next double says so

@@ -1,7 +1,8 @@
--- Laws of plain values: of doubles, of intervals, of the square root. The folders floats/, bounds/, scalars/ and root/ have the proofs of the functions.
+-- Laws of plain values: of doubles, of intervals, of the tightest bounds, of the square root. The folders floats/, digits/, directed/, bounds/, scalars/ and root/ have the proofs of the functions.
 pub mod Bools
 pub mod Doubles
 pub mod Intervals
+pub mod Tight
 pub mod Picks
 pub mod Paper
 pub mod Laws

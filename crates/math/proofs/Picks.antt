@@ -6,8 +6,8 @@ use lib.Ieee.Bits.{is-false}
 use lib.Ieee.Fits.{mul-fits}
 use lib.Dec.{T}
 use Rattle.math.specs.Picks.{lesserF, greaterF, minF, maxF}
-use Rattle.math.specs.Scalars.{least4, most4, corners, addS, subS, mulS, intersectS, sameOperands}
-use Rattle.math.specs.Factors.{betweenS}
+use Rattle.math.specs.Scalars.{Arithmetic, least4, most4, corners, intersectS, sameOperands}
+use Rattle.math.specs.Factors.{bothWays, betweenS}
 use Rattle.math.specs.declared.scalars.Scalar.{Scalar}
 use Rattle.math.specs.declared.scalars.Fraction.{Fraction}
 use Rattle.math.proofs.Bools.{pick-yes, pick-no}
@@ -119,17 +119,21 @@ module _ (x y : Scalar) (l h : Float) (L : l ≡ maxF (x .lo) (y .lo)) (H : h �
   unfolding intersectS
   second e f = rw (test false e, f)
 
--- and of two sums
-pub sums-meet : (a m p q x y r : Scalar) → x ≡ addS a m → y ≡ addS p q → r ≡ intersectS x y → r ≡ intersectS (addS a m) (addS p q)
-sums-meet a m p q x y r X Y R = R ∙ (λ i. intersectS (X i) (Y i))
+-- ---- in any arithmetic, the two answers of `between`: its first operand, or what two ways to it have in common
+module _ (ar : Arithmetic) where
+  pub sums-meet : (a m p q x y r : Scalar) → x ≡ ar .add a m → y ≡ ar .add p q → r ≡ intersectS x y → r ≡ intersectS (ar .add a m) (ar .add p q)
+  sums-meet a m p q x y r X Y R = R ∙ (λ i. intersectS (X i) (Y i))
 
--- ---- the two answers of `between`: its first operand, or its calls one after the other
-module _ (a b : Scalar) (f : Fraction) where
-  pub kept : sameOperands a b (f .alpha) ≡ true → a ≡ betweenS a b f
-  unfolding betweenS
-  kept e = pick-yes _ _ _ e
+  module _ (a b : Scalar) (f : Fraction) where
+    pub kept : sameOperands a b (f .alpha) ≡ true → a ≡ betweenS ar a b f
+    unfolding betweenS
+    kept e = pick-yes _ _ _ e
 
-  pub blended : (d m p q r : Scalar) → d ≡ subS b a → m ≡ mulS (f .alpha) d → p ≡ mulS (f .beta) a → q ≡ mulS (f .alpha) b
-      → r ≡ intersectS (addS a m) (addS p q) → sameOperands a b (f .alpha) ≡ false → r ≡ betweenS a b f
-  unfolding betweenS
-  blended d m p q r D M P Q R e = R ∙ (λ i. intersectS (addS a ((M ∙ ap (mulS (f .alpha)) D) i)) (addS (P i) (Q i))) ∙ pick-no _ _ _ e
+    pub went : (r : Scalar) → r ≡ bothWays ar a b f → sameOperands a b (f .alpha) ≡ false → r ≡ betweenS ar a b f
+    unfolding betweenS
+    went r R e = R ∙ pick-no _ _ _ e
+
+    pub blended : (d m p q r : Scalar) → d ≡ ar .sub b a → m ≡ ar .mul (f .alpha) d → p ≡ ar .mul (f .beta) a → q ≡ ar .mul (f .alpha) b
+        → r ≡ intersectS (ar .add a m) (ar .add p q) → r ≡ bothWays ar a b f
+    unfolding bothWays
+    blended d m p q r D M P Q R = R ∙ (λ i. intersectS (ar .add a ((M ∙ ap (ar .mul (f .alpha)) D) i)) (ar .add (P i) (Q i)))

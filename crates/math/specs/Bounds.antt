@@ -1,7 +1,7 @@
--- Bounds that are not widened yet, and divisors that are at hand. Definitions only.
+-- Bounds of revision 1 that are not widened yet, and divisors that are at hand. Definitions only.
 use mathlib.Core.Bool.{true, false, cond}
 use lib.Ieee.{inf, binary64, sub}
-use Rattle.math.specs.Picks.{minF, maxF}
+use Rattle.math.specs.Picks.{lesserF, greaterF, minF, maxF}
 use Rattle.math.specs.Scalars.{ENTIRE, hasZero, widened, corners, mulS, inverseS}
 use Rattle.math.specs.declared.scalars.Scalar.{Scalar}
 use Rattle.math.specs.declared.bounds.Bounds.{Bounds}
@@ -22,6 +22,10 @@ differenceB x y = record { lo = sub binary64 (x .lo) (y .hi); hi = sub binary64 
 -- from the lesser lo to the greater hi, a NaN passed over
 unfoldable pub joinB : Bounds → Bounds → Bounds
 joinB a b = record { lo = minF (a .lo) (b .lo); hi = maxF (a .hi) (b .hi) }
+
+-- the same by one comparison each
+unfoldable pub pickB : Bounds → Bounds → Bounds
+pickB a b = record { lo = lesserF (a .lo) (b .lo); hi = greaterF (a .hi) (b .hi) }
 
 -- ---- quotients by a divisor whose widened reciprocal is at hand
 

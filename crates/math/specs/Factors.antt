@@ -1,8 +1,11 @@
 -- What `between` gives, and what it and `times` test before they take the short way: factors that keep the order of what they multiply. No public function's promise names
 -- these tests. Definitions only.
 use mathlib.Core.Bool.{Bool, false, cond, _&&_}
-use lib.Ieee.{inf, lt, le}
-use Rattle.math.specs.Scalars.{zeroF, ONE, geop, addS, subS, mulS, intersectS, sameOperands, viaDelta}
+use mathlib.Core.Path.{_≡_}
+use lib.Ieee.{inf, lt, le, isNan}
+use Rattle.math.specs.Scalars.{Arithmetic, zeroF, ONE, mulS, intersectS, sameOperands, viaDelta}
+use Rattle.math.specs.Bounds.{widenB}
+use Rattle.math.specs.declared.bounds.Bounds.{Bounds}
 use Rattle.math.specs.declared.scalars.Scalar.{Scalar}
 use Rattle.math.specs.declared.scalars.Fraction.{Fraction}
 
@@ -18,14 +21,22 @@ inOrder x = le (x .lo) (x .hi)
 abbrev pub allInOrder : Scalar → Scalar → Scalar → Scalar → Scalar → Bool
 allInOrder t u a b d = isFactor t && isFactor u && inOrder a && inOrder b && inOrder d
 
+-- Bounds c that are no NaN, and widened the product of x and y in revision 1.
+pub record Corners (x y : Scalar) (c : Bounds) : Type 0 where
+  pub low : isNan (c .lo) ≡ false
+  pub high : isNan (c .hi) ≡ false
+  pub widened : widenB c ≡ mulS x y
+
 -- ---- interpolate, for a fraction that is at hand
 
 -- the fraction alpha, with 1 - alpha
-unfoldable pub fractionOf : Scalar → Fraction
-fractionOf alpha = record { alpha = alpha; beta = subS ONE alpha }
+unfoldable pub fractionOf : Arithmetic → Scalar → Fraction
+fractionOf ar alpha = record { alpha = alpha; beta = ar .sub ONE alpha }
 
--- `interpolateS` with beta for 1 - alpha, whatever beta is
-unfoldable pub betweenS : Scalar → Scalar → Fraction → Scalar
-betweenS a b f =
-    cond (sameOperands a b (f .alpha)) a
-    (intersectS (viaDelta geop a b (f .alpha)) (addS (mulS (f .beta) a) (mulS (f .alpha) b)))
+-- what a + alpha (b - a) and beta a + alpha b have in common, whatever beta is
+unfoldable pub bothWays : Arithmetic → Scalar → Scalar → Fraction → Scalar
+bothWays ar a b f = intersectS (viaDelta ar a b (f .alpha)) (ar .add (ar .mul (f .beta) a) (ar .mul (f .alpha) b))
+
+-- `interpolateS` with beta for 1 - alpha
+unfoldable pub betweenS : Arithmetic → Scalar → Scalar → Fraction → Scalar
+betweenS ar a b f = cond (sameOperands a b (f .alpha)) a (bothWays ar a b f)

@@ -1,4 +1,5 @@
-// Bounds that are not widened yet, and divisors that are at hand: where many intervals are joined, each bound is widened once, at the end.
+// Revision 1: bounds that are not widened yet, and divisors that are at hand. Where many intervals are joined, each bound is widened once, at the end. (In revision 2
+// a bound is rounded outward when it is made: two exact bounds may round to one double, and only one of them may have to move.)
 // A function's promise names the definition that it equals, in specs/, for every operand, NaN and the infinities included.
 use crate::floats::greater;
 use crate::floats::lesser;
@@ -9,7 +10,7 @@ use crate::floats::next_up;
 use crate::scalars::Scalar;
 ghost use mathlib.Core.Path.{_≡_};
 ghost use Rattle.math.specs.Scalars.{corners};
-ghost use Rattle.math.specs.Bounds.{wholeB, differenceB, overB, joinB, widenB, divisorOf};
+ghost use Rattle.math.specs.Bounds.{wholeB, differenceB, overB, joinB, pickB, widenB, divisorOf};
 
 // Bounds that are not widened yet.
 pub struct Bounds {
@@ -86,6 +87,16 @@ impl Bounds {
         Bounds {
             lo: min(self.lo, other.lo),
             hi: max(self.hi, other.hi),
+        }
+    }
+
+    // The same by one comparison each, for bounds of which these are no NaN.
+    pub fn pick(self, other: Bounds) -> Bounds
+        ensures { λ r. ⌜ r ≡ pickB self other ⌝ }
+    {
+        Bounds {
+            lo: lesser(self.lo, other.lo),
+            hi: greater(self.hi, other.hi),
         }
     }
 

@@ -1,7 +1,14 @@
-// Intervals of f64, rounded outward: what the search needs of geop-core-math's scalars/mod.rs, under its names.
+// Intervals of f64, rounded outward: what the search needs of geop-core-math's scalars/mod.rs, under its names. An operation that rounds is told the revision:
+// `second` says that it is revision 2, the tightest, and else it is the Rust's.
 // A function's promise names the definition that it equals, in specs/, for every operand, NaN and the infinities included.
 use crate::bounds::Bounds;
 use crate::bounds::Divisor;
+use crate::directed::low_of;
+use crate::directed::over;
+use crate::directed::quotient_down;
+use crate::directed::quotient_up;
+use crate::directed::sum_down;
+use crate::directed::sum_up;
 use crate::floats::down;
 use crate::floats::greater;
 use crate::floats::lesser;
@@ -12,12 +19,14 @@ use crate::floats::next_up;
 use crate::floats::up;
 ghost use mathlib.Core.Path.{_≡_};
 ghost use mathlib.Core.Bool.{true};
-ghost use Rattle.math.specs.Scalars.{geop, ENTIRE, sharp, middle, widthS, addS, subS, mulS, inverseS};
+ghost use Rattle.math.specs.Scalars.{geop, ENTIRE, sharp, middle, widthS, addS, mulS, inverseS};
 ghost use Rattle.math.specs.Scalars.{unionS, intersectS, interpolateS};
 ghost use Rattle.math.specs.Scalars.{hasZero, couldBeEqual, definitelyGreater, definitelyLess, isSubsetOf, isExactly, inUnit, sameOperands};
 ghost use Rattle.math.specs.Bounds.{overS};
-ghost use Rattle.math.specs.Paper.{Divides, IsRatio};
-ghost use Rattle.math.specs.Factors.{isFactor, inOrder, allInOrder, fractionOf, betweenS};
+ghost use Rattle.math.specs.Tight.{addT, subT, mulT, quotient, tight};
+ghost use Rattle.math.specs.Revision.{arithmetic};
+ghost use Rattle.math.specs.Paper.{quotientIn, Divides, IsRatio};
+ghost use Rattle.math.specs.Factors.{isFactor, inOrder, allInOrder, Corners, fractionOf, betweenS};
 
 // An interval from lo to hi.
 pub struct Scalar {
@@ -82,27 +91,65 @@ impl Scalar {
         (self.lo + self.hi) / 2.0
     }
 
-    pub fn add(self, other: Scalar) -> Scalar
-        ensures { λ r. ⌜ r ≡ addS self other ⌝ }
+    // The tightest sum.
+    fn tight_add(self, other: Scalar) -> Scalar
+        ensures { λ r. ⌜ r ≡ addT self other ⌝ }
     {
+        Scalar {
+            lo: sum_down(self.lo, other.lo),
+            hi: sum_up(self.hi, other.hi),
+        }
+    }
+
+    // The tightest difference.
+    fn tight_sub(self, other: Scalar) -> Scalar
+        ensures { λ r. ⌜ r ≡ subT self other ⌝ }
+    {
+        Scalar {
+            lo: sum_down(self.lo, -other.hi),
+            hi: sum_up(self.hi, -other.lo),
+        }
+    }
+
+    pub fn add(self, other: Scalar, second: bool) -> Scalar
+        ensures { λ r. ⌜ r ≡ arithmetic second .add self other ⌝ }
+    {
+        if second {
+            return self.tight_add(other);
+        }
         Scalar {
             lo: next_down(self.lo + other.lo),
             hi: next_up(self.hi + other.hi),
         }
     }
 
-    pub fn sub(self, other: Scalar) -> Scalar
-        ensures { λ r. ⌜ r ≡ subS self other ⌝ }
+    pub fn sub(self, other: Scalar, second: bool) -> Scalar
+        ensures { λ r. ⌜ r ≡ arithmetic second .sub self other ⌝ }
     {
+        if second {
+            return self.tight_sub(other);
+        }
         Scalar {
             lo: next_down(self.lo - other.hi),
             hi: next_up(self.hi - other.lo),
         }
     }
 
-    pub fn mul(self, other: Scalar) -> Scalar
-        ensures { λ r. ⌜ r ≡ mulS self other ⌝ }
+    // The tightest product.
+    fn tight_mul(self, other: Scalar) -> Scalar
+        ensures { λ r. ⌜ r ≡ mulT self other ⌝ }
     {
+        let lo = low_of(self.lo, self.hi, other.lo, other.hi);
+        let hi = low_of(-self.hi, -self.lo, other.lo, other.hi);
+        Scalar { lo, hi: -hi }
+    }
+
+    pub fn mul(self, other: Scalar, second: bool) -> Scalar
+        ensures { λ r. ⌜ r ≡ arithmetic second .mul self other ⌝ }
+    {
+        if second {
+            return self.tight_mul(other);
+        }
         let c = Bounds::product(self, other);
         Scalar {
             lo: down(c.lo),
@@ -127,14 +174,55 @@ impl Scalar {
         }
     }
 
+    // The tightest quotient by what does not hold zero.
+    fn tight_quotient(self, other: Scalar) -> Scalar
+        ensures { λ r. ⌜ r ≡ quotient self other ⌝ }
+    {
+        if 0.0 <= other.lo {
+            let lo = over(self.lo, other.lo, other.hi);
+            let hi = over(-self.hi, other.lo, other.hi);
+            return Scalar { lo, hi: -hi };
+        }
+        let lo = over(-self.hi, -other.hi, -other.lo);
+        let hi = over(self.lo, -other.hi, -other.lo);
+        Scalar { lo, hi: -hi }
+    }
+
+    // The quotient by what does not hold zero.
+    fn quotient(self, other: Scalar, second: bool) -> Scalar
+        ensures { λ r. ⌜ r ≡ quotientIn second self other ⌝ }
+    {
+        if second {
+            return self.tight_quotient(other);
+        }
+        self.mul(other.inverse(), second)
+    }
+
     // Fails where the divisor holds zero.
-    pub fn div(self, other: Scalar) -> Divided
-        ensures { λ r. ⌜ Divides self other r ⌝ }
+    pub fn div(self, other: Scalar, second: bool) -> Divided
+        ensures { λ r. ⌜ Divides second self other r ⌝ }
     {
         if other.has_zero() {
             return Divided::Failed;
         }
-        Divided::Value(self.mul(other.inverse()))
+        Divided::Value(self.quotient(other, second))
+    }
+
+    // 4 / 5.
+    pub fn four_fifths(second: bool) -> Scalar
+        ensures { λ r. ⌜ r ≡ arithmetic second .fourFifths ⌝ }
+    {
+        if second {
+            return Scalar {
+                lo: quotient_down(4.0, 5.0),
+                hi: quotient_up(4.0, 5.0),
+            };
+        }
+        let exact = 4.0 / 5.0;
+        Scalar {
+            lo: next_down(exact),
+            hi: next_up(exact),
+        }
     }
 
     pub fn could_be_equal(self, other: Scalar) -> bool
@@ -258,17 +346,34 @@ impl Scalar {
         }
     }
 
-    // `mul`, which is shorter where the other operand is a factor: for operands that mostly are.
-    pub fn times(self, other: Scalar) -> Scalar
-        ensures { λ r. ⌜ r ≡ mulS self other ⌝ }
+    // The bounds of the product in revision 1 before they are widened: picked from two products, not from four, where the other operand is a factor and this one is in order.
+    fn corners(self, other: Scalar) -> Bounds
+        ensures { λ r. ⌜ Corners self other r ⌝ }
     {
         if other.is_factor() && self.in_order() {
-            return other.scale(self);
+            return Bounds {
+                lo: lesser(other.lo * self.lo, other.hi * self.lo),
+                hi: greater(other.lo * self.hi, other.hi * self.hi),
+            };
         }
-        self.mul(other)
+        Bounds::product(self, other)
     }
 
-    // The quotient by a divisor that is at hand, or the whole line where it holds zero.
+    // `mul`, which is shorter in revision 1 where the other operand is a factor: for operands that mostly are.
+    pub fn times(self, other: Scalar, second: bool) -> Scalar
+        ensures { λ r. ⌜ r ≡ arithmetic second .mul self other ⌝ }
+    {
+        if second {
+            return self.tight_mul(other);
+        }
+        let c = self.corners(other);
+        Scalar {
+            lo: down(c.lo),
+            hi: up(c.hi),
+        }
+    }
+
+    // The quotient in revision 1 by a divisor that is at hand, or the whole line where it holds zero.
     pub fn over(self, d: Divisor) -> Scalar
         ensures { λ r. ⌜ r ≡ overS self d ⌝ }
     {
@@ -276,7 +381,7 @@ impl Scalar {
         if w.has_zero() {
             return Scalar::entire();
         }
-        self.times(d.inverse)
+        self.times(d.inverse, false)
     }
 
     // What a + m and p + q have in common: where the sums meet before they are widened, each bound is widened once, after the pick.
@@ -291,14 +396,14 @@ impl Scalar {
                 hi: up(hi),
             };
         }
-        a.add(m).intersect(p.add(q))
+        a.add(m, false).intersect(p.add(q, false))
     }
 
     // The fraction alpha, with what `between` needs of it.
-    pub fn fraction(alpha: Scalar) -> Fraction
-        ensures { λ r. ⌜ r ≡ fractionOf alpha ⌝ }
+    pub fn fraction(alpha: Scalar, second: bool) -> Fraction
+        ensures { λ r. ⌜ r ≡ fractionOf (arithmetic second) alpha ⌝ }
     {
-        let beta = Scalar::ONE.sub(alpha);
+        let beta = Scalar::ONE.sub(alpha, second);
         Fraction { alpha, beta }
     }
 
@@ -309,10 +414,9 @@ impl Scalar {
         alpha.is_factor() && beta.is_factor() && a.in_order() && b.in_order() && diff.in_order()
     }
 
-    // `interpolate`, for a caller that has the fraction at hand. Where `all_in_order` says so it goes the short way, with
-    // products by factors.
-    pub fn between(a: Scalar, b: Scalar, f: Fraction) -> Scalar
-        ensures { λ r. ⌜ r ≡ betweenS a b f ⌝ }
+    // `between` in revision 1. Where `all_in_order` says so it goes the short way, with products by factors.
+    pub fn between_wide(a: Scalar, b: Scalar, f: Fraction) -> Scalar
+        ensures { λ r. ⌜ r ≡ betweenS geop a b f ⌝ }
     {
         let alpha = f.alpha;
         let beta = f.beta;
@@ -328,16 +432,40 @@ impl Scalar {
             };
             return Scalar::meet_of_sums(a, alpha.scale(delta), beta.scale(a), alpha.scale(b));
         }
-        let via_delta = a.add(alpha.mul(b.sub(a)));
-        let via_weights = beta.mul(a).add(alpha.mul(b));
+        let via_delta = a.add(alpha.mul(b.sub(a, false), false), false);
+        let via_weights = beta.mul(a, false).add(alpha.mul(b, false), false);
         via_delta.intersect(via_weights)
+    }
+
+    // `between` in revision 2.
+    pub fn between_tight(a: Scalar, b: Scalar, f: Fraction) -> Scalar
+        ensures { λ r. ⌜ r ≡ betweenS tight a b f ⌝ }
+    {
+        let alpha = f.alpha;
+        let beta = f.beta;
+        if Scalar::same_operands(a, b, alpha) {
+            return a;
+        }
+        let via_delta = a.tight_add(alpha.tight_mul(b.tight_sub(a)));
+        let via_weights = beta.tight_mul(a).tight_add(alpha.tight_mul(b));
+        via_delta.intersect(via_weights)
+    }
+
+    // `interpolate`, for a caller that has the fraction at hand.
+    pub fn between(a: Scalar, b: Scalar, f: Fraction, second: bool) -> Scalar
+        ensures { λ r. ⌜ r ≡ betweenS (arithmetic second) a b f ⌝ }
+    {
+        if second {
+            return Scalar::between_tight(a, b, f);
+        }
+        Scalar::between_wide(a, b, f)
     }
 
     // The point a fraction alpha of the way from a to b: a where both are the same and alpha lies in 0 to 1, else what
     // a + alpha (b - a) and (1 - alpha) a + alpha b have in common.
-    pub fn interpolate(a: Scalar, b: Scalar, alpha: Scalar) -> Scalar
-        ensures { λ r. ⌜ r ≡ interpolateS geop a b alpha ⌝ }
+    pub fn interpolate(a: Scalar, b: Scalar, alpha: Scalar, second: bool) -> Scalar
+        ensures { λ r. ⌜ r ≡ interpolateS (arithmetic second) a b alpha ⌝ }
     {
-        Scalar::between(a, b, Scalar::fraction(alpha))
+        Scalar::between(a, b, Scalar::fraction(alpha, second), second)
     }
 }

@@ -11,7 +11,7 @@ use borrow.Author.Tests.{eq-eqb, ne-eqb}
 use lib.Ieee.{Float}
 use lib.Ieee.Bits.{is-true}
 use Rattle.math.proofs.Bools.{and-l, and-r, or-split}
-use Rattle.model.specs.Call.{Curve, Call, curveOf, dimFits, degreeFits, countFits, lengthsFit, numbersUsable, boundsOrdered, weightsFit, knotsFit, nodesFit, stated, areaFits, firstFailed, orElse, sizesRefusal, curveRefusal, refusal, statedWords}
+use Rattle.model.specs.Call.{Curve, Call, curveOf, dimFits, degreeFits, countFits, lengthsFit, numbersUsable, boundsOrdered, weightsFit, knotsFit, nodesFit, stated, areaFits, firstFailed, orElse, revisionFits, revisionRefusal, sizesRefusal, curveRefusal, refusal, statedWords}
 use Rattle.model.specs.Layout.{slotWords, areaWords}
 use Rattle.model.specs.Enclosure.{Every}
 
@@ -120,8 +120,13 @@ curve-passes sides box resolution v e =
     let h = passed v 3 (lengthsFit sides box ∷ numbersUsable box resolution ∷ boundsOrdered sides box ∷ weightsFit ∷ knotsFit ∷ []) (z .1) in
     record { sizes = sizes-pass v (z .0); lengths = h .0; numbers = h .1 .0; bounds = h .1 .1 .0; weights = h .1 .1 .1 .0; knots = h .1 .1 .1 .1 .0 }
 
--- What 1 to 10 ask.
+pub revision-passes : (rev : ℕ) → revisionRefusal rev ≡ 0 → T (revisionFits rev)
+unfolding revisionRefusal
+revision-passes rev e = passed rev 15 (revisionFits ∷ []) e .0
+
+-- What 16 and 1 to 10 ask.
 pub record CallPasses (c : Call) : Type 0 where
+  pub rev : T (revisionFits (c .rev))
   pub curve : CurvePasses (c .curve .dim) (c .box) (c .resolution) (c .curve)
   pub nodes : T (nodesFit (c .nodes))
   pub area : T (areaFits c)
@@ -129,19 +134,24 @@ pub record CallPasses (c : Call) : Type 0 where
 pub call-passes : (c : Call) → refusal c ≡ 0 → CallPasses c
 unfolding refusal
 call-passes c e =
-    let z = else-none _ _ e in
+    let y = else-none _ _ e in
+    let z = else-none _ _ (y .1) in
     let h = passed c 8 ((λ c. nodesFit (c .nodes)) ∷ areaFits ∷ []) (z .1) in
-    record { curve = curve-passes _ _ _ _ (z .0); nodes = h .0; area = h .1 .0 }
+    record { rev = revision-passes (c .rev) (y .0); curve = curve-passes _ _ _ _ (z .0); nodes = h .0; area = h .1 .0 }
 
 -- A call with other nodes and another work area is accepted if the curve is, and 9 and 10 are passed.
-pub accepted-by : (c : Call) → curveRefusal (c .curve .dim) (c .box) (c .resolution) (c .curve) ≡ 0 → T (nodesFit (c .nodes)) → T (areaFits c) → refusal c ≡ 0
+pub accepted-by : (c : Call) → revisionRefusal (c .rev) ≡ 0 → curveRefusal (c .curve .dim) (c .box) (c .resolution) (c .curve) ≡ 0 → T (nodesFit (c .nodes)) → T (areaFits c) → refusal c ≡ 0
 unfolding refusal
-accepted-by c e n a = else-left _ _ e ∙ none-failed c 9 ((λ c. nodesFit (c .nodes)) ∷ areaFits ∷ []) (n, (a, tt))
+accepted-by c r e n a = else-left _ _ r ∙ else-left _ _ e ∙ none-failed c 9 ((λ c. nodesFit (c .nodes)) ∷ areaFits ∷ []) (n, (a, tt))
 
--- The curve of an accepted call is not refused, and neither are the sizes of such a curve.
+-- The revision and the curve of an accepted call are not refused, and neither are the sizes of such a curve.
+pub revision-accepted : (c : Call) → refusal c ≡ 0 → revisionRefusal (c .rev) ≡ 0
+unfolding refusal
+revision-accepted c e = else-none _ _ e .0
+
 pub curve-accepted : (c : Call) → refusal c ≡ 0 → curveRefusal (c .curve .dim) (c .box) (c .resolution) (c .curve) ≡ 0
 unfolding refusal
-curve-accepted c e = else-none _ _ e .0
+curve-accepted c e = else-none _ _ (else-none _ _ e .1) .0
 
 pub sizes-accepted : (sides : ℕ) (box : List Float) (resolution : Float) (v : Curve) → curveRefusal sides box resolution v ≡ 0 → sizesRefusal (v .dim) (v .degree) (v .count) ≡ 0
 unfolding curveRefusal

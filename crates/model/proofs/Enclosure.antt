@@ -1,4 +1,4 @@
--- DEMAND 3, and the order of the bounds: `enclosure` for every arithmetic that encloses, and `geop-enclosure` for the Rust's. Of the curve on paper: `one-span`. Assumes nothing.
+-- DEMAND 3, and the order of the bounds: `enclosure` for every arithmetic that encloses, and `revision-enclosure` for either revision. Of the curve on paper: `one-span`. Assumes nothing.
 use mathlib.Core.Path.{_≡_, refl, sym, ap, _∙_, subst}
 use mathlib.Core.Logic.{inl}
 use mathlib.Core.List.{List, []}
@@ -17,14 +17,15 @@ use Rattle.exact.proofs.Splines.Accept.{good-counted}
 use Rattle.exact.proofs.Splines.Drawn.{span-domain, span-one, span-some, traced-on}
 use Rattle.lists.proofs.Tab.{length-tab, getD-tab}
 use Rattle.math.specs.declared.scalars.Scalar.{Scalar}
-use Rattle.math.specs.Scalars.{Arithmetic, geop, absent, zeroF, unionS}
+use Rattle.math.specs.Scalars.{Arithmetic, absent, zeroF, unionS}
 use Rattle.math.specs.Values.{value, Below, Above, Holds, Proper}
+use Rattle.math.specs.Revision.{arithmetic}
 use Rattle.math.specs.Encloses.{Encloses}
 use Rattle.math.proofs.Bools.{and-i, and-l, never, pick, taken}
 use Rattle.math.proofs.Doubles.Values.{eq→value}
 use Rattle.math.proofs.Intervals.Tests.{union-left, union-right}
 use Rattle.math.proofs.Intervals.Proper.{union-proper}
-use Rattle.math.proofs.Intervals.Instance.{geop-encloses}
+use Rattle.math.proofs.Tight.Revisions.{encloses}
 use Rattle.model.specs.Vector.{Vector, coordinate}
 use Rattle.model.specs.NurbCurve.{Piece, knot, point, start, end, domain}
 use Rattle.model.specs.Aabb.{couldMeet, aabb, couldOverlap}
@@ -370,9 +371,9 @@ enclosure ar E = record {
 pub pieces-kept : (ar : Arithmetic) → Encloses ar → Pieces ar
 pieces-kept ar E = record { kept = λ c d acc one k. pieces c d acc ar E one k }
 
--- ---- THE RUST'S ARITHMETIC
-pub geop-enclosure : Enclosure geop
-geop-enclosure = enclosure geop geop-encloses
+-- ---- EITHER REVISION
+pub revision-enclosure : (second : Bool) → Enclosure (arithmetic second)
+revision-enclosure second = enclosure (arithmetic second) (encloses second)
 
-pub geop-pieces : Pieces geop
-geop-pieces = pieces-kept geop geop-encloses
+pub revision-pieces : (second : Bool) → Pieces (arithmetic second)
+revision-pieces second = pieces-kept (arithmetic second) (encloses second)

@@ -25,7 +25,7 @@ use Rattle.model.specs.declared.contains.Found.the-variants.{Nothing, En
 use Rattle.model.specs.declared.fat_line.Hat.{Hat}
 use Rattle.model.specs.declared.fat_line.Hat.the-variants.{Over, Missing}
 use Rattle.model.proofs.Pause.{goes, spends, ends, once, fails, waits, paused}
-use Rattle.model.proofs.Checks.{accepted-by, curve-accepted}
+use Rattle.model.proofs.Checks.{accepted-by, revision-accepted, curve-accepted}
 
 module _ (see : Piece → Visit) (n m : ℕ) (h : n ≤ m) where
   abbrev at : List Waiting → Counts → Option Scalar → State
@@ -122,7 +122,7 @@ module _ (ar : Arithmetic) (c : Call) (m words : ℕ) where
 -- ---- the checks
 still : (c : Call) (m words : ℕ) → Larger c m words → Accepted c → Accepted (withNodes c m words)
 unfolding areaFits
-still c m words w e = accepted-by (withNodes c m words) (curve-accepted c e) (le→leb m 4096 (w .most)) (le→leb (stated (withNodes c m words)) words (w .long))
+still c m words w e = accepted-by (withNodes c m words) (revision-accepted c e) (curve-accepted c e) (le→leb m 4096 (w .most)) (le→leb (stated (withNodes c m words)) words (w .long))
 
 -- ---- THE LAW
 not-spent : (r : Found) → Completes r → NotSpent r

@@ -9,6 +9,10 @@ use Rattle.lists.specs.Lists.{all, count, position, foldl}
 use Rattle.math.specs.declared.scalars.Scalar.{Scalar}
 use Rattle.math.specs.Neighbours.{nextUp, nextDown}
 use Rattle.math.specs.Picks.{minF, maxF}
+use Rattle.exact.specs.Rational.{ℚ, mk, _+ℚ_, _*ℚ_, -ℚ_, invℚ, _÷_, nonneg, lift₂}
+use Rattle.math.specs.Values.{value}
+use Rattle.math.specs.Directed.{exceeds, lower, sumDown, productDown, quotientDown}
+use Rattle.math.specs.Tight.{addT, subT, lowOf, mulT, quotient, divT, fourFifthsT}
 use Rattle.math.specs.Root.{rootIn, root, nearestRoot, rootOf, sqrtF}
 use Rattle.math.specs.Scalars.{sharp, unionS, intersectS, middle, widthS, valueOr, addS, subS, corners, mulS, inverseS, divS, fourFifthsS, geop, interpolateS}
 use Rattle.model.specs.Vector.{interpolateV}
@@ -20,7 +24,7 @@ use Rattle.model.specs.FatLine.{abscissa, greville, crossing, zerosBy, f
 use Rattle.model.specs.Subdivide.{positiveZero, joined, complete, after, ended, step, stop, advance, answered}
 use Rattle.model.specs.Contains.{axis, narrowed, clip, carried, handOn, handBoth, shrink, clipped, visit, couldContain}
 use Rattle.model.specs.Layout.{pointAt, pointsOf, slotWords}
-use Rattle.model.specs.Call.{Call, curveOf, asPiece, dimFits, degreeFits, countFits, lengthsFit, numbersUsable, boundsOrdered, weightsFit, rising, multiplicityOk, knotsValid, knotsFit, stated, areaFits, firstFailed, orElse, sizesRefusal, curveRefusal, refusal, searchedBy, searched}
+use Rattle.model.specs.Call.{Call, curveOf, asPiece, dimFits, degreeFits, countFits, lengthsFit, numbersUsable, boundsOrdered, weightsFit, rising, multiplicityOk, knotsValid, knotsFit, stated, areaFits, firstFailed, orElse, revisionFits, revisionRefusal, sizesRefusal, curveRefusal, refusal, searchedBy, searched, answerTo}
 use Rattle.model.specs.Paper.{Result, none-found, enclosed, spent, refused, Paper, paper}
 
 -- A text for the program, line by line; `points` has the numbers of all `point` lines.
@@ -36,9 +40,9 @@ pub record Text : Type 0 where
 
 -- A row of the table.
 pub data Row : Type 0 where
-  -- The call of a text, and the seven values that it prints. The first is 0 for none, 1 for enclosed, 2 for spent and 100 + N for refused-N; then come visited, cuts, depth, pending, lo and hi,
+  -- The call of a text in a revision, and the seven values that it prints. The first is 0 for none, 1 for enclosed, 2 for spent and 100 + N for refused-N; then come visited, cuts, depth, pending, lo and hi,
   -- where 0 stands for `-`.
-  prints : Text → List ℕ → Row
+  prints : ℕ → Text → List ℕ → Row
   -- The path of a text, cut down to two parameters: the number of cuts.
   cuts : Text → ℕ → ℕ → ℕ → Row
   -- Two numbers, and the bounds of their sum.
@@ -51,9 +55,10 @@ pub data Row : Type 0 where
 abbrev floats : List ℕ → List Float
 floats l = map (λ b. ofBits binary64 b) l
 
--- The call of a text; the program lends 8,192 numbers.
-abbrev pub callOf : Text → Call
-callOf t = record {
+-- The call of a text in a revision; the program lends 8,192 numbers.
+abbrev pub callOf : ℕ → Text → Call
+callOf rev t = record {
+  rev = rev;
   curve = curveOf (t .dim) (t .degree) (t .count) (floats (t .knots)) (floats (t .points));
   box = floats (t .box);
   resolution = ofBits binary64 (t .resolution);
@@ -95,9 +100,10 @@ unfolding zipWith add sub mul div lt le eq isNan neg ofInt toBits ofBits
     abscissa greville crossing zerosBy fatLineZeros cartesian distance distances pathLength extent toF64 widest carriedBy carriedWidth restricts halves
     positiveZero joined complete after ended step stop advance answered
     axis narrowed clip carried handOn handBoth shrink clipped visit couldContain
-    pointAt pointsOf slotWords dimFits degreeFits countFits lengthsFit numbersUsable boundsOrdered weightsFit rising multiplicityOk knotsValid knotsFit stated areaFits firstFailed orElse sizesRefusal curveRefusal refusal searchedBy searched
-right (prints t expected) = alike (printed (paper (searched geop (callOf t)))) expected
-right (cuts t lo hi n) = eqb (restrict geop (t .degree) (ofBits binary64 lo) (ofBits binary64 hi) (asPiece (callOf t .curve)) .cuts) n
+    pointAt pointsOf slotWords dimFits degreeFits countFits lengthsFit numbersUsable boundsOrdered weightsFit rising multiplicityOk knotsValid knotsFit stated areaFits firstFailed orElse revisionFits revisionRefusal sizesRefusal curveRefusal refusal searchedBy searched
+    exceeds lower sumDown productDown quotientDown addT subT lowOf mulT quotient divT fourFifthsT value ℚ mk _+ℚ_ _*ℚ_ -ℚ_ invℚ _÷_ nonneg lift₂
+right (prints rev t expected) = alike (printed (paper (answerTo (callOf rev t)))) expected
+right (cuts t lo hi n) = eqb (restrict geop (t .degree) (ofBits binary64 lo) (ofBits binary64 hi) (asPiece (callOf 1 t .curve)) .cuts) n
 right (sums a b lo hi) = alike (ends (some (addS (number a) (number b)))) (lo ∷ hi ∷ [])
 right (products a b lo hi) = alike (ends (some (mulS (number a) (number b)))) (lo ∷ hi ∷ [])
 right (roots a r) = eqb (toBits binary64 (sqrtF (ofBits binary64 a))) r

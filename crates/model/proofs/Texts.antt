@@ -41,6 +41,18 @@ twice = line 1 0
     ∷ [])
     (0x4000000000000000 ∷ 0x4000000000000000 ∷ 0 ∷ 0 ∷ [])
 
+-- The scope's example of refusal 11: from (0, 0) to (1, 0) on 0, 0, 2 ^ -1060, 2 ^ -1060, weights 1, resolution 0, nodes 8, and the box (1/2, 0).
+abbrev pub brief : Text
+brief = lineTo 0x4000 8 0
+    (0 ∷ 0 ∷ 0 ∷ 0 ∷ 0x3ff0000000000000 ∷ 0x3ff0000000000000
+    ∷ 0x3ff0000000000000 ∷ 0x3ff0000000000000 ∷ 0 ∷ 0 ∷ 0x3ff0000000000000 ∷ 0x3ff0000000000000
+    ∷ [])
+    (0x3fe0000000000000 ∷ 0x3fe0000000000000 ∷ 0 ∷ 0 ∷ [])
+
+-- A text that 1 refuses: dim is 0, and all else.
+abbrev pub empty : Text
+empty = record { dim = 0; degree = 0; count = 0; nodes = 0; resolution = 0; knots = []; points = []; box = [] }
+
 -- The line from (0, 0) to (1, 1) on 0, 0, e, e, weights 1, and the box from a to b on both axes.
 abbrev pub slope : ℕ → ℕ → ℕ → ℕ → ℕ → Text
 slope e resolution nodes a b = lineTo e nodes resolution

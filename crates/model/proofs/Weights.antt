@@ -1,11 +1,13 @@
--- REFUSAL 11 IS THE RUST'S PANIC: `panics-alike` for every arithmetic that encloses, and `geop-panics` for the Rust's. Assumes nothing.
+-- REFUSAL 11 IS THE RUST'S PANIC: `panics-alike` for every arithmetic that encloses, and `revision-panics` for either revision. Assumes nothing.
 use mathlib.Core.Path.{subst}
+use mathlib.Core.Bool.{Bool}
 use Prim.Native.Nat.{ℕ, _≤_}
 use Rattle.exact.specs.Rational.{ℚ}
-use Rattle.math.specs.Scalars.{Arithmetic, geop}
+use Rattle.math.specs.Scalars.{Arithmetic}
+use Rattle.math.specs.Revision.{arithmetic}
 use Rattle.math.specs.Values.{value}
 use Rattle.math.specs.Encloses.{Encloses}
-use Rattle.math.proofs.Intervals.Instance.{geop-encloses}
+use Rattle.math.proofs.Tight.Revisions.{encloses}
 use Rattle.model.specs.NurbCurve.{Piece, start, end}
 use Rattle.model.specs.Subdivide.{Question, Step, going, over, advance}
 use Rattle.model.specs.Contains.{visit, begun}
@@ -72,6 +74,6 @@ module _ (ar : Arithmetic) (E : Encloses ar) (c : Call) (d : Doubles c) (acc : A
 pub panics-alike : (ar : Arithmetic) → Encloses ar → PanicsAlike ar
 panics-alike ar E = record { cuts = reached ar E }
 
--- THE RUST'S ARITHMETIC
-pub geop-panics : PanicsAlike geop
-geop-panics = panics-alike geop geop-encloses
+-- EITHER REVISION
+pub revision-panics : (second : Bool) → PanicsAlike (arithmetic second)
+revision-panics second = panics-alike (arithmetic second) (encloses second)

@@ -18,7 +18,7 @@ use Rattle.model.proofs.Texts.{single}
 
 -- P1: the point (3, 5) of weight 1 on the domain from 0 to 1, and the box that is that point.
 abbrev pub point-call : Call
-point-call = callOf (single 1 0x4008000000000000)
+point-call = callOf 1 (single 1 0x4008000000000000)
 
 -- the lower bound of interval k of point i
 abbrev low : ℕ → ℕ → ℚ

@@ -1,4 +1,4 @@
--- What the caller lends, the refusals 1 to 10 in their order, and what a call gives and leaves. Definitions only.
+-- What the caller lends, the refusals 16 and 1 to 10 in their order, and what a call gives and leaves. Definitions only.
 use Prim.Native.Nat.{ℕ, zero, suc, _+_, _*_, _<_, max}
 use mathlib.Core.Bool.{Bool, true, cond, _&&_, _||_}
 use mathlib.Core.List.{List, [], _∷_}
@@ -8,6 +8,7 @@ use lib.Ieee.{Float, nan, binary64, fits, lt, le, eq}
 use Rattle.lists.specs.Lists.{all, count, cleared}
 use Rattle.math.specs.declared.scalars.Scalar.{Scalar}
 use Rattle.math.specs.Scalars.{Arithmetic, zeroF}
+use Rattle.math.specs.Revision.{arithmetic}
 use Rattle.math.specs.Encloses.{isModerate}
 use Rattle.model.specs.NurbCurve.{Piece, weightsPositive}
 use Rattle.model.specs.Subdivide.{Question}
@@ -28,8 +29,9 @@ pub record Curve : Type 0 where
 abbrev pub curveOf : ℕ → ℕ → ℕ → List Float → List Float → Curve
 curveOf dim degree count knots points = record { dim = dim; degree = degree; count = count; knots = knots; points = points }
 
--- What the caller lends (the scope). Of the work area it is the length alone, so that what it held cannot matter.
+-- What the caller lends (the scope), and the revision that the call names (request E8). Of the work area it is the length alone, so that what it held cannot matter.
 pub record Call : Type 0 where
+  pub rev : ℕ
   pub curve : Curve
   pub box : List Float
   pub resolution : Float
@@ -38,8 +40,9 @@ pub record Call : Type 0 where
   pub workLen : ℕ
 
 -- The call of these arguments.
-abbrev pub lent : ℕ → ℕ → ℕ → List Float → List Float → List Float → Float → ℕ → ℕ → Call
-lent dim degree count knots points box resolution nodes workLen = record {
+abbrev pub lent : ℕ → ℕ → ℕ → ℕ → List Float → List Float → List Float → Float → ℕ → ℕ → Call
+lent rev dim degree count knots points box resolution nodes workLen = record {
+  rev = rev;
   curve = curveOf dim degree count knots points;
   box = box;
   resolution = resolution;
@@ -58,6 +61,16 @@ boxOf c = scalarsOf (c .curve .dim) (c .box)
 -- What is asked of the curve.
 abbrev pub question : Call → Question
 question c = record { dim = c .curve .dim; degree = c .curve .degree; box = boxOf c; resolution = c .resolution; nodes = c .nodes }
+
+-- ---- the revision: true where nothing is wrong
+
+-- 16: the revision is 1 or 2.
+unfoldable pub revisionFits : ℕ → Bool
+revisionFits rev = eqb rev 1 || eqb rev 2
+
+-- The arithmetic that the call names: that of revision 2, or the Rust's.
+abbrev pub arithmeticOf : Call → Arithmetic
+arithmeticOf c = arithmetic (eqb (c .rev) 2)
 
 -- ---- the sizes: true where nothing is wrong
 
@@ -157,6 +170,10 @@ unfoldable pub orElse : ℕ → ℕ → ℕ
 orElse zero n = n
 orElse (suc m) n = suc m
 
+-- 16, or 0 where the revision is 1 or 2.
+unfoldable pub revisionRefusal : ℕ → ℕ
+revisionRefusal rev = firstFailed rev 16 (revisionFits ∷ [])
+
 -- The number from 1 to 3 by which the sizes of a curve are refused, or 0. The text and `statedWords` look at these alone.
 unfoldable pub sizesRefusal : ℕ → ℕ → ℕ → ℕ
 sizesRefusal dim degree count = firstFailed (curveOf dim degree count [] []) 1 (dimFits ∷ degreeFits ∷ countFits ∷ [])
@@ -167,11 +184,12 @@ curveRefusal sides box resolution v =
     orElse (sizesRefusal (v .dim) (v .degree) (v .count))
     (firstFailed v 4 (lengthsFit sides box ∷ numbersUsable box resolution ∷ boundsOrdered sides box ∷ weightsFit ∷ knotsFit ∷ []))
 
--- The number from 1 to 10 by which the call is refused, or 0: that of the curve with a side of the box for each axis, then 9, then 10.
+-- The number by which the call is refused, or 0: 16 first of all; then that of the curve with a side of the box for each axis, then 9, then 10.
 unfoldable pub refusal : Call → ℕ
 refusal c =
-    orElse (curveRefusal (c .curve .dim) (c .box) (c .resolution) (c .curve))
-    (firstFailed c 9 ((λ c. nodesFit (c .nodes)) ∷ areaFits ∷ []))
+    orElse (revisionRefusal (c .rev))
+    (orElse (curveRefusal (c .curve .dim) (c .box) (c .resolution) (c .curve))
+    (firstFailed c 9 ((λ c. nodesFit (c .nodes)) ∷ areaFits ∷ [])))
 
 -- The words that a caller has to lend: the stated words, and 0 for sizes that 1, 2, 3 or 9 refuse.
 unfoldable pub statedWords : ℕ → ℕ → ℕ → ℕ → ℕ
@@ -180,14 +198,18 @@ statedWords dim degree count nodes =
 
 -- ---- what a call gives, and the work area that it leaves
 
--- The result, where the refusal is known; nothing is counted with a refusal by 1 to 10.
+-- The result, where the refusal is known; nothing is counted with a refusal by any number but 11.
 unfoldable pub searchedBy : Arithmetic → Call → ℕ → Found
 searchedBy ar c zero = couldContain ar (question c) (asPiece (c .curve))
 searchedBy ar c (suc n) = Refused (suc n) 0 0 0
 
--- The result of a call.
+-- The result of a call in an arithmetic.
 unfoldable pub searched : Arithmetic → Call → Found
 searched ar c = searchedBy ar c (refusal c)
+
+-- The answer to a call: the result in the revision that it names.
+abbrev pub answerTo : Call → Found
+answerTo c = searched (arithmeticOf c) c
 
 -- The work area that is left of `area`, where the refusal is known.
 unfoldable pub areaBy : Call → List Float → ℕ → List Float

@@ -387,7 +387,7 @@ couldContain q c = do
   m ← couldMeet (q .dim) (q .degree) (c .points) (q .box)
   cond m (do fine (answered (← advance (visit q) (q .nodes) (q .nodes) (begun c)))) (fine (Nothing 0 0 0))
 
--- Of a call that is refused by 1 to 10 nothing is formed; of any other, first the intervals that are lent: points, box, knots and resolution.
+-- Of a call that is refused by 16 or by 1 to 10 nothing is formed; of any other, first the intervals that are lent: points, box, knots and resolution.
 unfoldable pub searchedBy : Call → ℕ → Tested Found
 searchedBy c zero = do
   _ ← tested.map (λ x. tested.formed (x .lo) (x .hi)) (scalarsOf (suc (c .curve .dim) * c .curve .count) (c .curve .points))

@@ -30,7 +30,7 @@ pub record SameSteps (visit : Piece → Visit) : Type 0 where
 
 -- The same call with m nodes, and a work area of so many words.
 abbrev pub withNodes : Call → ℕ → ℕ → Call
-withNodes c m words = record { curve = c .curve; box = c .box; resolution = c .resolution; nodes = m; workLen = words }
+withNodes c m words = record { rev = c .rev; curve = c .curve; box = c .box; resolution = c .resolution; nodes = m; workLen = words }
 
 -- "Every larger number of nodes up to 4,096, a long enough work area being lent."
 pub record Larger (c : Call) (m words : ℕ) : Type 0 where

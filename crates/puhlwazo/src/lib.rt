@@ -49,6 +49,7 @@ fn bounds_of(f: Found) -> [f64; 2]
 // Nothing is asked of the caller but what the types say.
 #[no_mangle]
 pub extern "C" fn puhlwazo_curve_could_contain(
+    rev: usize,
     dim: usize,
     degree: usize,
     count: usize,
@@ -63,10 +64,11 @@ pub extern "C" fn puhlwazo_curve_could_contain(
 ) -> u64
     ensures { λ r.
         let k = now (knots .entry) in let p = now (points .entry) in let b = now («point_box» .entry) in
-        let c = lent dim degree count k p b resolution nodes (length (now (work .entry))) in
+        let c = lent rev dim degree count k p b resolution nodes (length (now (work .entry))) in
         ⌜ HandsOut c (now (work .entry)) (now (work .exit)) r (now (counts .exit)) (now (bounds .exit)) ⌝ }
 {
     let f = curve_could_contain(
+        rev,
         dim,
         degree,
         count,

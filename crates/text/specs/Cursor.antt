@@ -27,7 +27,7 @@ abbrev pub SmallRead : List ℕ → Read ℕ → Small → Type 0
 SmallRead text spec NoNumber = spec ≡ bad
 SmallRead text spec (Number n i) = (n ≤ 999999999) × (i ≤ length text) × (spec ≡ got n (drop i text))
 
--- The first three lines were read.
+-- The three lines of the sizes were read.
 abbrev pub HeadRead : List ℕ → Read Sizes → Head → Type 0
 HeadRead text spec NoHead = spec ≡ bad
 HeadRead text spec (Heads d p n i) = (i ≤ length text) × (spec ≡ got (sizesOf d p n) (drop i text))

@@ -1,4 +1,4 @@
--- The text of a question (the scope, 'The program gripcheck'): its lines, and when it is refused by 1, 2, 3 or 12.
+-- The text of a question (the scope, 'The program gripcheck'; request E8): its lines, and when it is refused by 16, by 1, 2, 3 or by 12.
 -- Definitions only.
 use Prim.Native.Nat.{ℕ, zero, suc, _+_, _*_}
 use mathlib.Core.Bool.{cond, _&&_}
@@ -6,7 +6,7 @@ use mathlib.Core.List.{List, [], _∷_, _++_}
 use lib.ListN.{length, getD}
 use lib.Dec.{leb, eqb}
 use lib.Ieee.{Float, nan}
-use Rattle.model.specs.Call.{Call, lent, sizesRefusal}
+use Rattle.model.specs.Call.{Call, lent, revisionRefusal, sizesRefusal}
 use Rattle.text.specs.Bytes.{bytes, Read, bad, got, then, word}
 use Rattle.text.specs.Numerals.{small, double}
 
@@ -51,7 +51,18 @@ unfoldable pub lines : List ℕ → ℕ → ℕ → List ℕ → Read (List Floa
 lines key n zero t = got [] t
 lines key n (suc k) t = then (line key n t) (λ xs a. then (lines key n k a) (λ ys rest. got (xs ++ ys) rest))
 
--- ---- the first three lines
+-- ---- the line of the revision
+
+-- Whether the text begins with its key is known: then it is read, and else it is revision 1.
+unfoldable pub revisionBy : List ℕ → Read (Unit {0}) → Read ℕ
+revisionBy t bad = got 1 t
+revisionBy t (got _ rest) = smallLine (bytes "rev=") t
+
+-- "A new first line `rev=1` or `rev=2`; a text without it is revision 1" (request E8).
+unfoldable pub revision : List ℕ → Read ℕ
+revision t = revisionBy t (word (bytes "rev=") t)
+
+-- ---- the three lines behind it
 
 -- The sizes of a curve.
 pub record Sizes : Type 0 where
@@ -63,7 +74,7 @@ pub record Sizes : Type 0 where
 abbrev pub sizesOf : ℕ → ℕ → ℕ → Sizes
 sizesOf dim degree count = record { dim = dim; degree = degree; count = count }
 
--- The first three lines.
+-- The three lines.
 unfoldable pub sizes : List ℕ → Read Sizes
 sizes t =
     then (smallLine (bytes "dim=") t) (λ dim a.
@@ -114,29 +125,40 @@ numbers s t =
 -- What a text comes to: the number of a refusal, or a question.
 pub data Reading : Type 0 where
   refusedBy : ℕ → Reading
-  asks : Sizes → Numbers → Reading
+  -- in a revision
+  asks : ℕ → Sizes → Numbers → Reading
 
 -- The call that is made of a question. The program "lends 8,192 numbers".
-abbrev pub callOf : Sizes → Numbers → Call
-callOf s q =
-    lent (s .dim) (s .degree) (s .count) (q .knots) (q .points) (q .box) (q .resolution) (q .nodes) 8192
+abbrev pub callOf : ℕ → Sizes → Numbers → Call
+callOf rev s q =
+    lent rev (s .dim) (s .degree) (s .count) (q .knots) (q .points) (q .box) (q .resolution) (q .nodes) 8192
 
 -- The other lines, of a text of n bytes: "12: the text is not of the form below, or is over 65,536 bytes."
-unfoldable pub completeBy : Sizes → ℕ → Read Numbers → Reading
-completeBy s n bad = refusedBy 12
-completeBy s n (got q rest) = cond (leb n 65536 && eqb (length rest) 0) (asks s q) (refusedBy 12)
+unfoldable pub completeBy : ℕ → Sizes → ℕ → Read Numbers → Reading
+completeBy rev s n bad = refusedBy 12
+completeBy rev s n (got q rest) = cond (leb n 65536 && eqb (length rest) 0) (asks rev s q) (refusedBy 12)
 
 -- The sizes are known, and the refusal that they bring:
--- "It comes before 4 to 10; numbers 1 to 3 come as soon as the first three lines are read."
-unfoldable pub openedBy : Sizes → ℕ → List ℕ → ℕ → Reading
-openedBy s n rest zero = completeBy s n (numbers s rest)
-openedBy s n rest (suc r) = refusedBy (suc r)
+-- "It comes before 4 to 10; numbers 1 to 3 come as soon as the first three lines are read", which stand behind the line of the revision, if there is one (request E8).
+unfoldable pub openedBy : ℕ → Sizes → ℕ → List ℕ → ℕ → Reading
+openedBy rev s n rest zero = completeBy rev s n (numbers s rest)
+openedBy rev s n rest (suc r) = refusedBy (suc r)
 
--- After the first three lines.
-unfoldable pub readBy : ℕ → Read Sizes → Reading
-readBy n bad = refusedBy 12
-readBy n (got s rest) = openedBy s n rest (sizesRefusal (s .dim) (s .degree) (s .count))
+-- After the three lines of the sizes.
+unfoldable pub readBy : ℕ → ℕ → Read Sizes → Reading
+readBy rev n bad = refusedBy 12
+readBy rev n (got s rest) = openedBy rev s n rest (sizesRefusal (s .dim) (s .degree) (s .count))
+
+-- The revision is known, and the refusal that it brings: "another revision number gets 16 .. in a text this comes after its line" (request E8).
+unfoldable pub namedBy : ℕ → ℕ → List ℕ → ℕ → Reading
+namedBy rev n rest zero = readBy rev n (sizes rest)
+namedBy rev n rest (suc r) = refusedBy (suc r)
+
+-- After the line of the revision.
+unfoldable pub begunBy : ℕ → Read ℕ → Reading
+begunBy n bad = refusedBy 12
+begunBy n (got rev rest) = namedBy rev n rest (revisionRefusal rev)
 
 -- What a text comes to.
 unfoldable pub reading : List ℕ → Reading
-reading text = readBy (length text) (sizes text)
+reading text = begunBy (length text) (revision text)

@@ -5,8 +5,7 @@ use mathlib.Core.List.{List, [], _++_}
 use lib.Dec.{leb}
 use mathlib.Core.Option.{Option, none, some}
 use Rattle.math.specs.declared.scalars.Scalar.{Scalar}
-use Rattle.math.specs.Scalars.{geop}
-use Rattle.model.specs.Call.{searched}
+use Rattle.model.specs.Call.{answerTo}
 use Rattle.model.specs.Paper.{Result, none-found, enclosed, spent, refused, Paper, paper}
 use Rattle.model.specs.declared.contains.Found.{Found}
 use Rattle.model.specs.declared.contains.Found.the-variants.{Refused}
@@ -17,7 +16,7 @@ use Rattle.text.specs.Question.{Reading, refusedBy, asks, callOf, readin
 -- The answer to what was read: "A refusal other than 11 prints visited=0", cuts=0 (request E2) and depth=0 (request E5).
 unfoldable pub answeredBy : Reading → Found
 answeredBy (refusedBy n) = Refused n 0 0 0
-answeredBy (asks s q) = searched geop (callOf s q)
+answeredBy (asks rev s q) = answerTo (callOf rev s q)
 
 -- The answer to a text.
 unfoldable pub answered : List ℕ → Found

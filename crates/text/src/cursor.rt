@@ -15,7 +15,7 @@ pub enum Small {
     Number(usize, usize),
 }
 
-// The first three lines.
+// The three lines of the sizes.
 pub enum Head {
     NoHead,
     // dim, degree, count, and where the rest begins.

@@ -10,7 +10,7 @@ ghost use mathlib.Core.List.{[], _∷_};
 ghost use Prim.Native.Nat.{_+_, _*_, _≤_};
 ghost use lib.ListN.{length, drop};
 ghost use Rattle.text.specs.Bytes.{word};
-ghost use Rattle.text.specs.Question.{behind, smallLine, values, line, lines};
+ghost use Rattle.text.specs.Question.{behind, smallLine, values, line, lines, revision};
 ghost use Rattle.text.specs.Question.{sizesOf, sizes, numbers};
 ghost use Rattle.text.specs.Cursor.{WordRead, SmallRead, HeadRead, ValueRead, ValuesRead};
 ghost use Rattle.text.specs.Cursor.{LimitsRead, ShapeRead, NumbersRead};
@@ -142,12 +142,24 @@ fn lines(
     Place::At(p)
 }
 
-// The first three lines.
-pub(crate) fn sizes(text: &[u8]) -> Head
-    ensures { λ r. ⌜ HeadRead (now (text .entry)) (sizes (now (text .entry))) r ⌝ }
+// The line of the revision, which is 1 where the text does not begin with its key: then the rest begins at the front.
+pub(crate) fn revision(text: &[u8]) -> Small
+    ensures { λ r. ⌜ SmallRead (now (text .entry)) (revision (now (text .entry))) r ⌝ }
+{
+    let rev = [b'r', b'e', b'v', b'='];
+    let Place::At(_) = word(text, 0, &rev) else {
+        return Small::Number(1, 0);
+    };
+    small_line(text, 0, &rev)
+}
+
+// The three lines of the sizes from `at` on.
+pub(crate) fn sizes(text: &[u8], at: usize) -> Head
+    requires { ⌜ at ≤ length (now text) ⌝ }
+    ensures { λ r. let t = now (text .entry) in ⌜ HeadRead t (sizes (drop at t)) r ⌝ }
 {
     let dim = [b'd', b'i', b'm', b'='];
-    let Small::Number(d, i) = small_line(text, 0, &dim) else {
+    let Small::Number(d, i) = small_line(text, at, &dim) else {
         return Head::NoHead;
     };
     let degree = [b'd', b'e', b'g', b'r', b'e', b'e', b'='];

@@ -3,16 +3,17 @@ use crate::cursor::Head;
 use crate::cursor::Small;
 use crate::print::write;
 use crate::question::numbers;
+use crate::question::revision;
 use crate::question::sizes;
+use geometry::call::revision_refusal;
 use geometry::call::sizes_refusal;
 use geometry::contains::curve_could_contain;
 use model::contains::Found;
 ghost use mathlib.Core.Path.{_≡_};
 ghost use Prim.Native.Nat.{_≤_};
 ghost use lib.ListN.{length, drop};
-ghost use Rattle.math.specs.Scalars.{geop};
-ghost use Rattle.model.specs.Call.{searched};
-ghost use Rattle.text.specs.Question.{sizesOf, callOf, numbers, completeBy};
+ghost use Rattle.model.specs.Call.{answerTo};
+ghost use Rattle.text.specs.Question.{sizesOf, callOf, sizes, numbers, completeBy, readBy};
 ghost use Rattle.text.specs.Cursor.{numbersIn};
 ghost use Rattle.text.specs.Respond.{answeredBy, answered, fitting};
 ghost use Rattle.text.specs.Printable.{Written, Printable};
@@ -34,11 +35,18 @@ fn room() -> [f64; 303]
 
 // The answer of the search to the question whose numbers stand in `lines`:
 // the resolution, the knots, the points, the box.
-fn ask_lines(lines: &[f64], dim: usize, degree: usize, count: usize, nodes: usize) -> Found
+fn ask_lines(
+    lines: &[f64],
+    rev: usize,
+    dim: usize,
+    degree: usize,
+    count: usize,
+    nodes: usize,
+) -> Found
     requires { ⌜ (303 ≤ length (now lines)) × (dim ≤ 3) × (degree ≤ 7) × (count ≤ 32) ⌝ }
     ensures equal { λ r.
         let s = sizesOf dim degree count in
-        ⌜ r ≡ searched geop (callOf s (numbersIn s nodes (now (lines .entry)))) ⌝ }
+        ⌜ r ≡ answerTo (callOf rev s (numbersIn s nodes (now (lines .entry)))) ⌝ }
     ensures numbers { λ r. ⌜ Printable r ⌝ }
 {
     let mut work = area();
@@ -46,6 +54,7 @@ fn ask_lines(lines: &[f64], dim: usize, degree: usize, count: usize, nodes: usiz
     let p = k + 2 * (dim + 1) * count;
     let b = p + 2 * dim;
     curve_could_contain(
+        rev,
         dim,
         degree,
         count,
@@ -59,11 +68,11 @@ fn ask_lines(lines: &[f64], dim: usize, degree: usize, count: usize, nodes: usiz
 }
 
 // The answer to a text of these sizes, whose other lines begin at `at`.
-fn asked(text: &[u8], at: usize, dim: usize, degree: usize, count: usize) -> Found
+fn asked(text: &[u8], at: usize, rev: usize, dim: usize, degree: usize, count: usize) -> Found
     requires { ⌜ (at ≤ length (now text)) × (dim ≤ 3) × (degree ≤ 7) × (count ≤ 32) ⌝ }
     ensures equal { λ r.
         let t = now (text .entry) in let s = sizesOf dim degree count in
-        ⌜ r ≡ answeredBy (completeBy s (length t) (numbers s (drop at t))) ⌝ }
+        ⌜ r ≡ answeredBy (completeBy rev s (length t) (numbers s (drop at t))) ⌝ }
     ensures numbers { λ r. ⌜ Printable r ⌝ }
 {
     let mut lines = room();
@@ -76,7 +85,25 @@ fn asked(text: &[u8], at: usize, dim: usize, degree: usize, count: usize) -> Fou
     if end < text.len() {
         return Found::Refused(12, 0, 0, 0);
     }
-    ask_lines(&lines, dim, degree, count, nodes)
+    ask_lines(&lines, rev, dim, degree, count, nodes)
+}
+
+// The answer to a text in this revision, whose lines behind that of the revision begin at `at`.
+fn answered_in(text: &[u8], at: usize, rev: usize) -> Found
+    requires { ⌜ at ≤ length (now text) ⌝ }
+    ensures equal { λ r.
+        let t = now (text .entry) in
+        ⌜ r ≡ answeredBy (readBy rev (length t) (sizes (drop at t))) ⌝ }
+    ensures numbers { λ r. ⌜ Printable r ⌝ }
+{
+    let Head::Heads(dim, degree, count, rest) = sizes(text, at) else {
+        return Found::Refused(12, 0, 0, 0);
+    };
+    let number = sizes_refusal(dim, degree, count);
+    if number != 0 {
+        return Found::Refused(number as u64, 0, 0, 0);
+    }
+    asked(text, rest, rev, dim, degree, count)
 }
 
 // The answer to a text.
@@ -84,14 +111,14 @@ fn answered(text: &[u8]) -> Found
     ensures equal { λ r. ⌜ r ≡ answered (now (text .entry)) ⌝ }
     ensures numbers { λ r. ⌜ Printable r ⌝ }
 {
-    let Head::Heads(dim, degree, count, at) = sizes(text) else {
+    let Small::Number(rev, at) = revision(text) else {
         return Found::Refused(12, 0, 0, 0);
     };
-    let number = sizes_refusal(dim, degree, count);
-    if number != 0 {
-        return Found::Refused(number as u64, 0, 0, 0);
+    let refused = revision_refusal(rev);
+    if refused != 0 {
+        return Found::Refused(refused as u64, 0, 0, 0);
     }
-    asked(text, at, dim, degree, count)
+    answered_in(text, at, rev)
 }
 
 // What the program writes for a text, written to the front of `out`. The result is how many bytes that is.

@@ -21,7 +21,7 @@ use Rattle.math.specs.declared.bounds.Bounds.{Bounds}
 use Rattle.math.specs.declared.bounds.Divisor.{Divisor}
 use Rattle.model.specs.declared.fat_line.Hat.{Hat}
 use Rattle.model.specs.declared.fat_line.Hat.the-variants.{Over, Missing}
-use Rattle.math.proofs.Laws.{AreDoubles, over-doubles, widen-over-own}
+use Rattle.math.proofs.Laws.{AreNumbers, over-numbers, widen-over-own}
 use Rattle.model.specs.Vector.{Vector, coordinate}
 use Rattle.model.specs.Layout.{scalarAt, scalarsOf, pointAt, pointsOf}
 use Rattle.model.specs.Aabb.{unions, place, aabb, couldOverlap, alongBy, along, meets, couldMeet}
@@ -82,12 +82,12 @@ axis-of ar dim k n l = ap unions (sym (map-tab (λ q. place ar dim k q) n (λ i.
 pub axis-done : (ar : Arithmetic) (dim k n i : ℕ) (l : List Float) (r x : Scalar) → i ≡ n → x ≡ unions (tab i (placeAt ar dim k l)) → r ≡ x → r ≡ axisAt ar dim n l k
 axis-done ar dim k n i l r x e h g = g ∙ h ∙ ap (λ (m : ℕ). unions (tab m (placeAt ar dim k l))) e ∙ axis-of ar dim k n l
 
--- the place of a point by the Rust's arithmetic: its coordinate over a divisor that was made of its weight, widened
+-- the place of a point in revision 1: its coordinate over a divisor that was made of its weight, widened
 pub place-over : (dim k : ℕ) (q : Vector) (x w : Scalar) (d : Divisor) (b : Bounds) → x ≡ coordinate q k → w ≡ coordinate q dim → d ≡ divisorOf w → b ≡ overB x d
-    → Gives AreDoubles widenB (place geop dim k q) b
+    → Gives AreNumbers widenB (place geop dim k q) b
 unfolding place
 place-over dim k q x w d b X W D B = record {
-  kind = subst AreDoubles (sym B) (over-doubles x d);
+  kind = subst AreNumbers (sym B) (over-numbers x d);
   is = ap widenB B ∙ (λ i. widenB (overB (X i) ((D ∙ ap divisorOf W) i))) ∙ widen-over-own (coordinate q k) (coordinate q dim);
 }
 

@@ -1,4 +1,4 @@
--- Unions of a family of intervals, one after the other: by intervals, and by bounds that are joined first and widened once, at the end. Assumes nothing.
+-- Unions of a family of intervals, one after the other: by intervals, and by bounds that are gathered first and widened once, at the end. Assumes nothing.
 use mathlib.Core.Path.{_≡_, refl, sym, ap, _∙_, subst}
 use mathlib.Core.List.{List, [], _∷_, _++_}
 use Prim.Native.Nat.{ℕ, _+_, _≤_}
@@ -11,8 +11,7 @@ use Rattle.lists.proofs.Fold.{foldl-append}
 use Rattle.math.specs.declared.scalars.Scalar.{Scalar}
 use Rattle.math.specs.declared.bounds.Bounds.{Bounds}
 use Rattle.math.specs.Scalars.{unionS}
-use Rattle.math.specs.Bounds.{joinB}
-use Rattle.math.proofs.Laws.{Joins}
+use Rattle.math.proofs.Laws.{Gathers}
 use Rattle.model.specs.Aabb.{unions}
 
 -- ---- intervals
@@ -45,9 +44,10 @@ module _ (Kind : Bounds → Type 0) (widen : Bounds → Scalar) (f : ℕ → Sca
   pub joined-first : (b : Bounds) → Gives Kind widen (f 0) b → Gives Kind widen (unions (tab 1 f)) b
   joined-first b B = record { kind = B .kind; is = B .is ∙ unions-first f }
 
-  -- one turn of a loop that has joined the first n of them
-  pub joined-turn : Joins Kind widen → (n : ℕ) (all b r : Bounds) → 1 ≤ n → Gives Kind widen (unions (tab n f)) all → Gives Kind widen (f n) b → r ≡ joinB all b → Gives Kind widen (unions (tab (n + 1) f)) r
-  joined-turn J n all b r h A B e = record {
+  -- one turn of a loop that has gathered the first n of them
+  pub joined-turn : (gather : Bounds → Bounds → Bounds) → Gathers gather Kind widen → (n : ℕ) (all b r : Bounds) → 1 ≤ n → Gives Kind widen (unions (tab n f)) all → Gives Kind widen (f n) b → r ≡ gather all b
+      → Gives Kind widen (unions (tab (n + 1) f)) r
+  joined-turn gather J n all b r h A B e = record {
     kind = subst Kind (sym e) (J .keeps all b (A .kind) (B .kind));
     is = unions-turn f n (widen all) (widen b) (widen r) h (A .is) (B .is) (ap widen e ∙ J .union all b (A .kind) (B .kind));
   }

@@ -5,12 +5,13 @@ use mathlib.Core.List.{List, [], _∷_}
 use Prim.Native.Nat.{ℕ, zero, suc, _+_, _-_, _*_, _≤_, _<_}
 use native.Mathlib.Nat.{mul-assoc, zero-mul}
 use native.Mathlib.Omega.{arith}
+use lib.Dec.{eqb}
 use lib.ListN.{length, drop, replicate}
 use lib.Ieee.{Float}
 use Rattle.lists.specs.Lists.{put, cleared}
 use Rattle.lists.proofs.Loop.{cleared-put, cleared-same}
 use Rattle.lists.proofs.Ring.{wrapped-head}
-use Rattle.math.specs.Scalars.{Arithmetic, geop, zeroF}
+use Rattle.math.specs.Scalars.{Arithmetic, zeroF}
 use Rattle.math.specs.Encloses.{Encloses}
 use Rattle.math.proofs.Bools.{pick-yes, pick-no}
 use Rattle.model.specs.NurbCurve.{Piece}
@@ -18,7 +19,7 @@ use Rattle.model.specs.Layout.{areaWords}
 use Rattle.model.specs.Aabb.{couldMeet}
 use Rattle.model.specs.Subdivide.{advance, answered}
 use Rattle.model.specs.Contains.{visit, begun, couldContain}
-use Rattle.model.specs.Call.{Call, asPiece, boxOf, question, refusal, stated, statedWords, searchedBy, searched, areaBy, areaAfter}
+use Rattle.model.specs.Call.{Call, asPiece, boxOf, question, refusal, stated, statedWords, arithmeticOf, searchedBy, searched, areaBy, areaAfter}
 use Rattle.model.specs.Enclosure.{Doubles, Accepted, HitsEnclosed, BoundsInDomain, BoundsPositiveZero, BoundsInOrder}
 use Rattle.model.specs.Paper.{paper}
 use Rattle.model.specs.Promise.{Answers}
@@ -35,7 +36,7 @@ use Rattle.geometry.proofs.slots.Counts.{inside-of}
 use Rattle.geometry.proofs.slots.Piece.{length-placed, piece-placed, held-placed}
 use Rattle.geometry.proofs.slots.Depth.{depth-back, waits-by, depth-is, depth-room, deepened, deep-long, deep-is, deep-held, deep-piece, deep-outside}
 use Rattle.geometry.proofs.slots.Ring.{beside-placed, beside-behind}
-use Rattle.model.proofs.Enclosure.{geop-enclosure}
+use Rattle.model.proofs.Enclosure.{revision-enclosure}
 use Rattle.model.proofs.Debug.Call.{debug-says}
 use Rattle.geometry.proofs.contains.Fit.{shapeOf, all-fit}
 
@@ -56,19 +57,19 @@ refused c area (suc n) e h = record {
   debug = debug-says c _ (λ acc. absurd (h (e ∙ acc))) result;
 }
   where
-    result : Refused (suc n) 0 0 0 ≡ searchedBy geop c (refusal c)
-    result = ap (searchedBy geop c) e
+    result : Refused (suc n) 0 0 0 ≡ searchedBy (arithmeticOf c) c (refusal c)
+    result = ap (searchedBy (arithmeticOf c) c) e
 
 -- Any other is searched, and its answer keeps demand 3.
-pub answered-by : (c : Call) (before after : List Float) (r : Found) → Doubles c → Searches geop c before after r → Answers c before after r
+pub answered-by : (c : Call) (before after : List Float) (r : Found) → Doubles c → Searches (arithmeticOf c) c before after r → Answers c before after r
 answered-by c before after r d h = record {
   result = h .result;
   paper = ap paper (h .result);
   memory = h .memory;
-  encloses = subst (HitsEnclosed c) (sym (h .result)) (geop-enclosure .hits c d);
-  within = subst (BoundsInDomain (c .curve)) (sym (h .result)) (geop-enclosure .bounds c d);
-  zeros = subst BoundsPositiveZero (sym (h .result)) (geop-enclosure .zeros c);
-  order = subst BoundsInOrder (sym (h .result)) (geop-enclosure .order c d);
+  encloses = subst (HitsEnclosed c) (sym (h .result)) (revision-enclosure (eqb (c .rev) 2) .hits c d);
+  within = subst (BoundsInDomain (c .curve)) (sym (h .result)) (revision-enclosure (eqb (c .rev) 2) .bounds c d);
+  zeros = subst BoundsPositiveZero (sym (h .result)) (revision-enclosure (eqb (c .rev) 2) .zeros c);
+  order = subst BoundsInOrder (sym (h .result)) (revision-enclosure (eqb (c .rev) 2) .order c d);
   debug = debug-says c r (λ _. d) (h .result);
 }
 

@@ -24,7 +24,7 @@ use Rattle.math.proofs.Laws.{AreDoubles, difference-doubles, widen-difference, 
 use Rattle.model.specs.Layout.{scalarAt, scalarsOf, flat}
 use Rattle.model.specs.Aabb.{unions}
 use Rattle.model.specs.FatLine.{window, abscissa, greville, offset, crossing, zerosBy, fatLineZeros}
-use Rattle.geometry.specs.Abscissae.{summed, held}
+use Rattle.geometry.specs.Abscissae.{summed, meanOver, held}
 use Rattle.geometry.specs.Zeros.{fromFirst, chordAt, offRun, levelZeros, slopedZeros}
 use Rattle.model.specs.declared.fat_line.Hat.{Hat}
 use Rattle.model.specs.declared.fat_line.Hat.the-variants.{Over, Missing}
@@ -48,10 +48,15 @@ pub in-float : (p : ℕ) → p ≤ 7 → T (inFloat binary64 (pos p))
 unfolding inFloat
 in-float p h = le→leb p (2 ^ 53) (omega arith)
 
--- by the Rust's arithmetic the sum over a divisor that was made of the degree is the mean
-pub mean-is : (p : ℕ) (w : List Float) (n r : Scalar) (d : Divisor) → n ≡ sharp (ofInt binary64 (pos p)) → d ≡ divisorOf n → r ≡ overS (summed geop ZERO w) d → r ≡ abscissa geop p w
-unfolding abscissa
-mean-is p w n r d N D R = R ∙ ap (overS (summed geop ZERO w)) (D ∙ ap divisorOf N) ∙ over-own (summed geop ZERO w) (sharp (ofInt binary64 (pos p)))
+-- in revision 1 the sum goes over a divisor that is at hand
+pub mean-over : (w : List Float) (r : Scalar) (d : Divisor) → d ≡ divisorOf (d .value) → r ≡ overS (summed geop ZERO w) d → r ≡ meanOver geop w (d .value)
+unfolding meanOver
+mean-over w r d D R = R ∙ ap (overS (summed geop ZERO w)) D ∙ over-own (summed geop ZERO w) (d .value)
+
+-- over the degree it is the abscissa
+pub mean-is : (ar : Arithmetic) (p : ℕ) (w : List Float) (n r : Scalar) (d : Divisor) → n ≡ sharp (ofInt binary64 (pos p)) → d ≡ divisorOf n → r ≡ meanOver ar w (d .value) → r ≡ abscissa ar p w
+unfolding abscissa meanOver divisorOf
+mean-is ar p w n r d N D R = R ∙ ap (meanOver ar w) (ap (λ (e : Divisor). e .value) D ∙ N)
 
 -- ---- the abscissae in their array
 
@@ -147,12 +152,16 @@ band-done ar slope y0 dx d n i r x e h g =
     ∙ ap (λ (m : ℕ). unions (tab m (off ar slope y0 dx d))) e
     ∙ ap (λ (l : List Scalar). unions l) (sym (zipWith-tab (λ x y. offRun ar slope y0 x y) n (λ j. scalarAt dx j) (λ j. scalarAt d j)))
 
--- the offset by the Rust's arithmetic: the difference of a value y and the chord c at it, widened
+-- the offset of a value y: from the chord c at it
+pub off-is : (ar : Arithmetic) (slope y0 : Scalar) (dx d : List Float) (i : ℕ) (x c y r : Scalar) → x ≡ scalarAt dx i → c ≡ chordAt ar slope y0 x → y ≡ scalarAt d i → r ≡ ar .sub y c → r ≡ off ar slope y0 dx d i
+off-is ar slope y0 dx d i x c y r X C Y R = R ∙ (λ j. ar .sub (Y j) ((C ∙ ap (chordAt ar slope y0) X) j))
+
+-- the offset in revision 1: the difference of a value y and the chord c at it, widened
 pub off-difference : (slope y0 : Scalar) (dx d : List Float) (i : ℕ) (x c y : Scalar) (b : Bounds) → x ≡ scalarAt dx i → c ≡ chordAt geop slope y0 x → y ≡ scalarAt d i → b ≡ differenceB y c
     → Gives AreDoubles widenB (off geop slope y0 dx d i) b
 off-difference slope y0 dx d i x c y b X C Y B = record {
   kind = subst AreDoubles (sym B) (difference-doubles y c);
-  is = ap widenB B ∙ widen-difference y c ∙ (λ j. geop .sub (Y j) ((C ∙ ap (chordAt geop slope y0) X) j));
+  is = off-is geop slope y0 dx d i x c y _ X C Y (ap widenB B ∙ widen-difference y c);
 }
 
 -- ---- the zeros

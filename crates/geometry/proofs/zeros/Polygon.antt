@@ -11,33 +11,35 @@ use Rattle.lists.proofs.Tab.{tab-whole, zipWith-tab}
 use Rattle.math.specs.declared.scalars.Scalar.{Scalar}
 use Rattle.math.specs.declared.scalars.Divided.{Divided}
 use Rattle.math.specs.declared.scalars.Divided.the-variants.{Value, Failed}
+use Rattle.math.specs.Revision.{arithmetic}
 use Rattle.math.specs.Scalars.{Arithmetic, absent, ENTIRE}
 use Rattle.math.proofs.Bools.{and-l, and-r}
 use Rattle.model.specs.Aabb.{unions}
+use Rattle.model.specs.Call.{revisionFits}
 use Rattle.model.specs.FatLine.{offset, zerosBy, fatLineZeros}
 use Rattle.model.specs.Paper.{hatOf}
 use Rattle.model.specs.declared.fat_line.Hat.{Hat}
 use Rattle.model.specs.declared.fat_line.Hat.the-variants.{Over}
-use Rattle.geometry.specs.Zeros.{paired, polygonZeros, ZerosFound, levelZeros, slopedZeros, offBy, begun, taken, zerosOf}
+use Rattle.geometry.specs.Zeros.{paired, answerable, polygonZeros, ZerosFound, levelZeros, slopedZeros, offBy, begun, taken, zerosOf}
 use Rattle.geometry.specs.declared.zeros.Line.{Line}
 use Rattle.geometry.proofs.aabb.Unions.{unions-first, unions-turn}
 
--- ---- where the lists are no polygon, and where they are one
+-- ---- where there is nothing to answer, and where the lists are a polygon
 
-pub no-polygon : (ar : Arithmetic) (ξ d : List Scalar) (t : Bool) → t ≡ paired (length ξ) (length d) → T (not t) → Over ENTIRE ≡ polygonZeros ar ξ d
+pub no-polygon : (rev : ℕ) (ξ d : List Scalar) (t : Bool) → t ≡ answerable rev (length ξ) (length d) → T (not t) → Over ENTIRE ≡ polygonZeros rev ξ d
 unfolding polygonZeros
-no-polygon ar ξ d true e h = absurd h
-no-polygon ar ξ d false e h = ap (λ (b : Bool). cond b (fatLineZeros ar ξ d) (Over ENTIRE)) e
+no-polygon rev ξ d true e h = absurd h
+no-polygon rev ξ d false e h = ap (λ (b : Bool). cond b (fatLineZeros (arithmetic (eqb rev 2)) ξ d) (Over ENTIRE)) e
 
-pub a-polygon : (ar : Arithmetic) (ξ d : List Scalar) (t : Bool) → t ≡ paired (length ξ) (length d) → T t → fatLineZeros ar ξ d ≡ polygonZeros ar ξ d
+pub a-polygon : (rev : ℕ) (ξ d : List Scalar) (t : Bool) → t ≡ answerable rev (length ξ) (length d) → T t → fatLineZeros (arithmetic (eqb rev 2)) ξ d ≡ polygonZeros rev ξ d
 unfolding polygonZeros
-a-polygon ar ξ d true e h = ap (λ (b : Bool). cond b (fatLineZeros ar ξ d) (Over ENTIRE)) e
-a-polygon ar ξ d false e h = absurd h
+a-polygon rev ξ d true e h = ap (λ (b : Bool). cond b (fatLineZeros (arithmetic (eqb rev 2)) ξ d) (Over ENTIRE)) e
+a-polygon rev ξ d false e h = absurd h
 
 -- the definition's answer, on paper
-pub zeros-found : (ar : Arithmetic) (ξ d : List Scalar) (r : Hat) → r ≡ polygonZeros ar ξ d → ZerosFound ar ξ d r
+pub zeros-found : (rev : ℕ) (ξ d : List Scalar) (r : Hat) → r ≡ polygonZeros rev ξ d → ZerosFound rev ξ d r
 unfolding polygonZeros
-zeros-found ar ξ d r e = record { result = e; paper = ap hatOf e ∙ on-paper (paired (length ξ) (length d)) (fatLineZeros ar ξ d) }
+zeros-found rev ξ d r e = record { result = e; paper = ap hatOf e ∙ on-paper (answerable rev (length ξ) (length d)) (fatLineZeros (arithmetic (eqb rev 2)) ξ d) }
   where
     on-paper : (t : Bool) (h : Hat) → hatOf (cond t h (Over ENTIRE)) ≡ cond t (hatOf h) (some ENTIRE)
     on-paper true h = refl
@@ -47,8 +49,8 @@ pub not-not : (t : Bool) → T (not (not t)) → T t
 not-not true h = tt
 not-not false h = h
 
-pub is-pair : (m n : ℕ) (t : Bool) → t ≡ paired m n → T (not (not t)) → T (paired m n)
-is-pair m n t e h = subst T e (not-not t h)
+pub is-pair : (rev m n : ℕ) (t : Bool) → t ≡ answerable rev m n → T (not (not t)) → T (paired m n)
+is-pair rev m n t e h = and-r (revisionFits rev) (paired m n) (subst T e (not-not t h))
 
 pub as-many : (m n : ℕ) → T (paired m n) → m ≡ n
 as-many m n h = eqb→eq m n (and-l (eqb m n) (ltb 0 n) h)
@@ -58,7 +60,11 @@ not-empty m n h = ltb→lt 0 n (and-r (eqb m n) (ltb 0 n) h)
 
 -- ---- what the turns keep
 
-module _ (ar : Arithmetic) (ξ d : List Scalar) where
+module _ (rev : ℕ) (ξ d : List Scalar) where
+  -- the revision's arithmetic
+  abbrev ar : Arithmetic
+  ar = arithmetic (eqb rev 2)
+
   abbrev x₀ : Scalar
   x₀ = getD ξ 0 absent
 
@@ -74,18 +80,18 @@ module _ (ar : Arithmetic) (ξ d : List Scalar) where
 
   -- The line with the first i points taken in.
   abbrev pub lineOf : ℕ → Line
-  lineOf i = record { x0 = x₀; y0 = y₀; last = lastD d absent; slope = slope; band = unions (tab i off) }
+  lineOf i = record { second = eqb rev 2; x0 = x₀; y0 = y₀; last = lastD d absent; slope = slope; band = unions (tab i off) }
 
-  pub line-first : (r : Line) → length ξ ≡ length d → r ≡ begun ar x₀ y₀ (getD ξ (length d - 1) absent) (lastD d absent) → r ≡ lineOf 1
+  pub line-first : (r : Line) → length ξ ≡ length d → r ≡ begun rev x₀ y₀ (getD ξ (length d - 1) absent) (lastD d absent) → r ≡ lineOf 1
   unfolding begun
-  line-first r h e = e ∙ ap (λ (n : ℕ). begun ar x₀ y₀ (getD ξ (n - 1) absent) (lastD d absent)) (sym h) ∙ ap (λ (b : Scalar). record { x0 = x₀; y0 = y₀; last = lastD d absent; slope = slope; band = b }) (unions-first off)
+  line-first r h e = e ∙ ap (λ (n : ℕ). begun rev x₀ y₀ (getD ξ (n - 1) absent) (lastD d absent)) (sym h) ∙ ap (λ (b : Scalar). record { second = eqb rev 2; x0 = x₀; y0 = y₀; last = lastD d absent; slope = slope; band = b }) (unions-first off)
 
-  pub line-turn : (i : ℕ) (l r : Line) → 0 < i → l ≡ lineOf i → r ≡ taken ar l (getD ξ i absent) (getD d i absent) → r ≡ lineOf (i + 1)
+  pub line-turn : (i : ℕ) (l r : Line) → 0 < i → l ≡ lineOf i → r ≡ taken l (getD ξ i absent) (getD d i absent) → r ≡ lineOf (i + 1)
   unfolding taken
   line-turn i l r h e g =
       g
-      ∙ ap (λ (k : Line). taken ar k (getD ξ i absent) (getD d i absent)) e
-      ∙ ap (λ (b : Scalar). record { x0 = x₀; y0 = y₀; last = lastD d absent; slope = slope; band = b }) (unions-turn off i _ _ _ h refl refl refl)
+      ∙ ap (λ (k : Line). taken k (getD ξ i absent) (getD d i absent)) e
+      ∙ ap (λ (b : Scalar). record { second = eqb rev 2; x0 = x₀; y0 = y₀; last = lastD d absent; slope = slope; band = b }) (unions-turn off i _ _ _ h refl refl refl)
 
   -- ---- at the end
 
@@ -102,9 +108,9 @@ module _ (ar : Arithmetic) (ξ d : List Scalar) where
       ap (λ (l : List Scalar). slopedZeros ar s x₀ y₀ (lastD d absent) (unions l))
       (zip-off h (λ x y. offset ar s x₀ y₀ x y))
 
-  pub line-done : (i : ℕ) (l : Line) (r : Hat) → length ξ ≡ length d → i ≡ length d → l ≡ lineOf i → r ≡ zerosOf ar (l .x0) (l .y0) (l .last) (l .band) (l .slope) → r ≡ fatLineZeros ar ξ d
+  pub line-done : (i : ℕ) (l : Line) (r : Hat) → length ξ ≡ length d → i ≡ length d → l ≡ lineOf i → r ≡ zerosOf (arithmetic (l .second)) (l .x0) (l .y0) (l .last) (l .band) (l .slope) → r ≡ fatLineZeros (arithmetic (eqb rev 2)) ξ d
   unfolding fatLineZeros
   line-done i l r h n e g =
       g
-      ∙ ap (λ (k : Line). zerosOf ar (k .x0) (k .y0) (k .last) (k .band) (k .slope)) (e ∙ ap (λ (m : ℕ). lineOf m) n)
+      ∙ ap (λ (k : Line). zerosOf (arithmetic (k .second)) (k .x0) (k .y0) (k .last) (k .band) (k .slope)) (e ∙ ap (λ (m : ℕ). lineOf m) n)
       ∙ zeros-by h slope

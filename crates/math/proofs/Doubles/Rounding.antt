@@ -180,7 +180,7 @@ pub record Rounds (r : Float) (v : ℚ) : Type 0 where
 pub rounds-at : (r : Float) (v w : ℚ) → v ≡ w → Rounds r v → Rounds r w
 rounds-at r v w e h = subst (λ (z : ℚ). Rounds r z) e h
 
-rounds-neg : (r : Float) (v : ℚ) → Rounds r v → Rounds (neg r) (-ℚ v)
+pub rounds-neg : (r : Float) (v : ℚ) → Rounds r v → Rounds (neg r) (-ℚ v)
 rounds-neg r v h = record { held = neg-fits binary64 r (h .held); lows = highs-neg r v (h .highs); highs = lows-neg r v (h .lows) }
 
 -- it is at least every double that its number is at least, and at most every one that its number is at most

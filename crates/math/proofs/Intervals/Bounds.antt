@@ -1,18 +1,18 @@
--- Bounds that are not widened yet: what they are once they are widened, and that bounds which are joined are widened once, at the end. Assumes nothing.
-use mathlib.Core.Path.{_≡_, refl, sym, ap, _∙_}
+-- Bounds of revision 1 that are not widened yet: what they are once they are widened, and that bounds which are joined are widened once, at the end. Assumes nothing.
+use mathlib.Core.Path.{_≡_, refl, sym, ap, _∙_, subst}
 use mathlib.Core.Bool.{Bool, true, false, cond}
 use lib.Dec.{T}
-use lib.Ieee.{Float, binary64, fits, neg}
+use lib.Ieee.{Float, binary64, fits, isNan, neg}
 use lib.Ieee.Fits.{inf-fits, sub-fits}
 use Rattle.math.specs.Neighbours.{nextUp, nextDown}
 use Rattle.math.specs.Scalars.{ENTIRE, hasZero, unionS, valueOr, subS, corners, mulS, inverseS, divS}
-use Rattle.math.specs.Bounds.{widenB, wholeB, differenceB, joinB, divisorOf, overS, overB}
+use Rattle.math.specs.Bounds.{widenB, wholeB, differenceB, joinB, pickB, divisorOf, overS, overB}
 use Rattle.math.specs.declared.scalars.Scalar.{Scalar}
 use Rattle.math.specs.declared.scalars.Divided.the-variants.{Value, Failed}
 use Rattle.math.specs.declared.bounds.Bounds.{Bounds}
 use Rattle.math.specs.declared.bounds.Divisor.{Divisor}
 use Rattle.math.proofs.Bools.{pick}
-use Rattle.math.proofs.Picks.{corners-doubles}
+use Rattle.math.proofs.Picks.{corners-doubles, corners-lower, corners-upper, lesser-min, greater-max, lesser-number, greater-number}
 use Rattle.math.proofs.Doubles.Least.{min-either, max-either}
 use Rattle.math.proofs.Intervals.Widen.{widened-union}
 
@@ -78,10 +78,10 @@ over-doubles x d =
 
 -- ---- joined
 
--- A way to widen bounds of some kind after they are joined: what is joined is of that kind again, and widened it is the union of both widened.
-pub record Joins (Kind : Bounds → Type 0) (widen : Bounds → Scalar) : Type 0 where
-  pub keeps : (a b : Bounds) → Kind a → Kind b → Kind (joinB a b)
-  pub union : (a b : Bounds) → Kind a → Kind b → widen (joinB a b) ≡ unionS (widen a) (widen b)
+-- A way to put bounds of some kind together before they are widened: what comes out is of that kind again, and widened it is the union of both widened.
+pub record Gathers (gather : Bounds → Bounds → Bounds) (Kind : Bounds → Type 0) (widen : Bounds → Scalar) : Type 0 where
+  pub keeps : (a b : Bounds) → Kind a → Kind b → Kind (gather a b)
+  pub union : (a b : Bounds) → Kind a → Kind b → widen (gather a b) ≡ unionS (widen a) (widen b)
 
 pub join-doubles : (a b : Bounds) → AreDoubles a → AreDoubles b → AreDoubles (joinB a b)
 unfolding joinB
@@ -95,5 +95,39 @@ unfolding widenB joinB
 widen-join a b A B = sym (widened-union (a .lo) (a .hi) (b .lo) (b .hi) (A .low) (A .high) (B .low) (B .high))
 
 -- the neighbours of doubles keep their order
-pub doubles-join : Joins AreDoubles widenB
+pub doubles-join : Gathers joinB AreDoubles widenB
 doubles-join = record { keeps = join-doubles; union = widen-join }
+
+-- ---- picked
+
+-- Bounds that are doubles, and no NaN.
+pub record AreNumbers (b : Bounds) : Type 0 where
+  pub doubles : AreDoubles b
+  pub low : isNan (b .lo) ≡ false
+  pub high : isNan (b .hi) ≡ false
+
+pub over-numbers : (x : Scalar) (d : Divisor) → AreNumbers (overB x d)
+unfolding overB
+over-numbers x d =
+    pick AreNumbers (hasZero (d .value)) wholeB (corners x (d .inverse))
+    (λ _. record { doubles = record { low = inf-fits binary64 true; high = inf-fits binary64 false }; low = unfold isNan in refl; high = unfold isNan in refl })
+    (λ _. record { doubles = product-doubles x (d .inverse); low = corners-lower x (d .inverse); high = corners-upper x (d .inverse) })
+
+-- the first of two that are compared is kept where the other is a NaN: so to pick is to join
+pub pick-join : (a b : Bounds) → AreNumbers a → pickB a b ≡ joinB a b
+unfolding pickB joinB
+pick-join a b A = λ i. record { lo = lesser-min (a .lo) (b .lo) (A .low) i; hi = greater-max (a .hi) (b .hi) (A .high) i }
+
+picks-keep : (a b : Bounds) → AreNumbers a → AreNumbers b → AreNumbers (pickB a b)
+picks-keep a b A B = record {
+  doubles = subst AreDoubles (sym (pick-join a b A)) (join-doubles a b (A .doubles) (B .doubles));
+  low = unfold pickB in lesser-number (a .lo) (b .lo) (A .low);
+  high = unfold pickB in greater-number (a .hi) (b .hi) (A .high);
+}
+
+-- so bounds that are numbers can be picked first, too
+pub numbers-pick : Gathers pickB AreNumbers widenB
+numbers-pick = record {
+  keeps = picks-keep;
+  union = λ a b A B. ap widenB (pick-join a b A) ∙ widen-join a b (A .doubles) (B .doubles);
+}

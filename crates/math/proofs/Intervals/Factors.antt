@@ -11,8 +11,8 @@ use lib.Ieee.Bits.{is-true, is-false}
 use lib.Ieee.Positive.{positive}
 use Rattle.math.specs.Neighbours.{nextUp, nextDown}
 use Rattle.math.specs.Picks.{lesserF, greaterF, minF, maxF}
-use Rattle.math.specs.Scalars.{zeroF, geop, least4, most4, addS, subS, corners, mulS, intersectS, interpolateS, widened}
-use Rattle.math.specs.Factors.{isFactor, inOrder, allInOrder, fractionOf, betweenS}
+use Rattle.math.specs.Scalars.{Arithmetic, zeroF, least4, most4, addS, subS, corners, mulS, intersectS, interpolateS, widened}
+use Rattle.math.specs.Factors.{isFactor, inOrder, allInOrder, fractionOf, bothWays, betweenS}
 use Rattle.math.specs.declared.scalars.Scalar.{Scalar}
 use Rattle.math.specs.declared.scalars.Fraction.{Fraction}
 use Rattle.math.proofs.Bools.{yes, and-l, and-r}
@@ -201,19 +201,20 @@ module _ (a b : Scalar) (lo hi : Float) (LO : lo ≡ nextDown (sub binary64 (b .
   pub delta-order : le (sub binary64 (b .lo) (a .hi)) (sub binary64 (b .hi) (a .lo)) ≡ true → le lo hi ≡ true
   delta-order e = (λ i. le (LO i) (HI i)) ∙ widened-order (sub binary64 (b .lo) (a .hi)) (sub binary64 (b .hi) (a .lo)) (sub-fits binary64 (b .lo) (a .hi)) (sub-fits binary64 (b .hi) (a .lo)) e
 
--- ---- the fraction of alpha
+-- ---- the fraction of alpha, in any arithmetic
 
--- it has its alpha, and to go it is to interpolate
-pub fraction-own : (f : Fraction) (alpha : Scalar) → f ≡ fractionOf alpha → f .alpha ≡ alpha
-unfolding fractionOf
-fraction-own f alpha e = ap (λ (g : Fraction). g .alpha) e
+module _ (ar : Arithmetic) where
+  -- it has its alpha, and to go it is to interpolate
+  pub fraction-own : (f : Fraction) (alpha : Scalar) → f ≡ fractionOf ar alpha → f .alpha ≡ alpha
+  unfolding fractionOf
+  fraction-own f alpha e = ap (λ (g : Fraction). g .alpha) e
 
-pub between-is : (a b alpha : Scalar) → betweenS a b (fractionOf alpha) ≡ interpolateS geop a b alpha
-unfolding betweenS fractionOf interpolateS
-between-is a b alpha = refl
+  pub between-is : (a b alpha : Scalar) → betweenS ar a b (fractionOf ar alpha) ≡ interpolateS ar a b alpha
+  unfolding betweenS bothWays fractionOf interpolateS
+  between-is a b alpha = refl
 
-pub between-own : (a b : Scalar) (f : Fraction) (alpha : Scalar) → f ≡ fractionOf alpha → betweenS a b f ≡ interpolateS geop a b (f .alpha)
-between-own a b f alpha e = ap (betweenS a b) e ∙ between-is a b alpha ∙ ap (interpolateS geop a b) (sym (fraction-own f alpha e))
+  pub between-own : (a b : Scalar) (f : Fraction) (alpha : Scalar) → f ≡ fractionOf ar alpha → betweenS ar a b f ≡ interpolateS ar a b (f .alpha)
+  between-own a b f alpha e = ap (betweenS ar a b) e ∙ between-is a b alpha ∙ ap (interpolateS ar a b) (sym (fraction-own f alpha e))
 
 -- ---- what `all_in_order` says, test by test
 pub record AllInOrder (t u a b d : Scalar) : Type 0 where

@@ -2,10 +2,12 @@
 use mathlib.Core.Path.{_≡_, refl, sym, ap, _∙_, subst}
 use mathlib.Core.Bool.{Bool, true, false, cond}
 use Prim.Native.Nat.{ℕ, zero, suc, _*_}
+use lib.Dec.{eqb}
 use native.Mathlib.Omega.{arith}
 use lib.ListN.{length}
 use lib.Ieee.{nan}
 use Rattle.math.specs.Scalars.{geop, sharp}
+use Rattle.math.specs.Revision.{arithmetic}
 use Rattle.math.specs.Values.{value, Proper}
 use Rattle.math.proofs.Intervals.Instance.{geop-encloses}
 use Rattle.model.specs.NurbCurve.{Piece, start, end}
@@ -14,7 +16,7 @@ use Rattle.model.specs.FatLine.{greville}
 use Rattle.model.specs.Subdivide.{Question, dropped, advance, answered}
 use Rattle.model.specs.Contains.{clipped, visit, begun, couldContain}
 use Rattle.model.specs.Layout.{scalarAt, scalarsOf}
-use Rattle.model.specs.Call.{Call, asPiece, boxOf, question, refusal, searchedBy, searched}
+use Rattle.model.specs.Call.{Call, asPiece, boxOf, question, refusal, searchedBy, searched, answerTo}
 use Rattle.model.specs.Enclosure.{Doubles, Accepted}
 use Rattle.model.specs.declared.contains.Found.{Found}
 use Rattle.model.specs.declared.contains.Found.the-variants.{Nothing}
@@ -102,6 +104,6 @@ never-fires = record { same = λ c d. by-number c d (refusal c) refl }
     by-number c d zero e = accepted c (d e) e
     by-number c d (suc n) e = unfold debug.searchedBy searchedBy in refl
 
--- for a caller who knows the result
-pub debug-says : (c : Call) (r : Found) → (Accepted c → Doubles c) → r ≡ searched geop c → DebugSays c r
-debug-says c r d e = never-fires .same c d ∙ ap fine (sym e)
+-- for a caller who knows the result of a call in revision 1
+pub debug-says : (c : Call) (r : Found) → (Accepted c → Doubles c) → r ≡ answerTo c → c .rev ≡ 1 → DebugSays c r
+debug-says c r d e one = never-fires .same c d ∙ ap fine (sym (e ∙ ap (λ (n : ℕ). searched (arithmetic (eqb n 2)) c) one))

@@ -11,11 +11,10 @@ use lib.Ieee.{Float, nan, isNan, le}
 use mathlib.Core.Bool.{not}
 use Rattle.lists.specs.Lists.{part, put}
 use Rattle.lists.proofs.Read.{part-put-in, getD-put}
-use Rattle.math.specs.Scalars.{geop}
 use Rattle.math.proofs.Bools.{and-l}
 use Rattle.math.proofs.Laws.{le-number-r}
 use Rattle.model.specs.NurbCurve.{start, end}
-use Rattle.model.specs.Call.{Curve, lent, asPiece, searched}
+use Rattle.model.specs.Call.{Curve, lent, asPiece, answerTo}
 use Rattle.model.specs.Enclosure.{OfBounds, NotOutside, BoundsInDomain}
 use Rattle.model.specs.Paper.{paper}
 use Rattle.math.specs.declared.scalars.Scalar.{Scalar}
@@ -26,13 +25,13 @@ use Rattle.text.specs.Cursor.{Long, laid, numbersIn}
 use Rattle.text.specs.Printable.{Printable}
 
 -- the numbers that the code cuts out of the memory and lends are those of the question
-pub lines-same : (r : Found) (s : Sizes) (nodes : ℕ) (l work ks ps bs : List Float) → ks ≡ numbersIn s nodes l .knots
+pub lines-same : (r : Found) (rev : ℕ) (s : Sizes) (nodes : ℕ) (l work ks ps bs : List Float) → ks ≡ numbersIn s nodes l .knots
     → ps ≡ numbersIn s nodes l .points → bs ≡ numbersIn s nodes l .box → 8192 ≡ length work
-    → r ≡ searched geop (lent (s .dim) (s .degree) (s .count) ks ps bs (getD l 0 nan) nodes (length work))
-    → r ≡ searched geop (callOf s (numbersIn s nodes l))
-lines-same r s nodes l work ks ps bs K P B W R =
+    → r ≡ answerTo (lent rev (s .dim) (s .degree) (s .count) ks ps bs (getD l 0 nan) nodes (length work))
+    → r ≡ answerTo (callOf rev s (numbersIn s nodes l))
+lines-same r rev s nodes l work ks ps bs K P B W R =
     R
-    ∙ ap (searched geop) (λ i. lent (s .dim) (s .degree) (s .count) (K i) (P i) (B i) (getD l 0 nan) nodes (sym W i))
+    ∙ ap answerTo (λ i. lent rev (s .dim) (s .degree) (s .count) (K i) (P i) (B i) (getD l 0 nan) nodes (sym W i))
 
 -- a bound that lies in a domain is no NaN
 pub printable : (v : Curve) (r : Found) → BoundsInDomain v r → Printable r
@@ -115,11 +114,11 @@ module _ (s : Sizes) (q : Numbers) (l m : List Float) (long : Long s (q .knots) 
   resolution-back =
       ap (λ (x : List Float). getD x 0 nan) M ∙ getD-put l 0 (laid q) 0 nan (omega (arith, all-long)) (omega arith)
 
-  pub lines-back : (nodes : ℕ) (r : Found) → q .nodes ≡ nodes → r ≡ searched geop (callOf s (numbersIn s nodes m))
-      → r ≡ searched geop (callOf s q)
-  lines-back nodes r N R =
+  pub lines-back : (rev nodes : ℕ) (r : Found) → q .nodes ≡ nodes → r ≡ answerTo (callOf rev s (numbersIn s nodes m))
+      → r ≡ answerTo (callOf rev s q)
+  lines-back rev nodes r N R =
       R
-      ∙ (λ i. searched geop (callOf s (record {
+      ∙ (λ i. answerTo (callOf rev s (record {
         nodes = sym N i;
         resolution = resolution-back i;
         knots = knots-back i;

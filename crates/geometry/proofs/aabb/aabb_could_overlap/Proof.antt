@@ -4,7 +4,7 @@ use Prim.Native.Nat.{_≤_, _-_}
 use native.Mathlib.Omega.{arith}
 use borrow.Author.Tests.{not-true, not-false}
 use Rattle.lists.specs.Lists.{tab}
-use Rattle.math.specs.Scalars.{geop}
+use Rattle.math.specs.Revision.{arithmetic}
 use Rattle.model.specs.Layout.{scalarAt}
 use Rattle.model.specs.Aabb.{aabb, couldOverlap}
 use Rattle.geometry.proofs.aabb.Box.{axisAt, overlapFrom, overlap-start, overlap-keep, overlap-stop, overlap-end}
@@ -12,16 +12,16 @@ use Rattle.geometry.proofs.aabb.aabb_could_overlap.Statement.{statement
 use Rattle.geometry.proofs.aabb.aabb_could_overlap.Tie as tie
 
 abbrev Inv-loop : tie.InvT-loop
-Inv-loop points point-box dim count k₀ k =
-    (k ≤ dim) × (overlapFrom dim (axisAt geop dim count points) (scalarAt point-box) k ≡ couldOverlap (tab dim (axisAt geop dim count points)) (tab dim (scalarAt point-box)))
+Inv-loop points point-box dim count second k₀ k =
+    (k ≤ dim) × (overlapFrom dim (axisAt (arithmetic second) dim count points) (scalarAt point-box) k ≡ couldOverlap (tab dim (axisAt (arithmetic second) dim count points)) (tab dim (scalarAt point-box)))
 
 abbrev μ-loop : tie.MeasureT-loop
-μ-loop points point-box dim count k₀ k = dim - k
+μ-loop points point-box dim count second k₀ k = dim - k
 
 loop-holds : tie.Need-loop-holds Inv-loop μ-loop
 loop-holds c =
     let a = c .before .before .args in
-    (omega arith, overlap-start (a .dim) (axisAt geop (a .dim) (a .count) (a .points .now)) (scalarAt (a .point-box .now)))
+    (omega arith, overlap-start (a .dim) (axisAt (arithmetic (a .second)) (a .dim) (a .count) (a .points .now)) (scalarAt (a .point-box .now)))
 
 axis-box-requires : tie.Need-axis-box-requires Inv-loop μ-loop
 axis-box-requires c κs = omega arith
@@ -38,7 +38,7 @@ returns c =
     let s = c .before .before in
     let l = s .before .before .before in
     let a = l .before .before .before .args in
-    overlap-stop (a .dim) (axisAt geop (a .dim) (a .count) (a .points .now)) (scalarAt (a .point-box .now)) (l .loop .k) (l .loop .inv .1) (omega arith)
+    overlap-stop (a .dim) (axisAt (arithmetic (a .second)) (a .dim) (a .count) (a .points .now)) (scalarAt (a .point-box .now)) (l .loop .k) (l .loop .inv .1) (omega arith)
     _ _ _ (s .before .axis-box .ensures) (s .scalar-at .ensures) (c .before .could-be-equal .ensures) (not-true _ (c .if1 .taken))
 
 add-k : tie.Need-add-k Inv-loop μ-loop
@@ -53,7 +53,7 @@ loop-again c =
     let l = s .before .before .before in
     let a = l .before .before .before .args in (
       omega arith,
-      overlap-keep (a .dim) (axisAt geop (a .dim) (a .count) (a .points .now)) (scalarAt (a .point-box .now)) (l .loop .k) (l .loop .inv .1) (omega arith)
+      overlap-keep (a .dim) (axisAt (arithmetic (a .second)) (a .dim) (a .count) (a .points .now)) (scalarAt (a .point-box .now)) (l .loop .k) (l .loop .inv .1) (omega arith)
           _ _ _ (s .before .axis-box .ensures) (s .scalar-at .ensures) (c .before .could-be-equal .ensures) (not-false _ (c .if1 .left)),
     )
 
@@ -62,7 +62,7 @@ unfolding aabb
 returns-2 c =
     let l = c .before in
     let a = l .before .before .before .args in
-    overlap-end (a .dim) (axisAt geop (a .dim) (a .count) (a .points .now)) (scalarAt (a .point-box .now)) (l .loop .k) (l .loop .inv .1) (omega arith)
+    overlap-end (a .dim) (axisAt (arithmetic (a .second)) (a .dim) (a .count) (a .points .now)) (scalarAt (a .point-box .now)) (l .loop .k) (l .loop .inv .1) (omega arith)
 
 pub aabb-could-overlap-spec : {M : Type 1} → statement M
 aabb-could-overlap-spec =

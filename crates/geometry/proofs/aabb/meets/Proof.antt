@@ -7,7 +7,8 @@ use lib.ListN.{drop}
 use lib.Ieee.{ofBits}
 use borrow.Author.Needs.{needs}
 use borrow.Author.Tests.{not-true, not-false}
-use Rattle.math.specs.Scalars.{geop, ZERO, ONE, unionS}
+use Rattle.math.specs.Scalars.{ZERO, ONE, unionS}
+use Rattle.math.specs.Revision.{arithmetic}
 use Rattle.math.specs.declared.scalars.Scalar.{Scalar}
 use Rattle.model.specs.Layout.{scalarsOf, pointAt}
 use Rattle.model.specs.Aabb.{meets}
@@ -16,13 +17,13 @@ use Rattle.geometry.proofs.aabb.meets.Statement.{statement}
 use Rattle.geometry.proofs.aabb.meets.Tie as tie
 
 abbrev Inv-loop : tie.InvT-loop
-Inv-loop points point-box dim range₀ k₀ range k =
+Inv-loop points point-box dim second range₀ k₀ range k =
     (k ≤ dim)
-    × (meets geop dim (pointAt (suc dim) points 0) (pointAt (suc dim) points 1) range k (drop k (scalarsOf dim point-box))
-    ≡ meets geop dim (pointAt (suc dim) points 0) (pointAt (suc dim) points 1) (unionS ZERO ONE) 0 (scalarsOf dim point-box))
+    × (meets (arithmetic second) dim (pointAt (suc dim) points 0) (pointAt (suc dim) points 1) range k (drop k (scalarsOf dim point-box))
+    ≡ meets (arithmetic second) dim (pointAt (suc dim) points 0) (pointAt (suc dim) points 1) (unionS ZERO ONE) 0 (scalarsOf dim point-box))
 
 abbrev μ-loop : tie.MeasureT-loop
-μ-loop points point-box dim range₀ k₀ range k = dim - k
+μ-loop points point-box dim second range₀ k₀ range k = dim - k
 
 abbrev from-loop : tie.At-loop Inv-loop μ-loop → tie.Start Inv-loop μ-loop
 from-loop c = c .before .before .before .before
@@ -34,7 +35,7 @@ loop-holds : tie.Need-loop-holds Inv-loop μ-loop
 unfolding ofBits
 loop-holds c =
     let a = c .before .before .before .args in
-    (omega arith, ap (λ (r : Scalar). meets geop (a .dim) (pointAt (suc (a .dim)) (a .points .now) 0) (pointAt (suc (a .dim)) (a .points .now) 1) r 0 (scalarsOf (a .dim) (a .point-box .now))) (c .union .ensures))
+    (omega arith, ap (λ (r : Scalar). meets (arithmetic (a .second)) (a .dim) (pointAt (suc (a .dim)) (a .points .now) 0) (pointAt (suc (a .dim)) (a .points .now) 1) r 0 (scalarsOf (a .dim) (a .point-box .now))) (c .union .ensures))
 
 place-requires : tie.Need-place-requires Inv-loop μ-loop
 place-requires c κs = omega arith
@@ -65,7 +66,7 @@ returns c =
     let at-loop = at-place .before .before in
     let k = from-loop at-loop in
     let a = k .args in
-    segment-stop geop (a .dim) (pointAt (suc (a .dim)) (a .points .now) 0) (pointAt (suc (a .dim)) (a .points .now) 1) (a .point-box .now) (at-loop .loop .range) (at-loop .loop .k) _ (at-loop .loop .inv .1) (omega arith)
+    segment-stop (arithmetic (a .second)) (a .dim) (pointAt (suc (a .dim)) (a .points .now) 0) (pointAt (suc (a .dim)) (a .points .now) 1) (a .point-box .now) (at-loop .loop .range) (at-loop .loop .k) _ (at-loop .loop .inv .1) (omega arith)
     _ _ _ (at-scalar-at .scalar-at .ensures) (at-place .place .ensures) (at-place2 .place2 .ensures) _ (at-along .along .ensures) _ (at-part .part .given .1) _ (at-could-be-equal .could-be-equal .ensures) (not-true _ (c .if1 .taken))
 
 intersect-requires : tie.Need-intersect-requires Inv-loop μ-loop
@@ -92,10 +93,10 @@ loop-again c =
       omega arith,
       ⊎-elim
           (λ w.
-          segment-narrow geop (a .dim) (pointAt (suc (a .dim)) (a .points .now) 0) (pointAt (suc (a .dim)) (a .points .now) 1) (a .point-box .now) (at-loop .loop .range) (at-loop .loop .k) _ (at-loop .loop .inv .1) (omega arith)
+          segment-narrow (arithmetic (a .second)) (a .dim) (pointAt (suc (a .dim)) (a .points .now) 0) (pointAt (suc (a .dim)) (a .points .now) 1) (a .point-box .now) (at-loop .loop .range) (at-loop .loop .k) _ (at-loop .loop .inv .1) (omega arith)
           _ _ _ (at-scalar-at .scalar-at .ensures) (at-place .place .ensures) (at-place2 .place2 .ensures) _ (at-along .along .ensures) _ (w .1 .given .1) _ (w .3 .ensures) _ _ (not-false _ (w .4 .left)) (w .5 .ensures) (w .6))
           (λ w.
-          segment-skip geop (a .dim) (pointAt (suc (a .dim)) (a .points .now) 0) (pointAt (suc (a .dim)) (a .points .now) 1) (a .point-box .now) (at-loop .loop .range) (at-loop .loop .k) _ (at-loop .loop .inv .1) (omega arith)
+          segment-skip (arithmetic (a .second)) (a .dim) (pointAt (suc (a .dim)) (a .points .now) 0) (pointAt (suc (a .dim)) (a .points .now) 1) (a .point-box .now) (at-loop .loop .range) (at-loop .loop .k) _ (at-loop .loop .inv .1) (omega arith)
           _ _ _ (at-scalar-at .scalar-at .ensures) (at-place .place .ensures) (at-place2 .place2 .ensures) _ (at-along .along .ensures) _ (w .1 .given .1) (w .2))
           (c .match .came),
     )
@@ -105,7 +106,7 @@ returns-2 c =
     let at-loop = c .before in
     let k = from-loop at-loop in
     let a = k .args in
-    segment-end geop (a .dim) (pointAt (suc (a .dim)) (a .points .now) 0) (pointAt (suc (a .dim)) (a .points .now) 1) (a .point-box .now) (at-loop .loop .range) (at-loop .loop .k) _ (at-loop .loop .inv .1) (omega arith)
+    segment-end (arithmetic (a .second)) (a .dim) (pointAt (suc (a .dim)) (a .points .now) 0) (pointAt (suc (a .dim)) (a .points .now) 1) (a .point-box .now) (at-loop .loop .range) (at-loop .loop .k) _ (at-loop .loop .inv .1) (omega arith)
 
 pub meets-spec : {M : Type 1} → statement M
 meets-spec =

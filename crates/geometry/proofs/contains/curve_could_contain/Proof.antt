@@ -9,7 +9,7 @@ use Rattle.geometry.proofs.contains.curve_could_contain.Tie as tie
 
 -- The call.
 abbrev asked : tie.Start → Call
-asked k = let g = k .args in lent (g .dim) (g .degree) (g .count) (g .knots .now) (g .points .now) (g .point-box .now) (g .resolution) (g .nodes) (length (g .work .now))
+asked k = let g = k .args in lent (g .rev) (g .dim) (g .degree) (g .count) (g .knots .now) (g .points .now) (g .point-box .now) (g .resolution) (g .nodes) (length (g .work .now))
 
 abbrev start : tie.After-refusal → tie.Start
 start c = c .before .before .before .before .before

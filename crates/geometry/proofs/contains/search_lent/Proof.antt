@@ -1,12 +1,12 @@
 -- `search_lent` equals its definition: a box that misses, or the search from the whole curve in the first slot; then the stated words are cleared.
 use mathlib.Core.Path.{refl, _∙_}
 use native.Mathlib.Omega.{arith}
+use lib.Dec.{eqb}
 use lib.ListN.{length}
 use lib.Ieee.{ofBits}
 use borrow.Author.Tests.{not-true, not-false}
-use Rattle.math.specs.Scalars.{geop}
-use Rattle.math.proofs.Laws.{geop-encloses}
-use Rattle.model.specs.Call.{Call, lent}
+use Rattle.math.proofs.Laws.{encloses}
+use Rattle.model.specs.Call.{Call, lent, arithmeticOf}
 use Rattle.model.proofs.Sound.Accepted.{Sizes, sizes}
 use Rattle.geometry.proofs.contains.Lent.{words-in, first-slot, door-asks, box-long, area-left, missed, loaded-room, begins, placed-behind, answers}
 use borrow.Author.Needs.{needs}
@@ -17,7 +17,7 @@ use Rattle.geometry.proofs.contains.search_lent.Tie as tie
 
 -- The call.
 abbrev asked : tie.Start → Call
-asked k = let g = k .args in lent (g .dim) (g .degree) (g .count) (g .knots .now) (g .points .now) (g .point-box .now) (g .resolution) (g .nodes) (length (g .work .now))
+asked k = let g = k .args in lent (g .rev) (g .dim) (g .degree) (g .count) (g .knots .now) (g .points .now) (g .point-box .now) (g .resolution) (g .nodes) (length (g .work .now))
 
 of : (k : tie.Start) → Sizes (asked k)
 of k = sizes (asked k) (k .pre .0)
@@ -62,7 +62,7 @@ returns c =
     let at-door = misses .before in
     let k = from-door at-door in
     let area = k .args .work .now in record {
-      result = missed (asked k) (k .pre .0) area refl geop _ (at-door .curve-could-meet-aabb .ensures) (not-true _ (misses .if1 .taken));
+      result = missed (asked k) (k .pre .0) area refl (arithmeticOf (asked k)) _ (at-door .curve-could-meet-aabb .ensures) (not-true _ (misses .if1 .taken));
       memory = area-left (asked k) (k .pre .0) area refl _ (at-door .before .stated-words .ensures) area _ refl (filled .fill .ensures);
     }
 
@@ -87,7 +87,7 @@ search-ring-requires c κs =
     let deep = c .before .before .before in
     let at-load = loaded (deep .before) in
     let k = from-door (door at-load .before) in
-    (begins (asked k) (k .pre .0) (k .args .work .now) refl (k .pre .1) _ (at-load .load .ensures) _ (deep .before .slot-words .ensures) _ (deep .set-depth .ensures) geop geop-encloses, box-long (asked k) (k .pre .0) (k .args .work .now) refl)
+    (begins (asked k) (k .pre .0) (k .args .work .now) refl (k .pre .1) _ (at-load .load .ensures) _ (deep .before .slot-words .ensures) _ (deep .set-depth .ensures) (arithmeticOf (asked k)) (encloses (eqb (asked k .rev) 2)), box-long (asked k) (k .pre .0) (k .args .work .now) refl)
 
 fill-requires-2 : tie.Need-fill-requires-2
 fill-requires-2 c κs =
@@ -113,7 +113,7 @@ returns-2 c =
     let k = from-door at-door in
     let area = k .args .work .now in
     let r = at-ring .search-ring .ensures in record {
-      result = answers (asked k) (k .pre .0) area refl (k .pre .1) _ (at-load .load .ensures) _ (deep .before .slot-words .ensures) _ (deep .set-depth .ensures) geop _ _ (at-door .curve-could-meet-aabb .ensures) (not-false _ (passes .if1 .left)) (r .found);
+      result = answers (asked k) (k .pre .0) area refl (k .pre .1) _ (at-load .load .ensures) _ (deep .before .slot-words .ensures) _ (deep .set-depth .ensures) (arithmeticOf (asked k)) _ _ (at-door .curve-could-meet-aabb .ensures) (not-false _ (passes .if1 .left)) (r .found);
       memory = area-left (asked k) (k .pre .0) area refl _ (at-door .before .stated-words .ensures) _ _ (r .rest ∙ placed-behind (asked k) (k .pre .0) area refl (k .pre .1) _ (at-load .load .ensures) _ (deep .before .slot-words .ensures) _ (deep .set-depth .ensures)) (filled .fill2 .ensures);
     }
 

@@ -3,8 +3,9 @@ use Prim.Native.Nat.{ℕ, _-_, _<_}
 use native.Mathlib.Omega.{arith}
 use lib.Ieee.{Float}
 use mathlib.Core.List.{List}
+use mathlib.Core.Bool.{Bool}
 use mathlib.Core.Path.{sym, ap, _∙_}
-use Rattle.math.specs.Scalars.{geop}
+use Rattle.math.specs.Revision.{arithmetic}
 use Rattle.model.specs.NurbCurve.{Piece}
 use Rattle.model.specs.Subdivide.{Visit}
 use Rattle.model.specs.Contains.{visit}
@@ -17,17 +18,17 @@ use Rattle.geometry.proofs.contains.search_ring.Statement.{statement}
 use Rattle.geometry.proofs.contains.search_ring.Tie as tie
 
 -- What a visit makes of a piece.
-abbrev seeing : Shape → List Float → Float → ℕ → Piece → Visit
-seeing s box resolution nodes = visit geop (askedOf s box resolution nodes)
+abbrev seeing : Bool → Shape → List Float → Float → ℕ → Piece → Visit
+seeing second s box resolution nodes = visit (arithmetic second) (askedOf s box resolution nodes)
 
-few : (s : Shape) (box : List Float) (resolution : Float) (nodes : ℕ) (c : Piece) → OneOrTwo (seeing s box resolution nodes c)
-few s box resolution nodes = visit-cuts geop (askedOf s box resolution nodes)
+few : (second : Bool) (s : Shape) (box : List Float) (resolution : Float) (nodes : ℕ) (c : Piece) → OneOrTwo (seeing second s box resolution nodes c)
+few second s box resolution nodes = visit-cuts (arithmetic second) (askedOf s box resolution nodes)
 
 abbrev Inv-loop : tie.InvT-loop
-Inv-loop work₀ s point-box resolution nodes w slots q₀ work q = Going (seeing s point-box resolution nodes) nodes s work₀ work q
+Inv-loop work₀ s point-box resolution nodes second w slots q₀ work q = Going (seeing second s point-box resolution nodes) nodes s work₀ work q
 
 abbrev μ-loop : tie.MeasureT-loop
-μ-loop work₀ s point-box resolution nodes w slots q₀ work q = nodes - q .counts .visited
+μ-loop work₀ s point-box resolution nodes second w slots q₀ work q = nodes - q .counts .visited
 
 -- ---- the places
 
@@ -44,12 +45,12 @@ waits c = omega (arith, c .before .before .before .if1 .taken)
 more : (c : tie.Else2 Inv-loop μ-loop) → loop-of c .loop .q .counts .visited < from-loop (loop-of c) .args .nodes
 more c = omega (arith, c .if2 .left, loop-of c .loop .inv .within)
 
-asks : (c : tie.Else2 Inv-loop μ-loop) → Ready geop (from-loop (loop-of c) .args .nodes) (from-loop (loop-of c) .args .s) (loop-of c .loop .work) (loop-of c .loop .q)
+asks : (c : tie.Else2 Inv-loop μ-loop) → Ready (arithmetic (from-loop (loop-of c) .args .second)) (from-loop (loop-of c) .args .nodes) (from-loop (loop-of c) .args .s) (loop-of c .loop .work) (loop-of c .loop .q)
 asks c =
     let k = from-loop (loop-of c) in
     let g = k .args in
     let l = loop-of c .loop in
-    ready geop (g .s) (g .point-box .now) (g .resolution) (g .nodes) (g .work .now) (k .pre .0) (l .work) (l .q) (l .inv) (waits c) (more c)
+    ready (arithmetic (g .second)) (g .s) (g .point-box .now) (g .resolution) (g .nodes) (g .work .now) (k .pre .0) (l .work) (l .q) (l .inv) (waits c) (more c)
 
 -- it has been visited
 abbrev left-of : tie.After-visit-next Inv-loop μ-loop → tie.Else2 Inv-loop μ-loop
@@ -63,14 +64,14 @@ gives : (c : tie.After-after-visit Inv-loop μ-loop)
     → let k = from-loop (loop-of (left-of (visit-of c))) in
     let g = k .args in
     let v = visit-of c .visit-next in
-    Comes (seeing (g .s) (g .point-box .now) (g .resolution) (g .nodes)) (g .nodes) (g .s) (g .work .now) (v .last .0) (v .result) (c .after-visit .result)
+    Comes (seeing (g .second) (g .s) (g .point-box .now) (g .resolution) (g .nodes)) (g .nodes) (g .s) (g .work .now) (v .last .0) (v .result) (c .after-visit .result)
 gives c =
     let v = visit-of c in
     let left = left-of v in
     let k = from-loop (loop-of left) in
     let g = k .args in
     let l = loop-of left .loop in
-    comes geop (g .s) (g .point-box .now) (g .resolution) (g .nodes) (g .work .now) (k .pre .0) (l .work) (l .q) (l .inv) (waits left) (more left)
+    comes (arithmetic (g .second)) (g .s) (g .point-box .now) (g .resolution) (g .nodes) (g .work .now) (k .pre .0) (l .work) (l .q) (l .inv) (waits left) (more left)
     _ _ _ _ (v .visit-next .kept .0) (v .before .before .next-depth .ensures) (v .visit-next .ensures) (c .after-visit .ensures)
 
 -- ---- before the loop
@@ -85,7 +86,7 @@ loop-holds : tie.Need-loop-holds Inv-loop μ-loop
 loop-holds c =
     let k = c .before .before .before in
     let g = k .args in
-    going-start (seeing (g .s) (g .point-box .now) (g .resolution) (g .nodes)) (few (g .s) (g .point-box .now) (g .resolution) (g .nodes)) (g .nodes) (g .s) (g .work .now) (k .pre .0 .ring) (k .pre .0 .whole)
+    going-start (seeing (g .second) (g .s) (g .point-box .now) (g .resolution) (g .nodes)) (few (g .second) (g .s) (g .point-box .now) (g .resolution) (g .nodes)) (g .nodes) (g .s) (g .work .now) (k .pre .0 .ring) (k .pre .0 .whole)
 
 -- ---- no visit is left
 
@@ -97,7 +98,7 @@ returns c =
     let at-loop = c .before .before .before .before .before in
     let g = from-loop at-loop .args in
     let l = at-loop .loop in record {
-      found = going-spent (seeing (g .s) (g .point-box .now) (g .resolution) (g .nodes)) (few (g .s) (g .point-box .now) (g .resolution) (g .nodes)) (g .nodes) (g .s) (g .work .now) (l .work) (l .q) (l .inv) (omega arith) (omega arith);
+      found = going-spent (seeing (g .second) (g .s) (g .point-box .now) (g .resolution) (g .nodes)) (few (g .second) (g .s) (g .point-box .now) (g .resolution) (g .nodes)) (g .nodes) (g .s) (g .work .now) (l .work) (l .q) (l .inv) (omega arith) (omega arith);
       rest = l .inv .rest;
     }
 
@@ -123,7 +124,7 @@ after-visit-requires c κs =
     let a = asks left in
     let i = loop-of left .loop .inv in (
       (i .ring .start, waits left, omega (arith, a .room), omega (arith, k .pre .0 .few)),
-      (omega (arith, i .within, k .pre .0 .few), omega (arith, a .cuts), cuts-few geop _ (k .args .s) _ _ _ _ _ _ _ (v .visit-next .ensures)),
+      (omega (arith, i .within, k .pre .0 .few), omega (arith, a .cuts), cuts-few (arithmetic (k .args .second)) _ (k .args .s) _ _ _ _ _ _ _ (v .visit-next .ensures)),
     )
 
 has-bad-weight-requires : tie.Need-has-bad-weight-requires Inv-loop μ-loop
@@ -161,7 +162,7 @@ returns-3 c =
     let at-loop = c .before .before .before .before .before in
     let g = from-loop at-loop .args in
     let l = at-loop .loop in record {
-      found = going-none (seeing (g .s) (g .point-box .now) (g .resolution) (g .nodes)) (few (g .s) (g .point-box .now) (g .resolution) (g .nodes)) (g .nodes) (g .s) (g .work .now) (l .work) (l .q) (l .inv) _ (omega arith) (c .completed .ensures);
+      found = going-none (seeing (g .second) (g .s) (g .point-box .now) (g .resolution) (g .nodes)) (few (g .second) (g .s) (g .point-box .now) (g .resolution) (g .nodes)) (g .nodes) (g .s) (g .work .now) (l .work) (l .q) (l .inv) _ (omega arith) (c .completed .ensures);
       rest = l .inv .rest;
     }
 

@@ -2,7 +2,7 @@
 use mathlib.Core.Path.{_≡_}
 use Prim.Native.Nat.{_+_}
 use native.Mathlib.Omega.{arith}
-use Rattle.math.specs.Scalars.{geop}
+use Rattle.math.specs.Revision.{arithmetic}
 use Rattle.geometry.specs.Ring.{baseOf, ringBase}
 use Rattle.geometry.specs.State.{askedOf}
 use Rattle.model.specs.Contains.{visit}
@@ -79,7 +79,7 @@ visit-requires c κs =
     let k = from-last at-b in
     let a = k .args in
     turn-asks (a .s) (a .work .now) (a .slots) (a .q .head) (a .q .pending) (a .w) (k .pre .0 .0) (k .pre .0 .1) (k .pre .0 .2) (k .pre .1 .0 .1) _ _ _
-    (head-slot c) (first-slot at-b) (second-slot at-b) geop _ (k .pre .1 .1 .0) (k .pre .1 .1 .1)
+    (head-slot c) (first-slot at-b) (second-slot at-b) (arithmetic (a .second)) _ (k .pre .1 .1 .0) (k .pre .1 .1 .1)
 
 -- ---- what it hands on gets its depth
 
@@ -90,7 +90,7 @@ set-depths-requires c κs =
     let k = from-last at-b in
     let a = k .args in
     let in-both = turn-inside (a .s) (a .work .now) (a .slots) (a .q .head) (a .q .pending) (a .w) (k .pre .0 .0) (k .pre .0 .1) (k .pre .0 .2) (k .pre .1 .0 .1) _ _ _
-    (head-slot (v .before)) (first-slot at-b) (second-slot at-b) (visit geop (askedOf (a .s) (a .point-box .now) (a .resolution) 0)) _ _ (v .visit .ensures) in
+    (head-slot (v .before)) (first-slot at-b) (second-slot at-b) (visit (arithmetic (a .second)) (askedOf (a .s) (a .point-box .now) (a .resolution) 0)) _ _ (v .visit .ensures) in
     (in-both .0, in-both .1, k .pre .1 .0 .1, k .pre .1 .0 .2)
 
 same-length : tie.Need-same-length
@@ -104,7 +104,7 @@ returns c =
     let k = from-last at-b in
     let a = k .args in
     turn-gives (a .s) (a .work .now) (a .slots) (a .q .head) (a .q .pending) (a .w) (k .pre .0 .0) (k .pre .0 .1) (k .pre .0 .2) (k .pre .1 .0 .1) _ _ _
-    (head-slot (v .before)) (first-slot at-b) (second-slot at-b) (visit geop (askedOf (a .s) (a .point-box .now) (a .resolution) 0)) _ _ (v .visit .ensures) (a .d) _ (set .set-depths .ensures)
+    (head-slot (v .before)) (first-slot at-b) (second-slot at-b) (visit (arithmetic (a .second)) (askedOf (a .s) (a .point-box .now) (a .resolution) 0)) _ _ (v .visit .ensures) (a .d) _ (set .set-depths .ensures)
 
 pub visit-next-spec : {M : Type 1} → statement M
 visit-next-spec =

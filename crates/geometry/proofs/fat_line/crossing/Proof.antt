@@ -1,6 +1,6 @@
 -- `crossing` equals its definition, by the two cases of the quotient.
 use mathlib.Core.Path.{sym, ap, _∙_}
-use Rattle.math.specs.Scalars.{geop}
+use Rattle.math.specs.Revision.{arithmetic}
 use Rattle.math.specs.declared.scalars.Scalar.{Scalar}
 use Rattle.math.specs.declared.scalars.Divided.{Divided}
 use Rattle.model.specs.FatLine.{crossing}
@@ -22,7 +22,7 @@ returns : tie.Need-returns
 unfolding crossing
 returns c =
     let a = c .before .before .before .args in
-    ap (λ (v : Scalar). Over v) (c .entire .ensures) ∙ sym (ap (λ (q : Divided). crossing geop (a .x0) q) (c .before .enum-told .given .1))
+    ap (λ (v : Scalar). Over v) (c .entire .ensures) ∙ sym (ap (λ (q : Divided). crossing (arithmetic (a .second)) (a .x0) q) (c .before .enum-told .given .1))
 
 sub-requires : tie.Need-sub-requires
 sub-requires c κs = search needs
@@ -31,7 +31,7 @@ returns-2 : tie.Need-returns-2
 unfolding crossing
 returns-2 c =
     let a = c .before .before .before .before .args in
-    ap (λ (v : Scalar). Over v) (c .sub .ensures) ∙ sym (ap (λ (q : Divided). crossing geop (a .x0) q) (c .before .before .q .given .1))
+    ap (λ (v : Scalar). Over v) (c .sub .ensures) ∙ sym (ap (λ (q : Divided). crossing (arithmetic (a .second)) (a .x0) q) (c .before .before .q .given .1))
 
 pub crossing-spec : {M : Type 1} → statement M
 crossing-spec =

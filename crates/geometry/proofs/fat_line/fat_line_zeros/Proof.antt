@@ -1,5 +1,5 @@
 -- `fat_line_zeros` equals its definition: the slope is what its calls ensure, and each of its two answers is that of the definition for it.
-use Rattle.math.specs.Scalars.{geop}
+use Rattle.math.specs.Revision.{arithmetic}
 use Rattle.geometry.proofs.fat_line.Zeros.{zeros-level, zeros-sloped}
 use borrow.Author.Needs.{needs}
 use Rattle.geometry.proofs.fat_line.fat_line_zeros.Statement.{statement}
@@ -58,7 +58,7 @@ returns c =
     let at-scalar-at = at-scalar-at2 .before in
     let k = from-scalar-at at-scalar-at in
     let a = k .args in
-    zeros-level geop (a .count) (a .xi .now) (a .dx .now) (a .d .now) (at-scalar-at .scalar-at .result) (at-scalar-at2 .scalar-at2 .result) (at-scalar-at4 .scalar-at4 .result) (at-scalar-at3 .scalar-at3 .result) (at-sub .sub .result) (at-div .div .result) (k .pre .0 .0) (k .pre .1)
+    zeros-level (arithmetic (a .second)) (a .count) (a .xi .now) (a .dx .now) (a .d .now) (at-scalar-at .scalar-at .result) (at-scalar-at2 .scalar-at2 .result) (at-scalar-at4 .scalar-at4 .result) (at-scalar-at3 .scalar-at3 .result) (at-sub .sub .result) (at-div .div .result) (k .pre .0 .0) (k .pre .1)
     (at-scalar-at .scalar-at .ensures) (at-scalar-at2 .scalar-at2 .ensures) (at-scalar-at4 .scalar-at4 .ensures) (at-scalar-at3 .scalar-at3 .ensures) (at-sub .sub .ensures) (at-div .div .ensures .result) _ _ (at-enum-told .enum-told .given .1) (at-unions .unions .ensures) (c .level-zeros .ensures)
 
 band-requires : tie.Need-band-requires
@@ -81,7 +81,7 @@ returns-2 c =
     let at-scalar-at = at-scalar-at2 .before in
     let k = from-scalar-at at-scalar-at in
     let a = k .args in
-    zeros-sloped geop (a .count) (a .xi .now) (a .dx .now) (a .d .now) (at-scalar-at .scalar-at .result) (at-scalar-at2 .scalar-at2 .result) (at-scalar-at4 .scalar-at4 .result) (at-scalar-at3 .scalar-at3 .result) (at-sub .sub .result) (at-div .div .result) (k .pre .0 .0) (k .pre .1)
+    zeros-sloped (arithmetic (a .second)) (a .count) (a .xi .now) (a .dx .now) (a .d .now) (at-scalar-at .scalar-at .result) (at-scalar-at2 .scalar-at2 .result) (at-scalar-at4 .scalar-at4 .result) (at-scalar-at3 .scalar-at3 .result) (at-sub .sub .result) (at-div .div .result) (k .pre .0 .0) (k .pre .1)
     (at-scalar-at .scalar-at .ensures) (at-scalar-at2 .scalar-at2 .ensures) (at-scalar-at4 .scalar-at4 .ensures) (at-scalar-at3 .scalar-at3 .ensures) (at-sub .sub .ensures) (at-div .div .ensures .result) _ _ _ (at-slope .slope .given .1) (at-band .band .ensures) (c .sloped-zeros .ensures)
 
 pub fat-line-zeros-spec : {M : Type 1} → statement M

@@ -4,7 +4,7 @@ use Prim.Native.Nat.{_-_, _≤_}
 use native.Mathlib.Omega.{arith}
 use lib.ListN.{length, length-set}
 use Rattle.lists.specs.Lists.{put, tab}
-use Rattle.math.specs.Scalars.{geop}
+use Rattle.math.specs.Revision.{arithmetic}
 use Rattle.model.specs.Layout.{flat}
 use Rattle.geometry.proofs.Lists.Flat.{flat-none, flat-next}
 use Rattle.geometry.proofs.fat_line.Zeros.{fromFirstAt, from-first-done}
@@ -13,10 +13,10 @@ use Rattle.geometry.proofs.fat_line.from_first.Statement.{statement}
 use Rattle.geometry.proofs.fat_line.from_first.Tie as tie
 
 abbrev Inv-loop : tie.InvT-loop
-Inv-loop xi count dx₀ x0 i₀ dx i = (i ≤ count) × ((length dx ≡ length dx₀) × (dx ≡ put dx₀ 0 (flat (tab i (fromFirstAt geop xi)))))
+Inv-loop xi count dx₀ second x0 i₀ dx i = (i ≤ count) × ((length dx ≡ length dx₀) × (dx ≡ put dx₀ 0 (flat (tab i (fromFirstAt (arithmetic second) xi)))))
 
 abbrev μ-loop : tie.MeasureT-loop
-μ-loop xi count dx₀ x0 i₀ dx i = count - i
+μ-loop xi count dx₀ second x0 i₀ dx i = count - i
 
 abbrev from-loop : tie.At-loop Inv-loop μ-loop → tie.Start Inv-loop μ-loop
 from-loop c = c .before .before .before .before
@@ -25,7 +25,7 @@ scalar-at-requires : tie.Need-scalar-at-requires Inv-loop μ-loop
 scalar-at-requires c κs = search needs
 
 loop-holds : tie.Need-loop-holds Inv-loop μ-loop
-loop-holds c = let a = c .before .before .before .args in (omega arith, (refl, flat-none (fromFirstAt geop (a .xi .now)) _))
+loop-holds c = let a = c .before .before .before .args in (omega arith, (refl, flat-none (fromFirstAt (arithmetic (a .second)) (a .xi .now)) _))
 
 scalar-at-requires-2 : tie.Need-scalar-at-requires-2 Inv-loop μ-loop
 scalar-at-requires-2 c κs = search needs
@@ -76,7 +76,7 @@ loop-again c =
       omega arith,
       (
         simp length-set (l .loop .inv .1 .0),
-        flat-next (fromFirstAt geop (a .xi .now)) _ (l .loop .dx) (l .loop .i) (c .sub .result) (omega arith) (l .loop .inv .1 .1) (c .sub .ensures ∙ (λ j. geop .sub (c .before .scalar-at2 .ensures j) (f .scalar-at .ensures j))),
+        flat-next (fromFirstAt (arithmetic (a .second)) (a .xi .now)) _ (l .loop .dx) (l .loop .i) (c .sub .result) (omega arith) (l .loop .inv .1 .1) (c .sub .ensures ∙ (λ j. arithmetic (a .second) .sub (c .before .scalar-at2 .ensures j) (f .scalar-at .ensures j))),
       ),
     )
 
@@ -88,7 +88,7 @@ returns c =
     let at-loop = c .before in
     let k = from-loop at-loop in
     let a = k .args in
-    from-first-done geop (a .xi .now) (a .dx .now) (at-loop .loop .dx) (a .count) (at-loop .loop .i) (k .pre .0) (omega arith) (at-loop .loop .inv .1 .1)
+    from-first-done (arithmetic (a .second)) (a .xi .now) (a .dx .now) (at-loop .loop .dx) (a .count) (at-loop .loop .i) (k .pre .0) (omega arith) (at-loop .loop .inv .1 .1)
 
 pub from-first-spec : {M : Type 1} → statement M
 from-first-spec =

@@ -5,7 +5,8 @@ use Prim.Native.Nat.{_-_, _≤_}
 use native.Mathlib.Omega.{arith}
 use lib.Ieee.{Float, ofBits}
 use Rattle.lists.specs.Lists.{put, tab}
-use Rattle.math.specs.Scalars.{geop}
+use Rattle.math.specs.Revision.{arithmetic}
+use Rattle.math.proofs.Laws.{divisor-own}
 use Rattle.model.specs.Layout.{flat}
 use Rattle.model.specs.FatLine.{window, abscissa}
 use Rattle.geometry.proofs.Lists.Flat.{flat-none, flat-next}
@@ -14,14 +15,14 @@ use Rattle.geometry.proofs.fat_line.greville_abscissae.Statement.{state
 use Rattle.geometry.proofs.fat_line.greville_abscissae.Tie as tie
 
 abbrev Inv-loop : tie.InvT-loop
-Inv-loop knots degree count at₀ number i₀ at i = (i ≤ count) × (at ≡ put at₀ 0 (flat (tab i (λ j. abscissa geop degree (window degree knots j)))))
+Inv-loop knots degree count second at₀ number i₀ at i = (i ≤ count) × (at ≡ put at₀ 0 (flat (tab i (λ j. abscissa (arithmetic second) degree (window degree knots j)))))
 
 abbrev μ-loop : tie.MeasureT-loop
-μ-loop knots degree count at₀ number i₀ at i = count - i
+μ-loop knots degree count second at₀ number i₀ at i = count - i
 
 returns : tie.Need-returns Inv-loop μ-loop
 unfolding ofBits
-returns c = held-none geop (c .before .before .args .degree) _ _ (c .if1 .taken)
+returns c = held-none (arithmetic (c .before .before .args .second)) (c .before .before .args .degree) _ _ (c .if1 .taken)
 
 int-to-float-from-f64 : tie.Need-int-to-float-from-f64 Inv-loop μ-loop
 int-to-float-from-f64 c = in-float _ (c .before .before .before .pre .0)
@@ -35,13 +36,13 @@ of-requires c κs = tt
 loop-holds : tie.Need-loop-holds Inv-loop μ-loop
 loop-holds c =
     let k = c .before .before .before .before .before in
-    let a = k .args in (omega arith, flat-none (λ j. abscissa geop (a .degree) (window (a .degree) (a .knots .now) j)) _)
+    let a = k .args in (omega arith, flat-none (λ j. abscissa (arithmetic (a .second)) (a .degree) (window (a .degree) (a .knots .now) j)) _)
 
 window-requires : tie.Need-window-requires Inv-loop μ-loop
 window-requires c κs = omega arith
 
 abscissa-requires : tie.Need-abscissa-requires Inv-loop μ-loop
-abscissa-requires c κs = tt
+abscissa-requires c κs = divisor-own _ _ (c .before .before .before .of .ensures)
 
 mul-at : tie.Need-mul-at Inv-loop μ-loop
 mul-at c = omega arith
@@ -80,8 +81,8 @@ loop-again c =
     let k = passed1 .before .before in
     let a = k .args in (
       omega arith,
-      flat-next (λ j. abscissa geop (a .degree) (window (a .degree) (a .knots .now) j)) _ (at-loop .loop .at) (at-loop .loop .i) (c .abscissa .result) (omega arith) (at-loop .loop .inv .1)
-          (mean-is (a .degree) _ _ _ _ (at-from-f64 .from-f64 .ensures) (at-of .of .ensures) (c .abscissa .ensures) ∙ ap (λ (w : List Float). abscissa geop (a .degree) w) (at-window .window .ensures)),
+      flat-next (λ j. abscissa (arithmetic (a .second)) (a .degree) (window (a .degree) (a .knots .now) j)) _ (at-loop .loop .at) (at-loop .loop .i) (c .abscissa .result) (omega arith) (at-loop .loop .inv .1)
+          (mean-is (arithmetic (a .second)) (a .degree) _ _ _ _ (at-from-f64 .from-f64 .ensures) (at-of .of .ensures) (c .abscissa .ensures) ∙ ap (λ (w : List Float). abscissa (arithmetic (a .second)) (a .degree) w) (at-window .window .ensures)),
     )
 
 returns-2 : tie.Need-returns-2 Inv-loop μ-loop
@@ -91,7 +92,7 @@ returns-2 c =
     let passed1 = at-loop .before .before .before .before in
     let k = passed1 .before .before in
     let a = k .args in
-    held-some geop (a .degree) (a .count) (at-loop .loop .i) (a .knots .now) (at-loop .loop .at) (passed1 .if1 .left) (omega arith) (at-loop .loop .inv .1)
+    held-some (arithmetic (a .second)) (a .degree) (a .count) (at-loop .loop .i) (a .knots .now) (at-loop .loop .at) (passed1 .if1 .left) (omega arith) (at-loop .loop .inv .1)
 
 pub greville-abscissae-spec : {M : Type 1} → statement M
 greville-abscissae-spec =

@@ -1,7 +1,8 @@
 -- `narrow` equals its definition: its five calls, one after the other.
 use mathlib.Core.Path.{ap, _∙_}
 use lib.Ieee.{lt}
-use Rattle.math.specs.Scalars.{geop, sharp, widthS}
+use Rattle.math.specs.Revision.{arithmetic}
+use Rattle.math.specs.Scalars.{sharp, widthS}
 use Rattle.math.specs.declared.scalars.Scalar.{Scalar}
 use borrow.Author.Needs.{needs}
 use Rattle.geometry.proofs.fat_line.narrow.Statement.{statement}
@@ -27,7 +28,7 @@ returns c =
     let h = c .before .before in
     let m = h .before in
     λ i. lt (h .width2 .ensures i .lo)
-    ((m .mul .ensures ∙ (λ j. geop .mul ((m .before .before .width .ensures ∙ ap (λ (v : Scalar). sharp (widthS v)) (m .before .before .before .domain .ensures)) j) (m .before .four-fifths .ensures j))) i .lo)
+    ((m .mul .ensures ∙ (λ j. arithmetic (m .before .before .before .before .args .second) .mul ((m .before .before .width .ensures ∙ ap (λ (v : Scalar). sharp (widthS v)) (m .before .before .before .domain .ensures)) j) (m .before .four-fifths .ensures j))) i .lo)
 
 pub narrow-spec : {M : Type 1} → statement M
 narrow-spec =

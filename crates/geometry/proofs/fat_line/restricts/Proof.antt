@@ -3,7 +3,8 @@ use mathlib.Core.Path.{sym, _∙_}
 use Prim.Native.Nat.{suc}
 use lib.Ieee.{lt}
 use borrow.Author.Tests.{not-true, not-false}
-use Rattle.math.specs.Scalars.{geop, sharp, widthS}
+use Rattle.math.specs.Scalars.{sharp, widthS}
+use Rattle.math.specs.Revision.{arithmetic}
 use Rattle.model.specs.Layout.{pointsOf}
 use Rattle.model.specs.NurbCurve.{domain}
 use Rattle.model.specs.FatLine.{extent, restricts}
@@ -19,7 +20,7 @@ returns : tie.Need-returns
 unfolding restricts
 returns c =
     let a = c .before .before .before .args in
-    third-failed (lt (a .carried) (extent (a .dim) (pointsOf (suc (a .dim)) (a .count) (a .points .now)))) (lt (widthS (a .hat)) (geop .mul (sharp (widthS (domain (a .a) (a .b)))) (geop .fourFifths) .lo)) _
+    third-failed (lt (a .carried) (extent (a .dim) (pointsOf (suc (a .dim)) (a .count) (a .points .now)))) (lt (widthS (a .hat)) ((arithmetic (a .second)) .mul (sharp (widthS (domain (a .a) (a .b)))) (arithmetic (a .second) .fourFifths) .lo)) _
     (sym (c .before .reaches-in .ensures) ∙ not-true _ (c .if1 .taken))
 
 narrow-requires : tie.Need-narrow-requires

@@ -1,6 +1,6 @@
 -- `sloped_zeros` equals its definition: where the band reaches zero it is what `crossing` ensures, and else nowhere.
 use lib.Ieee.{ofBits}
-use Rattle.math.specs.Scalars.{geop}
+use Rattle.math.specs.Revision.{arithmetic}
 use Rattle.geometry.proofs.fat_line.Zeros.{sloped-yes, sloped-no}
 use borrow.Author.Needs.{needs}
 use Rattle.geometry.proofs.fat_line.sloped_zeros.Statement.{statement}
@@ -29,14 +29,14 @@ unfolding ofBits
 returns c =
     let t = c .before .before .before .before in
     let a = t .before .before .before .args in
-    sloped-yes geop (a .slope) (a .x0) (a .y0) (a .last) (a .band) _ _ _ (t .before .before .union .ensures) (t .before .add .ensures) (t .could-be-equal .ensures) _ _ _ (c .before .before .add2 .ensures) (c .before .div .ensures .result) (c .crossing .ensures) (c .before .before .before .if1 .taken)
+    sloped-yes (arithmetic (a .second)) (a .slope) (a .x0) (a .y0) (a .last) (a .band) _ _ _ (t .before .before .union .ensures) (t .before .add .ensures) (t .could-be-equal .ensures) _ _ _ (c .before .before .add2 .ensures) (c .before .div .ensures .result) (c .crossing .ensures) (c .before .before .before .if1 .taken)
 
 returns-2 : tie.Need-returns-2
 unfolding ofBits
 returns-2 c =
     let t = c .before in
     let a = t .before .before .before .args in
-    sloped-no geop (a .slope) (a .x0) (a .y0) (a .last) (a .band) _ _ _ (t .before .before .union .ensures) (t .before .add .ensures) (t .could-be-equal .ensures) (c .if1 .left)
+    sloped-no (arithmetic (a .second)) (a .slope) (a .x0) (a .y0) (a .last) (a .band) _ _ _ (t .before .before .union .ensures) (t .before .add .ensures) (t .could-be-equal .ensures) (c .if1 .left)
 
 pub sloped-zeros-spec : {M : Type 1} → statement M
 sloped-zeros-spec =

@@ -1,5 +1,5 @@
 -- `along_in` equals its definition: the quotient of two differences of knots.
-use Rattle.math.specs.Scalars.{geop}
+use Rattle.math.specs.Revision.{arithmetic}
 use Rattle.geometry.proofs.slots.Counts.{from-room}
 use Rattle.geometry.proofs.knot_insertion.Cuts.{along-done}
 use borrow.Author.Needs.{needs}
@@ -62,7 +62,7 @@ returns c =
     let knots = at-knots sharp-a in
     let k = from-knots knots in
     let g = k .args in
-    along-done geop (g .s) (g .work .now) (g .base) _ (g .t) _ _ _ _ _ _ (k .pre .1) (knots .knots-from .ensures) (sharp-a .from-f64 .ensures) (sharp-b .from-f642 .ensures) (sharp-t .from-f643 .ensures) (c .before .before .sub .ensures) (c .before .sub2 .ensures) (c .div .ensures .result)
+    along-done (arithmetic (g .second)) (g .s) (g .work .now) (g .base) _ (g .t) _ _ _ _ _ _ (k .pre .1) (knots .knots-from .ensures) (sharp-a .from-f64 .ensures) (sharp-b .from-f642 .ensures) (sharp-t .from-f643 .ensures) (c .before .before .sub .ensures) (c .before .sub2 .ensures) (c .div .ensures .result)
 
 pub along-in-spec : {M : Type 1} → statement M
 along-in-spec =

@@ -1,6 +1,6 @@
 -- `alpha_at` equals its definition: 0 or 1 where t is one of the two knots, and else what the division gives.
 use lib.Ieee.{ofBits}
-use Rattle.math.specs.Scalars.{geop}
+use Rattle.math.specs.Revision.{arithmetic}
 use Rattle.geometry.proofs.knot_insertion.Spans.{alpha-start, alpha-end, alpha-between, alpha-value, alpha-failed}
 use borrow.Author.Needs.{needs}
 use Rattle.geometry.proofs.knot_insertion.alpha_at.Statement.{statement}
@@ -28,14 +28,14 @@ shared-slice-read-b c = search needs
 
 returns : tie.Need-returns
 unfolding ofBits
-returns c = let k = c .before .before .before .before in let g = k .args in alpha-start geop (g .degree) (g .knots .now) (g .t) (g .i) (c .if1 .taken)
+returns c = let k = c .before .before .before .before in let g = k .args in alpha-start (arithmetic (g .second)) (g .degree) (g .knots .now) (g .t) (g .i) (c .if1 .taken)
 
 returns-2 : tie.Need-returns-2
 unfolding ofBits
 returns-2 c =
     let passed1 = c .before in
     let k = from-passed1 passed1 in
-    let g = k .args in alpha-end geop (g .degree) (g .knots .now) (g .t) (g .i) (passed1 .if1 .left) (c .if2 .taken)
+    let g = k .args in alpha-end (arithmetic (g .second)) (g .degree) (g .knots .now) (g .t) (g .i) (passed1 .if1 .left) (c .if2 .taken)
 
 from-f64-requires : tie.Need-from-f64-requires
 from-f64-requires c κs = search needs
@@ -74,8 +74,8 @@ returns-3 c =
     let passed1 = passed2 .before in
     let k = from-passed1 passed1 in
     let g = k .args in
-    alpha-value geop (g .degree) (g .knots .now) (g .t) (g .i) (at-div .div .result) _ (at-along .along .given .1)
-    (alpha-between geop (g .degree) (g .knots .now) (g .t) (g .i) _ _ _ _ _ _ (passed1 .if1 .left) (passed2 .if2 .left) (at-from-f64 .from-f64 .ensures) (at-from-f642 .from-f642 .ensures) (at-sub .sub .ensures) (at-from-f643 .from-f643 .ensures) (at-sub2 .sub2 .ensures) (at-div .div .ensures .result))
+    alpha-value (arithmetic (g .second)) (g .degree) (g .knots .now) (g .t) (g .i) (at-div .div .result) _ (at-along .along .given .1)
+    (alpha-between (arithmetic (g .second)) (g .degree) (g .knots .now) (g .t) (g .i) _ _ _ _ _ _ (passed1 .if1 .left) (passed2 .if2 .left) (at-from-f64 .from-f64 .ensures) (at-from-f642 .from-f642 .ensures) (at-sub .sub .ensures) (at-from-f643 .from-f643 .ensures) (at-sub2 .sub2 .ensures) (at-div .div .ensures .result))
 
 returns-4 : tie.Need-returns-4
 unfolding ofBits
@@ -90,8 +90,8 @@ returns-4 c =
     let passed1 = passed2 .before in
     let k = from-passed1 passed1 in
     let g = k .args in
-    alpha-failed geop (g .degree) (g .knots .now) (g .t) (g .i) (at-div .div .result) (c .enum-told .given .1)
-    (alpha-between geop (g .degree) (g .knots .now) (g .t) (g .i) _ _ _ _ _ _ (passed1 .if1 .left) (passed2 .if2 .left) (at-from-f64 .from-f64 .ensures) (at-from-f642 .from-f642 .ensures) (at-sub .sub .ensures) (at-from-f643 .from-f643 .ensures) (at-sub2 .sub2 .ensures) (at-div .div .ensures .result))
+    alpha-failed (arithmetic (g .second)) (g .degree) (g .knots .now) (g .t) (g .i) (at-div .div .result) (c .enum-told .given .1)
+    (alpha-between (arithmetic (g .second)) (g .degree) (g .knots .now) (g .t) (g .i) _ _ _ _ _ _ (passed1 .if1 .left) (passed2 .if2 .left) (at-from-f64 .from-f64 .ensures) (at-from-f642 .from-f642 .ensures) (at-sub .sub .ensures) (at-from-f643 .from-f643 .ensures) (at-sub2 .sub2 .ensures) (at-div .div .ensures .result))
 
 pub alpha-at-spec : {M : Type 1} → statement M
 alpha-at-spec =

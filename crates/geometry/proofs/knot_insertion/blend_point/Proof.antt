@@ -1,5 +1,5 @@
 -- `blend_point` equals its definition: alpha from the slot's knots, and the blend of two neighbouring points.
-use Rattle.math.specs.Scalars.{geop}
+use Rattle.math.specs.Revision.{arithmetic}
 use Rattle.geometry.proofs.knot_insertion.Insert.{knots-within, blend-fits, blend-done}
 use borrow.Author.Needs.{needs}
 use native.Mathlib.Omega.{arith}
@@ -71,7 +71,7 @@ returns c =
     let at-next = at-blend .before .before .before in
     let knots = at-knots at-next in
     let k = from-knots knots in
-    blend-done (k .args .s) (k .args .work .now) (k .args .base) (k .args .n) (k .args .j) (k .args .t) (k .pre .0) (k .pre .1) (k .pre .2) _ _ (at-next .before .place-of .ensures) (at-next .place-of2 .ensures) geop _ _ _ (knots .knots-from .ensures) (at-next .before .before .alpha-at .ensures) (at-blend .blend-into .ensures)
+    blend-done (k .args .s) (k .args .work .now) (k .args .base) (k .args .n) (k .args .j) (k .args .t) (k .pre .0) (k .pre .1) (k .pre .2) _ _ (at-next .before .place-of .ensures) (at-next .place-of2 .ensures) (arithmetic (k .args .second)) _ _ _ (knots .knots-from .ensures) (at-next .before .before .alpha-at .ensures) (at-blend .blend-into .ensures)
 
 pub blend-point-spec : {M : Type 1} → statement M
 blend-point-spec =

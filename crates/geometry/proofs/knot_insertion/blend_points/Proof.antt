@@ -2,7 +2,7 @@
 use mathlib.Core.Path.{_≡_, refl, _∙_}
 use Prim.Native.Nat.{suc, _+_, _-_, _≤_}
 use lib.ListN.{length}
-use Rattle.math.specs.Scalars.{geop}
+use Rattle.math.specs.Revision.{arithmetic}
 use Rattle.lists.specs.Lists.{put, tab}
 use Rattle.geometry.specs.Slots.{placeOf, blendAt, numbers}
 use Rattle.geometry.proofs.slots.Counts.{place-within, inside-of}
@@ -12,10 +12,10 @@ use Rattle.geometry.proofs.knot_insertion.blend_points.Statement.{state
 use Rattle.geometry.proofs.knot_insertion.blend_points.Tie as tie
 
 abbrev Inv-loop : tie.InvT-loop
-Inv-loop work₀ base s n k t last i₀ work i = (last ≤ i) × (i ≤ k) × (length work ≡ length work₀) × (work ≡ put work₀ (placeOf s base (suc i)) (numbers (tab (k - i) (λ j. blendAt geop s work₀ base n t (i + j)))))
+Inv-loop work₀ base s n k t second last i₀ work i = (last ≤ i) × (i ≤ k) × (length work ≡ length work₀) × (work ≡ put work₀ (placeOf s base (suc i)) (numbers (tab (k - i) (λ j. blendAt (arithmetic second) s work₀ base n t (i + j)))))
 
 abbrev μ-loop : tie.MeasureT-loop
-μ-loop work₀ base s n k t last i₀ work i = i
+μ-loop work₀ base s n k t second last i₀ work i = i
 
 abbrev from-loop : tie.At-loop Inv-loop μ-loop → tie.Start Inv-loop μ-loop
 from-loop c = c .before .before .before
@@ -27,7 +27,7 @@ loop-holds : tie.Need-loop-holds Inv-loop μ-loop
 loop-holds c =
     let k = c .before .before in
     let g = k .args in
-    (omega arith, omega arith, refl, makes-none (g .s) (g .base) (λ l j. blendAt geop (g .s) l (g .base) (g .n) (g .t) j) (blend-made geop (g .s) (g .base) (g .n) (g .t) (k .pre .3)) (g .work .now) (g .k))
+    (omega arith, omega arith, refl, makes-none (g .s) (g .base) (λ l j. blendAt (arithmetic (g .second)) (g .s) l (g .base) (g .n) (g .t) j) (blend-made (arithmetic (g .second)) (g .s) (g .base) (g .n) (g .t) (k .pre .3)) (g .work .now) (g .k))
 
 sub-i : tie.Need-sub-i Inv-loop μ-loop
 sub-i c = omega arith
@@ -51,7 +51,7 @@ loop-again c =
       omega arith,
       omega arith,
       at-blend-point .blend-point .kept .0 ∙ l .inv .2,
-      makes-turn (g .s) (g .base) (λ l j. blendAt geop (g .s) l (g .base) (g .n) (g .t) j) (blend-made geop (g .s) (g .base) (g .n) (g .t) (k .pre .3)) (g .work .now) (g .k) (l .i) (l .work) _ (omega arith) (omega arith)
+      makes-turn (g .s) (g .base) (λ l j. blendAt (arithmetic (g .second)) (g .s) l (g .base) (g .n) (g .t) j) (blend-made (arithmetic (g .second)) (g .s) (g .base) (g .n) (g .t) (k .pre .3)) (g .work .now) (g .k) (l .i) (l .work) _ (omega arith) (omega arith)
           (place-within (g .s) (g .work .now) (g .base) (suc (g .k)) (k .pre .0) (omega arith)) (l .inv .3) (at-blend-point .blend-point .ensures),
     )
 
@@ -64,7 +64,7 @@ returns c =
     let k = from-loop at-loop in
     let l = at-loop .loop in
     let g = k .args in
-    l .inv .3 ∙ makes-done (g .s) (g .base) (λ l j. blendAt geop (g .s) l (g .base) (g .n) (g .t) j) (blend-made geop (g .s) (g .base) (g .n) (g .t) (k .pre .3)) (g .work .now) (g .k) (g .s .degree) (l .i) (omega arith) (omega arith)
+    l .inv .3 ∙ makes-done (g .s) (g .base) (λ l j. blendAt (arithmetic (g .second)) (g .s) l (g .base) (g .n) (g .t) j) (blend-made (arithmetic (g .second)) (g .s) (g .base) (g .n) (g .t) (k .pre .3)) (g .work .now) (g .k) (g .s .degree) (l .i) (omega arith) (omega arith)
 
 pub blend-points-spec : {M : Type 1} → statement M
 blend-points-spec =

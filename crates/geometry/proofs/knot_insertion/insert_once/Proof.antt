@@ -1,5 +1,5 @@
 -- `insert_once` equals its definition: the points move up and are blended, then the knot is put in, then the count is raised.
-use Rattle.math.specs.Scalars.{geop}
+use Rattle.math.specs.Revision.{arithmetic}
 use Rattle.geometry.proofs.slots.Counts.{count-readable, few-points, knot-room}
 use Rattle.geometry.proofs.knot_insertion.Once.{once-code}
 use borrow.Author.Needs.{needs}
@@ -71,7 +71,7 @@ returns c =
     let at-open-points = to-open-points at-blend-points in
     let at-count-at = to-count-at at-open-points in
     let k = from-count-at at-count-at in
-    once-code geop (k .args .s) (k .args .work .now) (k .args .base) (k .args .k) (k .args .t) (k .pre .0) (k .pre .1) (k .pre .2) (k .pre .3) _ _ _ _ _ (at-count-at .count-at .ensures) (at-open-points .open-points .ensures) (at-blend-points .blend-points .ensures) (at-insert-knot .insert-knot .ensures) (at-set-count .set-count .ensures)
+    once-code (arithmetic (k .args .second)) (k .args .s) (k .args .work .now) (k .args .base) (k .args .k) (k .args .t) (k .pre .0) (k .pre .1) (k .pre .2) (k .pre .3) _ _ _ _ _ (at-count-at .count-at .ensures) (at-open-points .open-points .ensures) (at-blend-points .blend-points .ensures) (at-insert-knot .insert-knot .ensures) (at-set-count .set-count .ensures)
 
 pub insert-once-spec : {M : Type 1} → statement M
 insert-once-spec =

@@ -1,19 +1,19 @@
 -- `insert_times` equals its definition. Invariant: what is left to insert makes of the piece that is there what all of it makes of the first.
 use Prim.Native.Nat.{_-_}
-use Rattle.math.specs.Scalars.{geop}
+use Rattle.math.specs.Revision.{arithmetic}
 use Rattle.geometry.proofs.knot_insertion.Times.{After, after-none, after-turn, after-all, span-in-bounds}
 use native.Mathlib.Omega.{arith}
 use Rattle.geometry.proofs.knot_insertion.insert_times.Statement.{statement}
 use Rattle.geometry.proofs.knot_insertion.insert_times.Tie as tie
 
 abbrev Inv-loop : tie.InvT-loop
-Inv-loop work₀ base s t times i₀ work i = After geop s work₀ base t times i work
+Inv-loop work₀ base s t times second i₀ work i = After (arithmetic second) s work₀ base t times i work
 
 abbrev μ-loop : tie.MeasureT-loop
-μ-loop work₀ base s t times i₀ work i = times - i
+μ-loop work₀ base s t times second i₀ work i = times - i
 
 loop-holds : tie.Need-loop-holds Inv-loop μ-loop
-loop-holds c = let k = c .before in after-none geop (k .args .s) (k .args .work .now) (k .args .base) (k .args .t) (k .args .times) (k .pre .0)
+loop-holds c = let k = c .before in after-none (arithmetic (k .args .second)) (k .args .s) (k .args .work .now) (k .args .base) (k .args .t) (k .args .times) (k .pre .0)
 
 span-in-requires : tie.Need-span-in-requires Inv-loop μ-loop
 span-in-requires c κs = (c .before .before .loop .inv .held, omega (arith, c .before .before .loop .inv .count, c .before .before .before .before .pre .1))
@@ -34,7 +34,7 @@ loop-less c = omega arith
 loop-again : tie.Need-loop-again Inv-loop μ-loop
 loop-again c =
     let k = c .before .before .before .before .before .before .before .before .before in
-    after-turn geop (k .args .s) (k .args .work .now) (k .args .base) (k .args .t) (k .args .times) (c .before .before .before .before .before .before .before .loop .i) (c .before .before .before .before .span-in .result) (c .before .before .before .before .before .before .before .loop .work) _ (k .pre .0) (c .before .before .before .before .before .before .before .loop .inv) (c .before .before .before .before .before .before .loop-test .taken) (k .pre .1) (k .pre .2) (c .before .before .before .before .span-in .ensures) (c .before .before .insert-once .ensures)
+    after-turn (arithmetic (k .args .second)) (k .args .s) (k .args .work .now) (k .args .base) (k .args .t) (k .args .times) (c .before .before .before .before .before .before .before .loop .i) (c .before .before .before .before .span-in .result) (c .before .before .before .before .before .before .before .loop .work) _ (k .pre .0) (c .before .before .before .before .before .before .before .loop .inv) (c .before .before .before .before .before .before .loop-test .taken) (k .pre .1) (k .pre .2) (c .before .before .before .before .span-in .ensures) (c .before .before .insert-once .ensures)
 
 same-length : tie.Need-same-length Inv-loop μ-loop
 same-length c = c .before .loop .inv .long
@@ -42,7 +42,7 @@ same-length c = c .before .loop .inv .long
 returns : tie.Need-returns Inv-loop μ-loop
 returns c =
     let k = c .before .before .before .args in
-    after-all geop (k .s) (k .work .now) (k .base) (k .t) (k .times) (c .before .loop .i) (c .before .loop .work) (c .before .loop .inv) (omega (arith, c .before .loop .inv .within))
+    after-all (arithmetic (k .second)) (k .s) (k .work .now) (k .base) (k .t) (k .times) (c .before .loop .i) (c .before .loop .work) (c .before .loop .inv) (omega (arith, c .before .loop .inv .within))
 
 pub insert-times-spec : {M : Type 1} → statement M
 insert-times-spec =

@@ -1,7 +1,7 @@
 -- `insert_to_full_multiplicity` equals its definition: the triangle or the insertions, as the two tests say.
 use mathlib.Core.Path.{sym, _∙_}
 use borrow.Author.Tests.{not-true, not-false}
-use Rattle.math.specs.Scalars.{geop}
+use Rattle.math.specs.Revision.{arithmetic}
 use Rattle.geometry.proofs.knot_insertion.Cuts.{full-bezier, full-failed, full-boehm, single-held, full-from, bezier-cut}
 use borrow.Author.Needs.{needs}
 use native.Mathlib.Omega.{arith}
@@ -29,7 +29,7 @@ returns c =
     let at-is-bezier-in = taken1 .before in
     let k = from-is-bezier-in at-is-bezier-in in
     let g = k .args in
-    full-from geop (g .s) (g .work .now) _ (g .base) _ (g .t) _ (full-boehm (g .s .degree) (g .t) _ geop (sym (at-is-bezier-in .is-bezier-in .ensures) ∙ not-true _ (taken1 .if1 .taken))) (at-boehm-cut .boehm-cut .ensures)
+    full-from (arithmetic (g .second)) (g .s) (g .work .now) _ (g .base) _ (g .t) _ (full-boehm (g .s .degree) (g .t) _ (arithmetic (g .second)) (sym (at-is-bezier-in .is-bezier-in .ensures) ∙ not-true _ (taken1 .if1 .taken))) (at-boehm-cut .boehm-cut .ensures)
 
 along-in-requires : tie.Need-along-in-requires
 along-in-requires c κs = search needs
@@ -68,9 +68,9 @@ returns-2 c =
     let k = from-is-bezier-in at-is-bezier-in in
     let g = k .args in
     let one = sym (at-is-bezier-in .is-bezier-in .ensures) ∙ not-false _ (passed1 .if1 .left) in
-    full-from geop (g .s) (g .work .now) _ (g .base) _ (g .t) _
-    (full-bezier (g .s .degree) (g .t) _ geop _ one (sym (at-along-in .along-in .ensures) ∙ at-along .along .given .1))
-    (bezier-cut geop (g .s) (g .work .now) _ (g .base) (g .t) _ (k .pre .0) (single-held (g .s) (g .work .now) (g .base) (g .t) (k .pre .0) one) (omega (arith, k .pre .1, k .pre .2)) (at-split-bezier-span .split-bezier-span .ensures))
+    full-from (arithmetic (g .second)) (g .s) (g .work .now) _ (g .base) _ (g .t) _
+    (full-bezier (g .s .degree) (g .t) _ (arithmetic (g .second)) _ one (sym (at-along-in .along-in .ensures) ∙ at-along .along .given .1))
+    (bezier-cut (arithmetic (g .second)) (g .s) (g .work .now) _ (g .base) (g .t) _ (k .pre .0) (single-held (g .s) (g .work .now) (g .base) (g .t) (k .pre .0) one) (omega (arith, k .pre .1, k .pre .2)) (at-split-bezier-span .split-bezier-span .ensures))
 
 same-length-3 : tie.Need-same-length-3
 same-length-3 c = search needs
@@ -84,8 +84,8 @@ returns-3 c =
     let at-is-bezier-in = passed1 .before in
     let k = from-is-bezier-in at-is-bezier-in in
     let g = k .args in
-    full-from geop (g .s) (g .work .now) _ (g .base) _ (g .t) _
-    (full-failed (g .s .degree) (g .t) _ geop (sym (at-is-bezier-in .is-bezier-in .ensures) ∙ not-false _ (passed1 .if1 .left)) (sym (at-along-in .along-in .ensures) ∙ at-enum-told .enum-told .given .1))
+    full-from (arithmetic (g .second)) (g .s) (g .work .now) _ (g .base) _ (g .t) _
+    (full-failed (g .s .degree) (g .t) _ (arithmetic (g .second)) (sym (at-is-bezier-in .is-bezier-in .ensures) ∙ not-false _ (passed1 .if1 .left)) (sym (at-along-in .along-in .ensures) ∙ at-enum-told .enum-told .given .1))
     (at-boehm-cut2 .boehm-cut2 .ensures)
 
 pub insert-to-full-multiplicity-spec : {M : Type 1} → statement M

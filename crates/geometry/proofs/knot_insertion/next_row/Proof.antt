@@ -2,7 +2,7 @@
 use mathlib.Core.Path.{_≡_, refl, _∙_}
 use Prim.Native.Nat.{suc, _+_, _-_, _≤_}
 use lib.ListN.{length}
-use Rattle.math.specs.Scalars.{geop}
+use Rattle.math.specs.Revision.{arithmetic}
 use Rattle.lists.specs.Lists.{put, tab}
 use Rattle.geometry.specs.Slots.{placeOf, betweenAt, numbers}
 use Rattle.geometry.proofs.slots.Counts.{place-within, inside-of}
@@ -12,15 +12,15 @@ use Rattle.geometry.proofs.knot_insertion.next_row.Statement.{statement
 use Rattle.geometry.proofs.knot_insertion.next_row.Tie as tie
 
 abbrev Inv-loop : tie.InvT-loop
-Inv-loop work₀ base s r alpha i₀ work i = (r ≤ i) × (i ≤ s .degree) × (length work ≡ length work₀) × (work ≡ put work₀ (placeOf s base (suc i)) (numbers (tab (s .degree - i) (λ j. betweenAt geop s work₀ base alpha (i + j)))))
+Inv-loop work₀ base s r alpha second i₀ work i = (r ≤ i) × (i ≤ s .degree) × (length work ≡ length work₀) × (work ≡ put work₀ (placeOf s base (suc i)) (numbers (tab (s .degree - i) (λ j. betweenAt (arithmetic second) s work₀ base alpha (i + j)))))
 
 abbrev μ-loop : tie.MeasureT-loop
-μ-loop work₀ base s r alpha i₀ work i = i
+μ-loop work₀ base s r alpha second i₀ work i = i
 
 loop-holds : tie.Need-loop-holds Inv-loop μ-loop
 loop-holds c =
     let g = c .before .args in
-    (omega arith, omega arith, refl, makes-none (g .s) (g .base) (λ l j. betweenAt geop (g .s) l (g .base) (g .alpha) j) (between-made geop (g .s) (g .base) (g .alpha)) (g .work .now) (g .s .degree))
+    (omega arith, omega arith, refl, makes-none (g .s) (g .base) (λ l j. betweenAt (arithmetic (g .second)) (g .s) l (g .base) (g .alpha) j) (between-made (arithmetic (g .second)) (g .s) (g .base) (g .alpha)) (g .work .now) (g .s .degree))
 
 sub-i : tie.Need-sub-i Inv-loop μ-loop
 sub-i c = omega arith
@@ -44,7 +44,7 @@ loop-again c =
       omega arith,
       omega arith,
       at-between-point .between-point .kept .0 ∙ l .inv .2,
-      makes-turn (g .s) (g .base) (λ l j. betweenAt geop (g .s) l (g .base) (g .alpha) j) (between-made geop (g .s) (g .base) (g .alpha)) (g .work .now) (g .s .degree) (l .i) (l .work) _ (omega arith) (omega arith)
+      makes-turn (g .s) (g .base) (λ l j. betweenAt (arithmetic (g .second)) (g .s) l (g .base) (g .alpha) j) (between-made (arithmetic (g .second)) (g .s) (g .base) (g .alpha)) (g .work .now) (g .s .degree) (l .i) (l .work) _ (omega arith) (omega arith)
           (place-within (g .s) (g .work .now) (g .base) (suc (g .s .degree)) (k .pre .0) (omega arith)) (l .inv .3) (at-between-point .between-point .ensures),
     )
 

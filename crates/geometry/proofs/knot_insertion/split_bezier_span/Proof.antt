@@ -1,5 +1,5 @@
 -- `split_bezier_span` equals its definition: the sides of the triangle, then the knots, then the count.
-use Rattle.math.specs.Scalars.{geop}
+use Rattle.math.specs.Revision.{arithmetic}
 use Rattle.geometry.proofs.slots.Counts.{from-room, count-readable}
 use Rattle.geometry.proofs.knot_insertion.Cuts.{bezier-done}
 use borrow.Author.Needs.{needs}
@@ -75,7 +75,7 @@ returns c =
     let knots = at-knots triangle in
     let k = from-knots knots in
     let g = k .args in
-    bezier-done geop (g .s) (g .work .now) _ _ _ (g .base) _ (g .t) (g .alpha) (k .pre .0) (k .pre .1) (k .pre .2) (knots .knots-from .ensures) (triangle .triangle-in .ensures) (filled .bezier-knots .ensures) (counted .set-count .ensures)
+    bezier-done (arithmetic (g .second)) (g .s) (g .work .now) _ _ _ (g .base) _ (g .t) (g .alpha) (k .pre .0) (k .pre .1) (k .pre .2) (knots .knots-from .ensures) (triangle .triangle-in .ensures) (filled .bezier-knots .ensures) (counted .set-count .ensures)
 
 pub split-bezier-span-spec : {M : Type 1} → statement M
 split-bezier-span-spec =

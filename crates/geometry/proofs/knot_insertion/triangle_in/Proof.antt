@@ -2,7 +2,7 @@
 use mathlib.Core.Path.{_≡_, refl, _∙_}
 use Prim.Native.Nat.{_+_, _-_, _*_, _≤_}
 use lib.ListN.{length}
-use Rattle.math.specs.Scalars.{geop}
+use Rattle.math.specs.Revision.{arithmetic}
 use Rattle.geometry.proofs.slots.Counts.{inside-of}
 use Rattle.geometry.proofs.knot_insertion.Triangle.{withRow, triangle-start, triangle-copy, triangle-row, triangle-done}
 use native.Mathlib.Omega.{arith}
@@ -10,10 +10,10 @@ use Rattle.geometry.proofs.knot_insertion.triangle_in.Statement.{statem
 use Rattle.geometry.proofs.knot_insertion.triangle_in.Tie as tie
 
 abbrev Inv-loop : tie.InvT-loop
-Inv-loop work₀ base s alpha p end r₀ work r = (p ≡ s .degree) × (end ≡ 2 * s .degree + 1) × (r ≤ s .degree) × (length work ≡ length work₀) × (work ≡ withRow geop s work₀ base alpha r)
+Inv-loop work₀ base s alpha second p end r₀ work r = (p ≡ s .degree) × (end ≡ 2 * s .degree + 1) × (r ≤ s .degree) × (length work ≡ length work₀) × (work ≡ withRow (arithmetic second) s work₀ base alpha r)
 
 abbrev μ-loop : tie.MeasureT-loop
-μ-loop work₀ base s alpha p end r₀ work r = p - r
+μ-loop work₀ base s alpha second p end r₀ work r = p - r
 
 abbrev from-loop : tie.At-loop Inv-loop μ-loop → tie.Start Inv-loop μ-loop
 from-loop c = c .before .before
@@ -31,7 +31,7 @@ add-end : tie.Need-add-end Inv-loop μ-loop
 add-end c = omega arith
 
 loop-holds : tie.Need-loop-holds Inv-loop μ-loop
-loop-holds c = let k = c .before in (refl, refl, omega arith, refl, triangle-start geop (k .args .s) (k .args .work .now) (k .args .base) (k .args .alpha) (k .pre .0) (k .pre .1))
+loop-holds c = let k = c .before in (refl, refl, omega arith, refl, triangle-start (arithmetic (k .args .second)) (k .args .s) (k .args .work .now) (k .args .base) (k .args .alpha) (k .pre .0) (k .pre .1))
 
 sub-copy-point : tie.Need-sub-copy-point Inv-loop μ-loop
 sub-copy-point c = omega arith
@@ -67,7 +67,7 @@ loop-again c =
       refl,
       omega arith,
       at-next-row .next-row .kept .0 ∙ at-copy-point .copy-point .kept .0 ∙ l .inv .3,
-      triangle-row geop (g .s) (g .work .now) (g .base) (g .alpha) (k .pre .0) (k .pre .1) (l .r) _ _ (omega arith) (triangle-copy geop (g .s) (g .work .now) (g .base) (g .alpha) (k .pre .0) (k .pre .1) (l .r) _ _ (omega arith) (l .inv .4) (at-copy-point .copy-point .ensures)) (at-next-row .next-row .ensures),
+      triangle-row (arithmetic (g .second)) (g .s) (g .work .now) (g .base) (g .alpha) (k .pre .0) (k .pre .1) (l .r) _ _ (omega arith) (triangle-copy (arithmetic (g .second)) (g .s) (g .work .now) (g .base) (g .alpha) (k .pre .0) (k .pre .1) (l .r) _ _ (omega arith) (l .inv .4) (at-copy-point .copy-point .ensures)) (at-next-row .next-row .ensures),
     )
 
 sub-copy-point-2 : tie.Need-sub-copy-point-2 Inv-loop μ-loop
@@ -92,8 +92,8 @@ returns c =
     let k = from-loop at-loop in
     let g = k .args in
     let l = at-loop .loop in
-    triangle-copy geop (g .s) (g .work .now) (g .base) (g .alpha) (k .pre .0) (k .pre .1) (l .r) _ _ (omega arith) (l .inv .4) (at-copy-point2 .copy-point2 .ensures)
-    ∙ triangle-done geop (g .s) (g .work .now) (g .base) (g .alpha) (k .pre .0) (k .pre .1) (l .r) (omega arith)
+    triangle-copy (arithmetic (g .second)) (g .s) (g .work .now) (g .base) (g .alpha) (k .pre .0) (k .pre .1) (l .r) _ _ (omega arith) (l .inv .4) (at-copy-point2 .copy-point2 .ensures)
+    ∙ triangle-done (arithmetic (g .second)) (g .s) (g .work .now) (g .base) (g .alpha) (k .pre .0) (k .pre .1) (l .r) (omega arith)
 
 pub triangle-in-spec : {M : Type 1} → statement M
 triangle-in-spec =

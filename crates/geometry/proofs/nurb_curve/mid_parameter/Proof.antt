@@ -1,7 +1,8 @@
 -- `mid_parameter` equals its definition: its six calls, one after the other.
 use mathlib.Core.Path.{ap, _∙_}
 use lib.Ieee.{ofBits}
-use Rattle.math.specs.Scalars.{TWO, ENTIRE, addS, divS, middle, valueOr}
+use Rattle.math.specs.Revision.{arithmetic}
+use Rattle.math.specs.Scalars.{TWO, ENTIRE, middle, valueOr}
 use Rattle.math.specs.declared.scalars.Scalar.{Scalar}
 use Rattle.model.specs.NurbCurve.{midParameter}
 use borrow.Author.Needs.{needs}
@@ -32,8 +33,9 @@ returns c =
     let v = c .before in
     let q = v .before in
     let s = q .before in
+    let ar = arithmetic (s .before .before .before .args .second) in
     c .to-f64 .ensures
-    ∙ ap middle (v .value-or-entire .ensures ∙ ap (λ d. valueOr d ENTIRE) (q .div .ensures .result ∙ ap (λ (x : Scalar). divS x TWO) (s .add .ensures ∙ (λ i. addS (s .before .before .from-f64 .ensures i) (s .before .from-f642 .ensures i)))))
+    ∙ ap middle (v .value-or-entire .ensures ∙ ap (λ d. valueOr d ENTIRE) (q .div .ensures .result ∙ ap (λ (x : Scalar). ar .div x TWO) (s .add .ensures ∙ (λ i. ar .add (s .before .before .from-f64 .ensures i) (s .before .from-f642 .ensures i)))))
 
 pub mid-parameter-spec : {M : Type 1} → statement M
 mid-parameter-spec =

@@ -2,7 +2,7 @@
 use mathlib.Core.Path.{refl, sym, _∙_}
 use mathlib.Core.Logic.{inr}
 use borrow.Author.Tests.{not-true, not-false}
-use Rattle.math.specs.Scalars.{geop}
+use Rattle.math.specs.Revision.{arithmetic}
 use Rattle.geometry.proofs.split.Splits.{whole-count, cut-held, cut-upto, from-kept, from-none}
 use borrow.Author.Needs.{needs}
 use Rattle.geometry.proofs.split.cut_from.Statement.{statement}
@@ -23,7 +23,7 @@ returns : tie.Need-returns
 returns c =
     let at-is-inside = c .before in
     let k = from-is-inside at-is-inside in
-    let g = k .args in from-none geop (g .s) (g .work .now) (g .base) (g .t) (sym (at-is-inside .is-inside .ensures) ∙ not-true _ (c .if1 .taken))
+    let g = k .args in from-none (arithmetic (g .second)) (g .s) (g .work .now) (g .base) (g .t) (sym (at-is-inside .is-inside .ensures) ∙ not-true _ (c .if1 .taken))
 
 insert-to-full-multiplicity-requires : tie.Need-insert-to-full-multiplicity-requires
 insert-to-full-multiplicity-requires c κs =
@@ -40,8 +40,8 @@ copy-right-requires c κs =
     let g = k .args in
     let d = sym (at-is-inside .is-inside .ensures) ∙ not-false _ (passed1 .if1 .left) in
     let i = at-insert .insert-to-full-multiplicity .ensures in
-    let h = cut-held geop (g .s) (g .work .now) (g .base) (g .t) (k .pre .0) (k .pre .1) d _ _ i in
-    ((h, h .inside, cut-upto geop (g .s) (g .work .now) (g .base) (g .t) (k .pre .0) (k .pre .1) d _ _ i), inr refl)
+    let h = cut-held (arithmetic (g .second)) (g .s) (g .work .now) (g .base) (g .t) (k .pre .0) (k .pre .1) d _ _ i in
+    ((h, h .inside, cut-upto (arithmetic (g .second)) (g .s) (g .work .now) (g .base) (g .t) (k .pre .0) (k .pre .1) d _ _ i), inr refl)
 
 same-length-2 : tie.Need-same-length-2
 same-length-2 c = search needs
@@ -56,7 +56,7 @@ returns-2 c =
     let g = k .args in
     let d = sym (at-is-inside .is-inside .ensures) ∙ not-false _ (passed1 .if1 .left) in
     let i = at-insert .insert-to-full-multiplicity .ensures in
-    from-kept geop (g .s) (g .work .now) (g .base) (g .t) (k .pre .0) (k .pre .1) d _ _ i _ _ (at-copy-right .copy-right .ensures) refl
+    from-kept (arithmetic (g .second)) (g .s) (g .work .now) (g .base) (g .t) (k .pre .0) (k .pre .1) d _ _ i _ _ (at-copy-right .copy-right .ensures) refl
 
 pub cut-from-spec : {M : Type 1} → statement M
 cut-from-spec =

@@ -1,7 +1,7 @@
 -- `cut_up_to` equals its definition: nothing where t does not lie inside, and else the cut of which what is left is kept.
 use mathlib.Core.Path.{refl, sym, _∙_}
 use borrow.Author.Tests.{not-true, not-false}
-use Rattle.math.specs.Scalars.{geop}
+use Rattle.math.specs.Revision.{arithmetic}
 use Rattle.geometry.proofs.split.Splits.{whole-count, cut-held, cut-upto, upto-kept, upto-none}
 use borrow.Author.Needs.{needs}
 use Rattle.geometry.proofs.split.cut_up_to.Statement.{statement}
@@ -22,7 +22,7 @@ returns : tie.Need-returns
 returns c =
     let at-is-inside = c .before in
     let k = from-is-inside at-is-inside in
-    let g = k .args in upto-none geop (g .s) (g .work .now) (g .base) (g .t) (sym (at-is-inside .is-inside .ensures) ∙ not-true _ (c .if1 .taken))
+    let g = k .args in upto-none (arithmetic (g .second)) (g .s) (g .work .now) (g .base) (g .t) (sym (at-is-inside .is-inside .ensures) ∙ not-true _ (c .if1 .taken))
 
 insert-to-full-multiplicity-requires : tie.Need-insert-to-full-multiplicity-requires
 insert-to-full-multiplicity-requires c κs =
@@ -39,7 +39,7 @@ keep-left-requires c κs =
     let g = k .args in
     let d = sym (at-is-inside .is-inside .ensures) ∙ not-false _ (passed1 .if1 .left) in
     let i = at-insert .insert-to-full-multiplicity .ensures in
-    (cut-held geop (g .s) (g .work .now) (g .base) (g .t) (k .pre .0) (k .pre .1) d _ _ i, cut-upto geop (g .s) (g .work .now) (g .base) (g .t) (k .pre .0) (k .pre .1) d _ _ i)
+    (cut-held (arithmetic (g .second)) (g .s) (g .work .now) (g .base) (g .t) (k .pre .0) (k .pre .1) d _ _ i, cut-upto (arithmetic (g .second)) (g .s) (g .work .now) (g .base) (g .t) (k .pre .0) (k .pre .1) d _ _ i)
 
 same-length-2 : tie.Need-same-length-2
 same-length-2 c = search needs
@@ -54,7 +54,7 @@ returns-2 c =
     let g = k .args in
     let d = sym (at-is-inside .is-inside .ensures) ∙ not-false _ (passed1 .if1 .left) in
     let i = at-insert .insert-to-full-multiplicity .ensures in
-    upto-kept geop (g .s) (g .work .now) (g .base) (g .t) (k .pre .0) (k .pre .1) d _ _ i _ _ (at-keep-left .keep-left .ensures) refl
+    upto-kept (arithmetic (g .second)) (g .s) (g .work .now) (g .base) (g .t) (k .pre .0) (k .pre .1) d _ _ i _ _ (at-keep-left .keep-left .ensures) refl
 
 pub cut-up-to-spec : {M : Type 1} → statement M
 cut-up-to-spec =

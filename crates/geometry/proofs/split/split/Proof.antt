@@ -2,7 +2,7 @@
 use mathlib.Core.Path.{sym, _∙_}
 use mathlib.Core.Logic.{inl}
 use borrow.Author.Tests.{not-true, not-false}
-use Rattle.math.specs.Scalars.{geop}
+use Rattle.math.specs.Revision.{arithmetic}
 use Rattle.geometry.proofs.split.Splits.{split-none, split-done, whole-count, held₁, whole₁, held₂, upto₂, inside₂, held₃, upto₃}
 use borrow.Author.Needs.{needs}
 use native.Mathlib.Omega.{arith}
@@ -34,7 +34,7 @@ returns c =
     let at-is-inside = c .before in
     let k = from-is-inside at-is-inside in
     let g = k .args in
-    split-none geop (g .s) (g .work .now) (g .src) (g .left) (g .right) (g .t) (k .pre .0 .0) (k .pre .0 .1) (k .pre .0 .2) (k .pre .0 .3) (k .pre .1 .0) (k .pre .1 .1) (k .pre .1 .2) (sym (at-is-inside .is-inside .ensures) ∙ not-true _ (c .if1 .taken))
+    split-none (arithmetic (g .second)) (g .s) (g .work .now) (g .src) (g .left) (g .right) (g .t) (k .pre .0 .0) (k .pre .0 .1) (k .pre .0 .2) (k .pre .0 .3) (k .pre .1 .0) (k .pre .1 .1) (k .pre .1 .2) (sym (at-is-inside .is-inside .ensures) ∙ not-true _ (c .if1 .taken))
 
 copy-right-requires : tie.Need-copy-right-requires
 copy-right-requires c κs = let k = from-is-inside (c .before .before) in ((k .pre .0 .0, k .pre .0 .2, omega arith), inl (k .pre .1 .0))
@@ -47,8 +47,8 @@ insert-to-full-multiplicity-requires c κs =
     let k = from-is-inside at-is-inside in
     let g = k .args in
     let d = sym (at-is-inside .is-inside .ensures) ∙ not-false _ (passed1 .if1 .left) in
-    let h = held₁ geop (g .s) (g .work .now) (g .src) (g .left) (g .right) (g .t) (k .pre .0 .0) (k .pre .0 .1) (k .pre .0 .2) (k .pre .0 .3) (k .pre .1 .0) (k .pre .1 .1) (k .pre .1 .2) d _ (at-copy-right .copy-right .ensures) in
-    let q = whole-count (g .s) _ (g .left) h (whole₁ geop (g .s) (g .work .now) (g .src) (g .left) (g .right) (g .t) (k .pre .0 .0) (k .pre .0 .1) (k .pre .0 .2) (k .pre .0 .3) (k .pre .1 .0) (k .pre .1 .1) (k .pre .1 .2) d _ (at-copy-right .copy-right .ensures)) in
+    let h = held₁ (arithmetic (g .second)) (g .s) (g .work .now) (g .src) (g .left) (g .right) (g .t) (k .pre .0 .0) (k .pre .0 .1) (k .pre .0 .2) (k .pre .0 .3) (k .pre .1 .0) (k .pre .1 .1) (k .pre .1 .2) d _ (at-copy-right .copy-right .ensures) in
+    let q = whole-count (g .s) _ (g .left) h (whole₁ (arithmetic (g .second)) (g .s) (g .work .now) (g .src) (g .left) (g .right) (g .t) (k .pre .0 .0) (k .pre .0 .1) (k .pre .0 .2) (k .pre .0 .3) (k .pre .1 .0) (k .pre .1 .1) (k .pre .1 .2) d _ (at-copy-right .copy-right .ensures)) in
     (h, q .0, q .1)
 
 copy-right-requires-2 : tie.Need-copy-right-requires-2
@@ -62,9 +62,9 @@ copy-right-requires-2 c κs =
     let d = sym (at-is-inside .is-inside .ensures) ∙ not-false _ (passed1 .if1 .left) in
     let i = at-insert .insert-to-full-multiplicity .ensures in (
       (
-        held₂ geop (g .s) (g .work .now) (g .src) (g .left) (g .right) (g .t) (k .pre .0 .0) (k .pre .0 .1) (k .pre .0 .2) (k .pre .0 .3) (k .pre .1 .0) (k .pre .1 .1) (k .pre .1 .2) d _ (at-copy-right .copy-right .ensures) _ _ i,
-        inside₂ geop (g .s) (g .work .now) (g .src) (g .left) (g .right) (g .t) (k .pre .0 .0) (k .pre .0 .1) (k .pre .0 .2) (k .pre .0 .3) (k .pre .1 .0) (k .pre .1 .1) (k .pre .1 .2) d _ (at-copy-right .copy-right .ensures) _ _ i,
-        upto₂ geop (g .s) (g .work .now) (g .src) (g .left) (g .right) (g .t) (k .pre .0 .0) (k .pre .0 .1) (k .pre .0 .2) (k .pre .0 .3) (k .pre .1 .0) (k .pre .1 .1) (k .pre .1 .2) d _ (at-copy-right .copy-right .ensures) _ _ i,
+        held₂ (arithmetic (g .second)) (g .s) (g .work .now) (g .src) (g .left) (g .right) (g .t) (k .pre .0 .0) (k .pre .0 .1) (k .pre .0 .2) (k .pre .0 .3) (k .pre .1 .0) (k .pre .1 .1) (k .pre .1 .2) d _ (at-copy-right .copy-right .ensures) _ _ i,
+        inside₂ (arithmetic (g .second)) (g .s) (g .work .now) (g .src) (g .left) (g .right) (g .t) (k .pre .0 .0) (k .pre .0 .1) (k .pre .0 .2) (k .pre .0 .3) (k .pre .1 .0) (k .pre .1 .1) (k .pre .1 .2) d _ (at-copy-right .copy-right .ensures) _ _ i,
+        upto₂ (arithmetic (g .second)) (g .s) (g .work .now) (g .src) (g .left) (g .right) (g .t) (k .pre .0 .0) (k .pre .0 .1) (k .pre .0 .2) (k .pre .0 .3) (k .pre .1 .0) (k .pre .1 .1) (k .pre .1 .2) d _ (at-copy-right .copy-right .ensures) _ _ i,
       ),
       inl (k .pre .1 .2),
     )
@@ -80,8 +80,8 @@ keep-left-requires c κs =
     let g = k .args in
     let d = sym (at-is-inside .is-inside .ensures) ∙ not-false _ (passed1 .if1 .left) in
     let i = at-insert .insert-to-full-multiplicity .ensures in (
-      held₃ geop (g .s) (g .work .now) (g .src) (g .left) (g .right) (g .t) (k .pre .0 .0) (k .pre .0 .1) (k .pre .0 .2) (k .pre .0 .3) (k .pre .1 .0) (k .pre .1 .1) (k .pre .1 .2) d _ (at-copy-right .copy-right .ensures) _ _ i _ (at-copy-right2 .copy-right2 .ensures),
-      upto₃ geop (g .s) (g .work .now) (g .src) (g .left) (g .right) (g .t) (k .pre .0 .0) (k .pre .0 .1) (k .pre .0 .2) (k .pre .0 .3) (k .pre .1 .0) (k .pre .1 .1) (k .pre .1 .2) d _ (at-copy-right .copy-right .ensures) _ _ i _ (at-copy-right2 .copy-right2 .ensures),
+      held₃ (arithmetic (g .second)) (g .s) (g .work .now) (g .src) (g .left) (g .right) (g .t) (k .pre .0 .0) (k .pre .0 .1) (k .pre .0 .2) (k .pre .0 .3) (k .pre .1 .0) (k .pre .1 .1) (k .pre .1 .2) d _ (at-copy-right .copy-right .ensures) _ _ i _ (at-copy-right2 .copy-right2 .ensures),
+      upto₃ (arithmetic (g .second)) (g .s) (g .work .now) (g .src) (g .left) (g .right) (g .t) (k .pre .0 .0) (k .pre .0 .1) (k .pre .0 .2) (k .pre .0 .3) (k .pre .1 .0) (k .pre .1 .1) (k .pre .1 .2) d _ (at-copy-right .copy-right .ensures) _ _ i _ (at-copy-right2 .copy-right2 .ensures),
     )
 
 same-length-2 : tie.Need-same-length-2
@@ -99,7 +99,7 @@ returns-2 c =
     let g = k .args in
     let d = sym (at-is-inside .is-inside .ensures) ∙ not-false _ (passed1 .if1 .left) in
     let i = at-insert .insert-to-full-multiplicity .ensures in
-    split-done geop (g .s) (g .work .now) (g .src) (g .left) (g .right) (g .t) (k .pre .0 .0) (k .pre .0 .1) (k .pre .0 .2) (k .pre .0 .3) (k .pre .1 .0) (k .pre .1 .1) (k .pre .1 .2) d _ (at-copy-right .copy-right .ensures) _ _ i _ (at-copy-right2 .copy-right2 .ensures) _ (at-keep-left .keep-left .ensures)
+    split-done (arithmetic (g .second)) (g .s) (g .work .now) (g .src) (g .left) (g .right) (g .t) (k .pre .0 .0) (k .pre .0 .1) (k .pre .0 .2) (k .pre .0 .3) (k .pre .1 .0) (k .pre .1 .1) (k .pre .1 .2) d _ (at-copy-right .copy-right .ensures) _ _ i _ (at-copy-right2 .copy-right2 .ensures) _ (at-keep-left .keep-left .ensures)
 
 pub split-spec : {M : Type 1} → statement M
 split-spec =

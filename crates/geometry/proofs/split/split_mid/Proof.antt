@@ -1,6 +1,6 @@
 -- `split_mid` equals its definition: the split at the middle of the domain.
 use mathlib.Core.Path.{_∙_}
-use Rattle.math.specs.Scalars.{geop}
+use Rattle.math.specs.Revision.{arithmetic}
 use Rattle.geometry.specs.Slots.{pieceAt}
 use Rattle.geometry.proofs.slots.Counts.{count-readable, from-room}
 use Rattle.geometry.proofs.split.Splits.{mid-words, split-same}
@@ -57,8 +57,8 @@ returns c =
     let at-count = at-knots .before in
     let k = at-count .before .before .before in
     let g = k .args in
-    let mid = at-mid .mid-parameter .ensures ∙ mid-words (g .s) (g .work .now) (g .src) _ _ (k .pre .0 .0) (at-count .count-at .ensures) (at-knots .knots-from .ensures) geop in
-    split-same geop (g .s) (g .work .now) _ (g .left) (g .right) _ _ (pieceAt (g .s) (g .work .now) (g .src)) _ mid (at-split .split .ensures)
+    let mid = at-mid .mid-parameter .ensures ∙ mid-words (g .s) (g .work .now) (g .src) _ _ (k .pre .0 .0) (at-count .count-at .ensures) (at-knots .knots-from .ensures) (arithmetic (g .second)) in
+    split-same (arithmetic (g .second)) (g .s) (g .work .now) _ (g .left) (g .right) _ _ (pieceAt (g .s) (g .work .now) (g .src)) _ mid (at-split .split .ensures)
 
 pub split-mid-spec : {M : Type 1} → statement M
 split-mid-spec =

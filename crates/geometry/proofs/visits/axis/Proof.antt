@@ -5,7 +5,7 @@ use native.Mathlib.Nat.{mul-le-mul-left}
 use native.Mathlib.Omega.{arith}
 use lib.ListN.{length, length-set}
 use Rattle.lists.specs.Lists.{put, tab}
-use Rattle.math.specs.Scalars.{geop, mulS}
+use Rattle.math.specs.Revision.{arithmetic}
 use Rattle.math.specs.declared.scalars.Scalar.{Scalar}
 use Rattle.model.specs.Layout.{flat}
 use Rattle.geometry.proofs.Lists.Flat.{flat-none, flat-next}
@@ -16,10 +16,10 @@ use Rattle.geometry.proofs.visits.axis.Statement.{statement}
 use Rattle.geometry.proofs.visits.axis.Tie as tie
 
 abbrev Inv-loop : tie.InvT-loop
-Inv-loop points dim count k e d₀ last₀ i₀ d last i = (i ≤ count) × ((length d ≡ length d₀) × ((d ≡ put d₀ 0 (flat (tab i (axisAt geop points dim k e)))) × (last .product ≡ mulS e (last .weight))))
+Inv-loop points dim count k e d₀ second last₀ i₀ d last i = (i ≤ count) × ((length d ≡ length d₀) × ((d ≡ put d₀ 0 (flat (tab i (axisAt (arithmetic second) points dim k e)))) × (last .product ≡ arithmetic second .mul e (last .weight))))
 
 abbrev μ-loop : tie.MeasureT-loop
-μ-loop points dim count k e d₀ last₀ i₀ d last i = count - i
+μ-loop points dim count k e d₀ second last₀ i₀ d last i = count - i
 
 abbrev from-loop : tie.At-loop Inv-loop μ-loop → tie.Start Inv-loop μ-loop
 from-loop c = c .before .before .before .before .before
@@ -39,7 +39,7 @@ times-requires c κs = search needs
 loop-holds : tie.Need-loop-holds Inv-loop μ-loop
 loop-holds c =
     let k = c .before .before .before .before in
-    let a = k .args in (omega arith, (refl, (flat-none (axisAt geop (a .points .now) (a .dim) (a .k) (a .e)) _, c .times .ensures)))
+    let a = k .args in (omega arith, (refl, (flat-none (axisAt (arithmetic (a .second)) (a .points .now) (a .dim) (a .k) (a .e)) _, c .times .ensures)))
 
 coordinate-requires-2 : tie.Need-coordinate-requires-2 Inv-loop μ-loop
 coordinate-requires-2 c κs =
@@ -106,9 +106,9 @@ loop-again c =
       (
         simp length-set (at-loop .loop .inv .1 .0),
         (
-          flat-next (axisAt geop (a .points .now) (a .dim) (a .k) (a .e)) _ (at-loop .loop .d) (at-loop .loop .i) (c .sub .result) (omega arith) (at-loop .loop .inv .1 .1 .0)
-              (axis-at geop (a .points .now) (a .dim) (a .k) (at-loop .loop .i) (a .e) _ _ _ _ (at-coordinate3 .coordinate3 .ensures ∙ coordinate-is (a .dim) (at-loop .loop .i) (a .k) (a .points .now) (omega arith)) (at-coordinate2 .coordinate2 .ensures ∙ coordinate-is (a .dim) (at-loop .loop .i) (a .dim) (a .points .now) (omega arith)) (w .1) (c .sub .ensures)),
-          w .1 ∙ ap (λ (v : Scalar). mulS (a .e) v) (sym (w .0)),
+          flat-next (axisAt (arithmetic (a .second)) (a .points .now) (a .dim) (a .k) (a .e)) _ (at-loop .loop .d) (at-loop .loop .i) (c .sub .result) (omega arith) (at-loop .loop .inv .1 .1 .0)
+              (axis-at (arithmetic (a .second)) (a .points .now) (a .dim) (a .k) (at-loop .loop .i) (a .e) _ _ _ _ (at-coordinate3 .coordinate3 .ensures ∙ coordinate-is (a .dim) (at-loop .loop .i) (a .k) (a .points .now) (omega arith)) (at-coordinate2 .coordinate2 .ensures ∙ coordinate-is (a .dim) (at-loop .loop .i) (a .dim) (a .points .now) (omega arith)) (w .1) (c .sub .ensures)),
+          w .1 ∙ ap (λ (v : Scalar). arithmetic (a .second) .mul (a .e) v) (sym (w .0)),
         ),
       ),
     )
@@ -121,7 +121,7 @@ returns c =
     let at-loop = c .before in
     let k = from-loop at-loop in
     let a = k .args in
-    axis-done geop (a .points .now) (a .d .now) (at-loop .loop .d) (a .dim) (a .count) (at-loop .loop .i) (a .k) (a .e) (k .pre .0 .1) (omega arith) (at-loop .loop .inv .1 .1 .0)
+    axis-done (arithmetic (a .second)) (a .points .now) (a .d .now) (at-loop .loop .d) (a .dim) (a .count) (at-loop .loop .i) (a .k) (a .e) (k .pre .0 .1) (omega arith) (at-loop .loop .inv .1 .1 .0)
 
 pub axis-spec : {M : Type 1} → statement M
 axis-spec =

@@ -4,7 +4,8 @@ use Prim.Native.Nat.{suc, _-_, _≤_}
 use native.Mathlib.Omega.{arith}
 use lib.ListN.{length, length-replicate}
 use lib.Ieee.{binary64, ofBits}
-use Rattle.math.specs.Scalars.{geop, unionS}
+use Rattle.math.specs.Scalars.{unionS}
+use Rattle.math.specs.Revision.{arithmetic}
 use Rattle.model.specs.Layout.{scalarsOf, pointsOf}
 use Rattle.model.specs.NurbCurve.{domain}
 use Rattle.model.specs.Contains.{clip}
@@ -16,15 +17,15 @@ use Rattle.geometry.proofs.visits.clip.Statement.{statement}
 use Rattle.geometry.proofs.visits.clip.Tie as tie
 
 abbrev Inv-loop : tie.InvT-loop
-Inv-loop xi points point-box dim count start end dx d₀ hat₀ k₀ d hat k =
+Inv-loop xi points point-box dim count start end second dx d₀ hat₀ k₀ d hat k =
     (k ≤ dim)
     × (length d ≡ 64)
     × (length dx ≡ 64)
-    × (scalarsOf count dx ≡ fromFirst geop (scalarsOf count xi))
-    × (left geop dim (pointsOf (suc dim) count points) (scalarsOf count xi) point-box hat k ≡ clip geop dim (pointsOf (suc dim) count points) (scalarsOf count xi) (domain start end) 0 (scalarsOf dim point-box))
+    × (scalarsOf count dx ≡ fromFirst (arithmetic second) (scalarsOf count xi))
+    × (left (arithmetic second) dim (pointsOf (suc dim) count points) (scalarsOf count xi) point-box hat k ≡ clip (arithmetic second) dim (pointsOf (suc dim) count points) (scalarsOf count xi) (domain start end) 0 (scalarsOf dim point-box))
 
 abbrev μ-loop : tie.MeasureT-loop
-μ-loop xi points point-box dim count start end dx d₀ hat₀ k₀ d hat k = dim - k
+μ-loop xi points point-box dim count start end second dx d₀ hat₀ k₀ d hat k = dim - k
 
 abbrev from-loop : tie.At-loop Inv-loop μ-loop → tie.Start Inv-loop μ-loop
 from-loop c = c .before .before .before .before .before .before .before .before .before .before
@@ -57,9 +58,9 @@ loop-holds c =
     let a = k .args in
     let n = length-replicate 64 (ofBits binary64 0) in
     let p = k .pre in
-    let kept = from-first-kept geop (a .xi .now) _ _ (a .count) (p .0 .0) (omega (arith, n, p .0 .1)) (at-from-first .from-first .ensures) in
-    let held = from-first-held geop (a .xi .now) _ _ (a .count) (p .0 .0) (at-from-first .from-first .ensures) in
-    (omega arith, n, kept ∙ n, held, ap (λ hat. left geop (a .dim) (pointsOf (suc (a .dim)) (a .count) (a .points .now)) (scalarsOf (a .count) (a .xi .now)) (a .point-box .now) hat 0) (c .union .ensures ∙ (λ i. unionS (at-from-f64 .from-f64 .ensures i) (at-from-f642 .from-f642 .ensures i))))
+    let kept = from-first-kept (arithmetic (a .second)) (a .xi .now) _ _ (a .count) (p .0 .0) (omega (arith, n, p .0 .1)) (at-from-first .from-first .ensures) in
+    let held = from-first-held (arithmetic (a .second)) (a .xi .now) _ _ (a .count) (p .0 .0) (at-from-first .from-first .ensures) in
+    (omega arith, n, kept ∙ n, held, ap (λ hat. left (arithmetic (a .second)) (a .dim) (pointsOf (suc (a .dim)) (a .count) (a .points .now)) (scalarsOf (a .count) (a .xi .now)) (a .point-box .now) hat 0) (c .union .ensures ∙ (λ i. unionS (at-from-f64 .from-f64 .ensures i) (at-from-f642 .from-f642 .ensures i))))
 
 scalar-at-requires : tie.Need-scalar-at-requires Inv-loop μ-loop
 scalar-at-requires c κs = search needs
@@ -91,7 +92,7 @@ returns c =
     let at-loop = at-scalar-at .before .before in
     let k = from-loop at-loop in
     let a = k .args in
-    left-none geop (a .dim) (pointsOf (suc (a .dim)) (a .count) (a .points .now)) (scalarsOf (a .count) (a .xi .now)) (a .point-box .now) (at-loop .loop .hat) (at-scalar-at .scalar-at .result) _ (at-loop .loop .k) (omega arith) (at-scalar-at .scalar-at .ensures) (at-clip-axis .clip-axis .ensures .0) _ (c .enum-told .given .1) (at-loop .loop .inv .4)
+    left-none (arithmetic (a .second)) (a .dim) (pointsOf (suc (a .dim)) (a .count) (a .points .now)) (scalarsOf (a .count) (a .xi .now)) (a .point-box .now) (at-loop .loop .hat) (at-scalar-at .scalar-at .result) _ (at-loop .loop .k) (omega arith) (at-scalar-at .scalar-at .ensures) (at-clip-axis .clip-axis .ensures .0) _ (c .enum-told .given .1) (at-loop .loop .inv .4)
 
 add-k : tie.Need-add-k Inv-loop μ-loop
 add-k c =
@@ -112,10 +113,10 @@ loop-again c =
     let k = from-loop at-loop in
     let a = k .args in (
       omega (arith, in-loop .loop-test .taken),
-      axis-kept geop (a .points .now) (at-loop .loop .d) _ (a .dim) (a .count) (at-loop .loop .k) 64 (at-scalar-at .scalar-at .result) (in-loop .loop-test .taken) (omega (arith, k .pre .0 .1, at-loop .loop .inv .1)) (at-clip-axis .clip-axis .ensures .1) (at-loop .loop .inv .1),
+      axis-kept (arithmetic (a .second)) (a .points .now) (at-loop .loop .d) _ (a .dim) (a .count) (at-loop .loop .k) 64 (at-scalar-at .scalar-at .result) (in-loop .loop-test .taken) (omega (arith, k .pre .0 .1, at-loop .loop .inv .1)) (at-clip-axis .clip-axis .ensures .1) (at-loop .loop .inv .1),
       at-loop .loop .inv .2,
       at-loop .loop .inv .3,
-      left-next geop (a .dim) (pointsOf (suc (a .dim)) (a .count) (a .points .now)) (scalarsOf (a .count) (a .xi .now)) (a .point-box .now) (at-loop .loop .hat) (at-scalar-at .scalar-at .result) _ (at-loop .loop .k) (omega arith) (at-scalar-at .scalar-at .ensures) (at-clip-axis .clip-axis .ensures .0) _ _ (at-h .h .given .1) (at-loop .loop .inv .4),
+      left-next (arithmetic (a .second)) (a .dim) (pointsOf (suc (a .dim)) (a .count) (a .points .now)) (scalarsOf (a .count) (a .xi .now)) (a .point-box .now) (at-loop .loop .hat) (at-scalar-at .scalar-at .result) _ (at-loop .loop .k) (omega arith) (at-scalar-at .scalar-at .ensures) (at-clip-axis .clip-axis .ensures .0) _ _ (at-h .h .given .1) (at-loop .loop .inv .4),
     )
 
 returns-2 : tie.Need-returns-2 Inv-loop μ-loop
@@ -123,7 +124,7 @@ returns-2 c =
     let at-loop = c .before in
     let k = from-loop at-loop in
     let a = k .args in
-    left-done geop (a .dim) (pointsOf (suc (a .dim)) (a .count) (a .points .now)) (scalarsOf (a .count) (a .xi .now)) (a .point-box .now) (at-loop .loop .hat) (at-loop .loop .k) _ (omega arith) (at-loop .loop .inv .4)
+    left-done (arithmetic (a .second)) (a .dim) (pointsOf (suc (a .dim)) (a .count) (a .points .now)) (scalarsOf (a .count) (a .xi .now)) (a .point-box .now) (at-loop .loop .hat) (at-loop .loop .k) _ (omega arith) (at-loop .loop .inv .4)
 
 pub clip-spec : {M : Type 1} → statement M
 clip-spec =

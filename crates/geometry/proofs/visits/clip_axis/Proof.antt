@@ -1,5 +1,5 @@
 -- `clip_axis` is what its calls ensure: the values of the axis stand in the lent list, from which the zeros are read.
-use Rattle.math.specs.Scalars.{geop}
+use Rattle.math.specs.Revision.{arithmetic}
 use Rattle.geometry.proofs.visits.Clips.{axis-leaves}
 use borrow.Author.Needs.{needs}
 use Rattle.geometry.proofs.visits.clip_axis.Statement.{statement}
@@ -22,7 +22,7 @@ returns c =
     let k = c .before .before .before .before .before in
     let s = k .before .before .before .before .before .before in
     let a = s .args in
-    (axis-leaves geop (a .xi .now) (a .points .now) _ _ (a .dim) (a .count) (a .k) (a .e) (a .hat) _ _ (s .pre .0 .1 .0) (k .axis .ensures) (c .before .fat-line-zeros .ensures) (c .narrowed .ensures), k .axis .ensures)
+    (axis-leaves (arithmetic (a .second)) (a .xi .now) (a .points .now) _ _ (a .dim) (a .count) (a .k) (a .e) (a .hat) _ _ (s .pre .0 .1 .0) (k .axis .ensures) (c .before .fat-line-zeros .ensures) (c .narrowed .ensures), k .axis .ensures)
 
 pub clip-axis-spec : {M : Type 1} → statement M
 clip-axis-spec =

@@ -1,7 +1,7 @@
 -- `hand_both` equals its definition: the halves are handed on, if there are any and their weights are above zero.
 use borrow.Author.Needs.{needs}
 use borrow.Author.Tests.{not-true, not-false}
-use Rattle.math.specs.Scalars.{geop}
+use Rattle.math.specs.Revision.{arithmetic}
 use Rattle.geometry.proofs.visits.Handed.{both-none, both-held, both-bad-first, both-bad-second, both-done}
 use Rattle.geometry.proofs.visits.hand_both.Statement.{statement}
 use Rattle.geometry.proofs.visits.hand_both.Tie as tie
@@ -29,7 +29,7 @@ returns c =
     let k = from-split-mid at-split-mid in
     let g = k .args in
     let halves = at-split-mid .split-mid in
-    both-none geop (g .s) (g .work .now) _ (g .a) (g .b) (g .hat) _ _ (halves .ensures) (halves .kept .0) (not-true _ (c .if1 .taken))
+    both-none (arithmetic (g .second)) (g .s) (g .work .now) _ (g .a) (g .b) (g .hat) _ _ (halves .ensures) (halves .kept .0) (not-true _ (c .if1 .taken))
 
 weights-positive-in-requires : tie.Need-weights-positive-in-requires
 weights-positive-in-requires c κs =
@@ -38,7 +38,7 @@ weights-positive-in-requires c κs =
     let k = from-split-mid at-split-mid in
     let g = k .args in
     let halves = at-split-mid .split-mid in
-    both-held geop (g .s) (g .work .now) _ (g .a) (g .b) (g .hat) _ _ (halves .ensures) (halves .kept .0) (not-false _ (passed1 .if1 .left)) .0
+    both-held (arithmetic (g .second)) (g .s) (g .work .now) _ (g .a) (g .b) (g .hat) _ _ (halves .ensures) (halves .kept .0) (not-false _ (passed1 .if1 .left)) .0
 
 same-length-2 : tie.Need-same-length-2
 same-length-2 c = search needs
@@ -51,7 +51,7 @@ returns-2 c =
     let k = from-split-mid at-split-mid in
     let g = k .args in
     let halves = at-split-mid .split-mid in
-    both-bad-first geop (g .s) (g .work .now) _ (g .a) (g .b) (g .hat) _ _ (halves .ensures) (halves .kept .0) (not-false _ (passed1 .if1 .left)) _ (at-weights-positive-in .weights-positive-in .ensures) (not-true _ (c .if2 .taken))
+    both-bad-first (arithmetic (g .second)) (g .s) (g .work .now) _ (g .a) (g .b) (g .hat) _ _ (halves .ensures) (halves .kept .0) (not-false _ (passed1 .if1 .left)) _ (at-weights-positive-in .weights-positive-in .ensures) (not-true _ (c .if2 .taken))
 
 weights-positive-in-requires-2 : tie.Need-weights-positive-in-requires-2
 weights-positive-in-requires-2 c κs =
@@ -60,7 +60,7 @@ weights-positive-in-requires-2 c κs =
     let k = from-split-mid at-split-mid in
     let g = k .args in
     let halves = at-split-mid .split-mid in
-    both-held geop (g .s) (g .work .now) _ (g .a) (g .b) (g .hat) _ _ (halves .ensures) (halves .kept .0) (not-false _ (passed1 .if1 .left)) .1
+    both-held (arithmetic (g .second)) (g .s) (g .work .now) _ (g .a) (g .b) (g .hat) _ _ (halves .ensures) (halves .kept .0) (not-false _ (passed1 .if1 .left)) .1
 
 same-length-3 : tie.Need-same-length-3
 same-length-3 c = search needs
@@ -75,7 +75,7 @@ returns-3 c =
     let k = from-split-mid at-split-mid in
     let g = k .args in
     let halves = at-split-mid .split-mid in
-    both-bad-second geop (g .s) (g .work .now) _ (g .a) (g .b) (g .hat) _ _ (halves .ensures) (halves .kept .0) (not-false _ (passed1 .if1 .left)) _ (at-weights-positive-in .weights-positive-in .ensures) (not-false _ (passed2 .if2 .left)) _ (at-weights-positive-in2 .weights-positive-in2 .ensures) (not-true _ (c .if3 .taken))
+    both-bad-second (arithmetic (g .second)) (g .s) (g .work .now) _ (g .a) (g .b) (g .hat) _ _ (halves .ensures) (halves .kept .0) (not-false _ (passed1 .if1 .left)) _ (at-weights-positive-in .weights-positive-in .ensures) (not-false _ (passed2 .if2 .left)) _ (at-weights-positive-in2 .weights-positive-in2 .ensures) (not-true _ (c .if3 .taken))
 
 same-length-4 : tie.Need-same-length-4
 same-length-4 c = search needs
@@ -90,7 +90,7 @@ returns-4 c =
     let k = from-split-mid at-split-mid in
     let g = k .args in
     let halves = at-split-mid .split-mid in
-    both-done geop (g .s) (g .work .now) _ (g .a) (g .b) (g .hat) _ _ (halves .ensures) (halves .kept .0) (not-false _ (passed1 .if1 .left)) _ (at-weights-positive-in .weights-positive-in .ensures) (not-false _ (passed2 .if2 .left)) _ (at-weights-positive-in2 .weights-positive-in2 .ensures) (not-false _ (c .if3 .left))
+    both-done (arithmetic (g .second)) (g .s) (g .work .now) _ (g .a) (g .b) (g .hat) _ _ (halves .ensures) (halves .kept .0) (not-false _ (passed1 .if1 .left)) _ (at-weights-positive-in .weights-positive-in .ensures) (not-false _ (passed2 .if2 .left)) _ (at-weights-positive-in2 .weights-positive-in2 .ensures) (not-false _ (c .if3 .left))
 
 pub hand-both-spec : {M : Type 1} → statement M
 hand-both-spec =

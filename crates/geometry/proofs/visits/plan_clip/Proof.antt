@@ -2,7 +2,7 @@
 use mathlib.Core.Path.{_≡_}
 use native.Mathlib.Omega.{arith}
 use lib.ListN.{length}
-use Rattle.math.specs.Scalars.{geop}
+use Rattle.math.specs.Revision.{arithmetic}
 use Rattle.model.specs.Layout.{scalarsOf}
 use Rattle.geometry.proofs.visits.Plans.{clip-report, clip-skip, clip-go}
 use Rattle.geometry.proofs.fat_line.Zeros.{held-long, none-degree, some-degree}
@@ -48,7 +48,7 @@ returns c =
     let at-greville-abscissae = at-enum-told2 .before .before in
     let k = from-greville-abscissae at-greville-abscissae in
     let a = k .args in
-    clip-report geop (a .dim) (a .degree) (a .count) (scalarsOf (a .dim) (a .point-box .now)) (a .resolution) (a .knots .now) (a .points .now) _ (none-degree geop (a .degree) (a .count) (a .knots .now) (at-greville-abscissae .greville-abscissae .result) (at-greville-abscissae .greville-abscissae .ensures) (at-enum-told2 .enum-told2 .given .1)) (c .domain .ensures)
+    clip-report (arithmetic (a .second)) (a .dim) (a .degree) (a .count) (scalarsOf (a .dim) (a .point-box .now)) (a .resolution) (a .knots .now) (a .points .now) _ (none-degree (arithmetic (a .second)) (a .degree) (a .count) (a .knots .now) (at-greville-abscissae .greville-abscissae .result) (at-greville-abscissae .greville-abscissae .ensures) (at-enum-told2 .enum-told2 .given .1)) (c .domain .ensures)
 
 slice-aggregate-clip : tie.Need-slice-aggregate-clip
 slice-aggregate-clip c = search needs
@@ -58,7 +58,7 @@ clip-requires c κs =
     let at-greville-abscissae = c .before .before .before .before in
     let k = from-greville-abscissae at-greville-abscissae in
     let a = k .args in
-    let l : length (at-greville-abscissae .greville-abscissae .result .at) ≡ 64 = held-long geop (a .degree) (a .count) (a .knots .now) (at-greville-abscissae .greville-abscissae .result) (omega arith) (at-greville-abscissae .greville-abscissae .ensures) in
+    let l : length (at-greville-abscissae .greville-abscissae .result .at) ≡ 64 = held-long (arithmetic (a .second)) (a .degree) (a .count) (a .knots .now) (at-greville-abscissae .greville-abscissae .result) (omega arith) (at-greville-abscissae .greville-abscissae .ensures) in
     ((omega arith, omega arith), (omega (arith, l), (omega arith, omega arith)))
 
 enum-known-hat : tie.Need-enum-known-hat
@@ -74,7 +74,7 @@ returns-2 c =
     let at-greville-abscissae = at-enum-told .before .before in
     let k = from-greville-abscissae at-greville-abscissae in
     let a = k .args in
-    clip-skip geop (a .dim) (a .degree) (a .count) (scalarsOf (a .dim) (a .point-box .now)) (a .resolution) (a .knots .now) (a .points .now) (at-greville-abscissae .greville-abscissae .result) (at-clip .clip .result) (some-degree geop (a .degree) (a .count) (a .knots .now) (at-greville-abscissae .greville-abscissae .result) (at-greville-abscissae .greville-abscissae .ensures) (at-enum-told .enum-told .given .1)) (at-greville-abscissae .greville-abscissae .ensures) (at-clip .clip .ensures) (c .enum-told3 .given .1)
+    clip-skip (arithmetic (a .second)) (a .dim) (a .degree) (a .count) (scalarsOf (a .dim) (a .point-box .now)) (a .resolution) (a .knots .now) (a .points .now) (at-greville-abscissae .greville-abscissae .result) (at-clip .clip .result) (some-degree (arithmetic (a .second)) (a .degree) (a .count) (a .knots .now) (at-greville-abscissae .greville-abscissae .result) (at-greville-abscissae .greville-abscissae .ensures) (at-enum-told .enum-told .given .1)) (at-greville-abscissae .greville-abscissae .ensures) (at-clip .clip .ensures) (c .enum-told3 .given .1)
 
 plan-hat-requires : tie.Need-plan-hat-requires
 plan-hat-requires c κs = search needs
@@ -87,7 +87,7 @@ returns-3 c =
     let at-greville-abscissae = at-enum-told .before .before in
     let k = from-greville-abscissae at-greville-abscissae in
     let a = k .args in
-    clip-go geop (a .dim) (a .degree) (a .count) (scalarsOf (a .dim) (a .point-box .now)) (a .resolution) (a .knots .now) (a .points .now) (at-greville-abscissae .greville-abscissae .result) (at-clip .clip .result) (some-degree geop (a .degree) (a .count) (a .knots .now) (at-greville-abscissae .greville-abscissae .result) (at-greville-abscissae .greville-abscissae .ensures) (at-enum-told .enum-told .given .1)) (at-greville-abscissae .greville-abscissae .ensures) (at-clip .clip .ensures) _ _ (at-hat .hat .given .1) (c .plan-hat .ensures)
+    clip-go (arithmetic (a .second)) (a .dim) (a .degree) (a .count) (scalarsOf (a .dim) (a .point-box .now)) (a .resolution) (a .knots .now) (a .points .now) (at-greville-abscissae .greville-abscissae .result) (at-clip .clip .result) (some-degree (arithmetic (a .second)) (a .degree) (a .count) (a .knots .now) (at-greville-abscissae .greville-abscissae .result) (at-greville-abscissae .greville-abscissae .ensures) (at-enum-told .enum-told .given .1)) (at-greville-abscissae .greville-abscissae .ensures) (at-clip .clip .ensures) _ _ (at-hat .hat .given .1) (c .plan-hat .ensures)
 
 pub plan-clip-spec : {M : Type 1} → statement M
 plan-clip-spec =

@@ -1,6 +1,6 @@
 -- `plan_in` is the plan of the slot's knots and points.
 use mathlib.Core.Path.{ap, _∙_}
-use Rattle.math.specs.Scalars.{geop}
+use Rattle.math.specs.Revision.{arithmetic}
 use Rattle.model.specs.Layout.{scalarsOf}
 use Rattle.geometry.specs.Plan.{planned}
 use Rattle.geometry.proofs.slots.Counts.{count-readable}
@@ -32,7 +32,7 @@ returns c =
     let n = p .before .before in
     let k = n .before .before .before in
     let a = k .args in
-    c .planned .ensures ∙ ap (planned geop (a .s .dim) (a .s .degree) (scalarsOf (a .s .dim) (a .point-box .now)) (a .resolution)) (piece-back (a .s) (a .work .now) (a .base) (k .pre .0) (n .count-at .result) (n .count-at .ensures) _ (p .points-in .ensures) _ (p .before .knots-in .ensures))
+    c .planned .ensures ∙ ap (planned (arithmetic (a .second)) (a .s .dim) (a .s .degree) (scalarsOf (a .s .dim) (a .point-box .now)) (a .resolution)) (piece-back (a .s) (a .work .now) (a .base) (k .pre .0) (n .count-at .result) (n .count-at .ensures) _ (p .points-in .ensures) _ (p .before .knots-in .ensures))
 
 pub plan-in-spec : {M : Type 1} → statement M
 plan-in-spec =

@@ -1,6 +1,6 @@
 -- `visit` does what its plan says.
 use borrow.Author.Needs.{needs}
-use Rattle.math.specs.Scalars.{geop}
+use Rattle.math.specs.Revision.{arithmetic}
 use Rattle.model.specs.Layout.{scalarsOf}
 use Rattle.geometry.proofs.visits.Handed.{see-skip, see-report, see-restrict, see-halve, steep}
 use Rattle.geometry.proofs.visits.visit.Statement.{statement}
@@ -29,7 +29,7 @@ hand-on-requires c κs =
     let at-plan-in = at-hat .before .before in
     let k = from-plan-in at-plan-in in
     let g = k .args in
-    (k .pre .0 .0, k .pre .0 .1, k .pre .1 .0, k .pre .1 .2, steep geop (g .s .dim) (g .s .degree) (scalarsOf (g .s .dim) (g .point-box .now)) (g .resolution) _ _ _ (at-plan-in .plan-in .ensures) (at-hat .hat .given .1))
+    (k .pre .0 .0, k .pre .0 .1, k .pre .1 .0, k .pre .1 .2, steep (arithmetic (g .second)) (g .s .dim) (g .s .degree) (scalarsOf (g .s .dim) (g .point-box .now)) (g .resolution) _ _ _ (at-plan-in .plan-in .ensures) (at-hat .hat .given .1))
 
 enum-known-hat-2 : tie.Need-enum-known-hat-2
 enum-known-hat-2 c = search needs
@@ -47,7 +47,7 @@ returns c =
     let at-plan-in = c .before .before in
     let k = from-plan-in at-plan-in in
     let g = k .args in
-    see-skip geop (record { dim = g .s .dim; degree = g .s .degree; box = scalarsOf (g .s .dim) (g .point-box .now); resolution = g .resolution; nodes = 0 }) _ _ (at-plan-in .plan-in .ensures) (g .s) (g .a) (g .b) (g .work .now) (c .enum-told .given .1)
+    see-skip (arithmetic (g .second)) (record { dim = g .s .dim; degree = g .s .degree; box = scalarsOf (g .s .dim) (g .point-box .now); resolution = g .resolution; nodes = 0 }) _ _ (at-plan-in .plan-in .ensures) (g .s) (g .a) (g .b) (g .work .now) (c .enum-told .given .1)
 
 same-length-2 : tie.Need-same-length-2
 same-length-2 c = search needs
@@ -58,7 +58,7 @@ returns-2 c =
     let at-plan-in = at-t .before .before in
     let k = from-plan-in at-plan-in in
     let g = k .args in
-    see-report geop (record { dim = g .s .dim; degree = g .s .degree; box = scalarsOf (g .s .dim) (g .point-box .now); resolution = g .resolution; nodes = 0 }) _ _ (at-plan-in .plan-in .ensures) (g .s) (g .a) (g .b) (g .work .now) _ (at-t .t .given .1)
+    see-report (arithmetic (g .second)) (record { dim = g .s .dim; degree = g .s .degree; box = scalarsOf (g .s .dim) (g .point-box .now); resolution = g .resolution; nodes = 0 }) _ _ (at-plan-in .plan-in .ensures) (g .s) (g .a) (g .b) (g .work .now) _ (at-t .t .given .1)
 
 same-length-3 : tie.Need-same-length-3
 same-length-3 c = search needs
@@ -70,7 +70,7 @@ returns-3 c =
     let at-plan-in = at-hat .before .before in
     let k = from-plan-in at-plan-in in
     let g = k .args in
-    see-restrict geop (record { dim = g .s .dim; degree = g .s .degree; box = scalarsOf (g .s .dim) (g .point-box .now); resolution = g .resolution; nodes = 0 }) _ _ (at-plan-in .plan-in .ensures) (g .s) (g .a) (g .b) (g .work .now) _ _ _ (at-hat .hat .given .1) (at-hand-on .hand-on .ensures (g .b))
+    see-restrict (arithmetic (g .second)) (record { dim = g .s .dim; degree = g .s .degree; box = scalarsOf (g .s .dim) (g .point-box .now); resolution = g .resolution; nodes = 0 }) _ _ (at-plan-in .plan-in .ensures) (g .s) (g .a) (g .b) (g .work .now) _ _ _ (at-hat .hat .given .1) (at-hand-on .hand-on .ensures (g .b))
 
 same-length-4 : tie.Need-same-length-4
 same-length-4 c = search needs
@@ -82,7 +82,7 @@ returns-4 c =
     let at-plan-in = at-hat2 .before .before in
     let k = from-plan-in at-plan-in in
     let g = k .args in
-    see-halve geop (record { dim = g .s .dim; degree = g .s .degree; box = scalarsOf (g .s .dim) (g .point-box .now); resolution = g .resolution; nodes = 0 }) _ _ (at-plan-in .plan-in .ensures) (g .s) (g .a) (g .b) (g .work .now) _ _ _ (at-hat2 .hat2 .given .1) (at-hand-both .hand-both .ensures)
+    see-halve (arithmetic (g .second)) (record { dim = g .s .dim; degree = g .s .degree; box = scalarsOf (g .s .dim) (g .point-box .now); resolution = g .resolution; nodes = 0 }) _ _ (at-plan-in .plan-in .ensures) (g .s) (g .a) (g .b) (g .work .now) _ _ _ (at-hat2 .hat2 .given .1) (at-hand-both .hand-both .ensures)
 
 pub visit-spec : {M : Type 1} → statement M
 visit-spec =

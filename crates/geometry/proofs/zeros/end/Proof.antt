@@ -1,6 +1,6 @@
 -- `end` equals its definition, by the two cases of the slope.
 use mathlib.Core.Path.{sym, ap, _∙_}
-use Rattle.math.specs.Scalars.{geop}
+use Rattle.math.specs.Revision.{arithmetic}
 use Rattle.geometry.specs.Zeros.{zerosOf}
 use borrow.Author.Needs.{needs}
 use Rattle.geometry.proofs.zeros.end.Statement.{statement}
@@ -19,7 +19,7 @@ returns : tie.Need-returns
 unfolding zerosOf
 returns c =
     let l = c .before .before .before .args .l in
-    c .level-zeros .ensures ∙ sym (ap (zerosOf geop (l .x0) (l .y0) (l .last) (l .band)) (c .before .enum-told .given .1))
+    c .level-zeros .ensures ∙ sym (ap (zerosOf (arithmetic (l .second)) (l .x0) (l .y0) (l .last) (l .band)) (c .before .enum-told .given .1))
 
 sloped-zeros-requires : tie.Need-sloped-zeros-requires
 sloped-zeros-requires c κs = search needs
@@ -28,7 +28,7 @@ returns-2 : tie.Need-returns-2
 unfolding zerosOf
 returns-2 c =
     let l = c .before .before .before .before .args .l in
-    c .sloped-zeros .ensures ∙ sym (ap (zerosOf geop (l .x0) (l .y0) (l .last) (l .band)) (c .before .before .slope .given .1))
+    c .sloped-zeros .ensures ∙ sym (ap (zerosOf (arithmetic (l .second)) (l .x0) (l .y0) (l .last) (l .band)) (c .before .before .slope .given .1))
 
 pub end-spec : {M : Type 1} → statement M
 end-spec =

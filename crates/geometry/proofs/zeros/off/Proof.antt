@@ -1,6 +1,6 @@
 -- `off` equals its definition, by the two cases of the slope.
 use mathlib.Core.Path.{sym, ap, _∙_}
-use Rattle.math.specs.Scalars.{geop}
+use Rattle.math.specs.Revision.{arithmetic}
 use Rattle.math.specs.declared.scalars.Scalar.{Scalar}
 use Rattle.math.specs.declared.scalars.Divided.{Divided}
 use Rattle.geometry.specs.Zeros.{chordAt, offBy}
@@ -18,7 +18,7 @@ returns : tie.Need-returns
 unfolding offBy
 returns c =
     let a = c .before .before .args in
-    sym (ap (λ (q : Divided). offBy geop q (a .x0) (a .y0) (a .x) (a .y)) (c .enum-told .given .1))
+    sym (ap (λ (q : Divided). offBy (arithmetic (a .second)) q (a .x0) (a .y0) (a .x) (a .y)) (c .enum-told .given .1))
 
 sub-requires : tie.Need-sub-requires
 sub-requires c κs = search needs
@@ -35,8 +35,8 @@ returns-2 c =
     let g = c .before .before .before .before in
     let a = g .before .before .args in
     c .sub2 .ensures
-    ∙ ap (λ (v : Scalar). geop .sub (a .y) v) (c .before .chord .ensures ∙ ap (chordAt geop (g .slope .given .0 .0) (a .y0)) (c .before .before .sub .ensures))
-    ∙ sym (ap (λ (q : Divided). offBy geop q (a .x0) (a .y0) (a .x) (a .y)) (g .slope .given .1))
+    ∙ ap (λ (v : Scalar). arithmetic (a .second) .sub (a .y) v) (c .before .chord .ensures ∙ ap (chordAt (arithmetic (a .second)) (g .slope .given .0 .0) (a .y0)) (c .before .before .sub .ensures))
+    ∙ sym (ap (λ (q : Divided). offBy (arithmetic (a .second)) q (a .x0) (a .y0) (a .x) (a .y)) (g .slope .given .1))
 
 pub off-spec : {M : Type 1} → statement M
 off-spec =

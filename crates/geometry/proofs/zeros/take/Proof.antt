@@ -17,7 +17,7 @@ unfolding taken
 returns c =
     let l = c .before .before .before .before .before .args .l in
     let e = c .union .ensures ∙ ap (unionS (l .band)) (c .before .off .ensures) in
-    λ i. record { x0 = l .x0; y0 = l .y0; last = l .last; slope = l .slope; band = e i }
+    λ i. record { second = l .second; x0 = l .x0; y0 = l .y0; last = l .last; slope = l .slope; band = e i }
 
 pub take-spec : {M : Type 1} → statement M
 take-spec = tie.close (tie.spec off-requires union-requires returns)

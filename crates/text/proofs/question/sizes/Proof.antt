@@ -27,7 +27,7 @@ returns : tie.Need-returns
 unfolding bytes
 returns c =
     let dim = c .before .before in
-    sizes-none (begin dim .args .text .now) _ (dim .small-line .ensures) (c .enum-told .given .1)
+    sizes-none (begin dim .args .text .now) (begin dim .args .at) _ (dim .small-line .ensures) (c .enum-told .given .1)
 
 slice-aggregate-small-line-2 : tie.Need-slice-aggregate-small-line-2
 slice-aggregate-small-line-2 c = search needs
@@ -49,7 +49,7 @@ returns-2 c =
     let degree = c .before .before in
     let at-dim = degree .before .before .before in
     let dim = at-dim .before .before in
-    sizes-one (begin dim .args .text .now) _ (dim .small-line .ensures) _ _ (at-dim .d .given .1)
+    sizes-one (begin dim .args .text .now) (begin dim .args .at) _ (dim .small-line .ensures) _ _ (at-dim .d .given .1)
     _ (degree .small-line2 .ensures) (c .enum-told2 .given .1)
 
 slice-aggregate-small-line-3 : tie.Need-slice-aggregate-small-line-3
@@ -74,7 +74,7 @@ returns-3 c =
     let degree = at-degree .before .before in
     let at-dim = degree .before .before .before in
     let dim = at-dim .before .before in
-    sizes-two (begin dim .args .text .now) _ (dim .small-line .ensures) _ _ (at-dim .d .given .1)
+    sizes-two (begin dim .args .text .now) (begin dim .args .at) _ (dim .small-line .ensures) _ _ (at-dim .d .given .1)
     _ (degree .small-line2 .ensures) _ _ (at-degree .p .given .1) _ (count .small-line3 .ensures) (c .enum-told3 .given .1)
 
 returns-4 : tie.Need-returns-4
@@ -86,7 +86,7 @@ returns-4 c =
     let degree = at-degree .before .before in
     let at-dim = degree .before .before .before in
     let dim = at-dim .before .before in
-    sizes-three (begin dim .args .text .now) _ (dim .small-line .ensures) _ _ (at-dim .d .given .1)
+    sizes-three (begin dim .args .text .now) (begin dim .args .at) _ (dim .small-line .ensures) _ _ (at-dim .d .given .1)
     _ (degree .small-line2 .ensures) _ _ (at-degree .p .given .1) _ (count .small-line3 .ensures) _ _ (at-count .n .given .1)
 
 pub sizes-spec : {M : Type 1} → statement M

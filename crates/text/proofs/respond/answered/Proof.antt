@@ -1,51 +1,45 @@
--- `answered` equals its definition: the first three lines are bad, or refused, or the rest answers.
-use mathlib.Core.Path.{sym, _∙_}
-use Rattle.model.proofs.Checks.{small-sizes}
-use Rattle.text.proofs.respond.Cases.{head-bad, head-inside, head-refused, head-asked}
+-- `answered` equals its definition: the line of the revision is bad, or refused, or the rest answers.
+use Rattle.text.proofs.respond.Cases.{revision-bad, revision-inside, revision-refused, revision-named}
 use borrow.Author.Needs.{needs}
 use Rattle.text.proofs.respond.answered.Statement.{statement}
 use Rattle.text.proofs.respond.answered.Tie as tie
 
-sizes-requires : tie.Need-sizes-requires
-sizes-requires c κs = search needs
+revision-requires : tie.Need-revision-requires
+revision-requires c κs = search needs
 
-enum-known-dim : tie.Need-enum-known-dim
-enum-known-dim c = search needs
+enum-known-rev : tie.Need-enum-known-rev
+enum-known-rev c = search needs
 
 enum-told : tie.Need-enum-told
 enum-told c = search needs
 
 returns : tie.Need-returns
-returns c = let head = c .before .before .sizes in (head-bad _ _ (head .ensures) (c .enum-told .given .1), tt)
+returns c = let line = c .before .before .revision in (revision-bad _ _ (line .ensures) (c .enum-told .given .1), tt)
 
-sizes-refusal-requires : tie.Need-sizes-refusal-requires
-sizes-refusal-requires c κs = search needs
+revision-refusal-requires : tie.Need-revision-refusal-requires
+revision-refusal-requires c κs = search needs
 
 returns-2 : tie.Need-returns-2
 returns-2 c =
     let refused = c .before in
-    let at-sizes = refused .before .before in
-    let head = at-sizes .before .before .sizes in (
-      head-refused _ _ (head .ensures) _ _ _ _ (at-sizes .dim .given .1) _ (refused .sizes-refusal .ensures)
-          (c .if1 .taken),
+    let at-rev = refused .before .before in
+    let line = at-rev .before .before .revision in (
+      revision-refused _ _ (line .ensures) _ _ (at-rev .rev .given .1) _ (refused .revision-refusal .ensures) (c .if1 .taken),
       tt,
     )
 
-asked-requires : tie.Need-asked-requires
-asked-requires c κs =
-    let refused = c .before in
-    let at-sizes = refused .before .before in
-    let head = at-sizes .before .before .sizes in
-    let small = small-sizes _ _ _ (sym (refused .sizes-refusal .ensures) ∙ c .if1 .left) in
-    (head-inside _ _ (head .ensures) _ _ _ _ (at-sizes .dim .given .1), small .dim, small .degree, small .count)
+answered-in-requires : tie.Need-answered-in-requires
+answered-in-requires c κs =
+    let at-rev = c .before .before .before in
+    revision-inside _ _ (at-rev .before .before .revision .ensures) _ _ (at-rev .rev .given .1)
 
 returns-3 : tie.Need-returns-3
 returns-3 c =
     let refused = c .before .before in
-    let at-sizes = refused .before .before in
-    let head = at-sizes .before .before .sizes in
-    let answer = c .asked .ensures in (
-      head-asked _ _ (head .ensures) _ _ _ _ (at-sizes .dim .given .1) _ _ (refused .sizes-refusal .ensures)
+    let at-rev = refused .before .before in
+    let line = at-rev .before .before .revision in
+    let answer = c .answered-in .ensures in (
+      revision-named _ _ (line .ensures) _ _ (at-rev .rev .given .1) _ _ (refused .revision-refusal .ensures)
           (c .before .if1 .left) (answer .0),
       answer .1,
     )
@@ -54,11 +48,11 @@ pub answered-spec : {M : Type 1} → statement M
 answered-spec =
     tie.close
     (tie.spec
-    sizes-requires
-    enum-known-dim
+    revision-requires
+    enum-known-rev
     enum-told
     returns
-    sizes-refusal-requires
+    revision-refusal-requires
     returns-2
-    asked-requires
+    answered-in-requires
     returns-3)

@@ -104,7 +104,7 @@ returns c =
     let ks = part l 1 (1 + K - 1) in
     let ps = part l (1 + K) (1 + K + P - (1 + K)) in
     let bs = part l (1 + K + P) (1 + K + P + 2 * g .dim - (1 + K + P)) in (
-      lines-same (asked .curve-could-contain .result) (sizesOf (g .dim) (g .degree) (g .count)) (g .nodes) l work ks ps bs
+      lines-same (asked .curve-could-contain .result) (g .rev) (sizesOf (g .dim) (g .degree) (g .count)) (g .nodes) l work ks ps bs
           (ap (part l 1) long-knots)
           (ap (part l (1 + K)) (long-points ∙ e))
           (λ i. part l (1 + K + e i) (long-box i))

@@ -32,13 +32,13 @@ others c =
 returns : tie.Need-returns
 returns c =
     let read = c .before .before .before in
-    (numbers-bad _ _ (others read) _ _ _ (read .numbers .ensures) (c .enum-told .given .1), tt)
+    (numbers-bad _ _ _ (others read) _ _ _ (read .numbers .ensures) (c .enum-told .given .1), tt)
 
 returns-2 : tie.Need-returns-2
 returns-2 c =
     let at-nodes = c .before .before in
     let read = at-nodes .before .before .before in (
-      numbers-long _ _ (others read) _ _ _ (read .numbers .ensures) _ _ (at-nodes .nodes .given .1) (c .if1 .taken),
+      numbers-long _ _ _ (others read) _ _ _ (read .numbers .ensures) _ _ (at-nodes .nodes .given .1) (c .if1 .taken),
       tt,
     )
 
@@ -47,7 +47,7 @@ returns-3 c =
     let at-length = c .before in
     let at-nodes = at-length .before .before in
     let read = at-nodes .before .before .before in (
-      numbers-more _ _ (others read) _ _ _ (read .numbers .ensures) _ _ (at-nodes .nodes .given .1)
+      numbers-more _ _ _ (others read) _ _ _ (read .numbers .ensures) _ _ (at-nodes .nodes .given .1)
           (at-length .if1 .left) (c .if2 .taken),
       tt,
     )
@@ -65,7 +65,7 @@ returns-4 c =
     let at-nodes = at-length .before .before in
     let read = at-nodes .before .before .before in
     let answer = c .ask-lines in (
-      numbers-all _ _ (others read) _ _ _ (read .numbers .ensures) _ _ (at-nodes .nodes .given .1)
+      numbers-all _ _ _ (others read) _ _ _ (read .numbers .ensures) _ _ (at-nodes .nodes .given .1)
           (answer .result) (at-length .if1 .left) (at-end .if2 .left) (answer .ensures .0),
       answer .ensures .1,
     )

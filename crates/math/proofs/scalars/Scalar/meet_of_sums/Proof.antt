@@ -1,4 +1,5 @@
 -- `meet_of_sums` equals its definition: where the two sums meet each bound is picked and then widened, and else the sums are intersected as they are.
+use Rattle.math.specs.Scalars.{geop}
 use Rattle.math.proofs.Picks.{sums-meet}
 use Rattle.math.proofs.Intervals.Factors.{lower-number, upper-number, meet-of-sums-is}
 use borrow.Author.Needs.{needs}
@@ -40,7 +41,7 @@ returns-2 c =
     let y = c .before in
     let x = y .before in
     let k = x .before .before .before .before .before .before .before .before .before .before .before .before .args in
-    sums-meet (k .a) (k .m) (k .p) (k .q) (x .add .result) (y .add2 .result) (c .intersect .result) (x .add .ensures) (y .add2 .ensures) (c .intersect .ensures)
+    sums-meet geop (k .a) (k .m) (k .p) (k .q) (x .add .result) (y .add2 .result) (c .intersect .result) (x .add .ensures) (y .add2 .ensures) (c .intersect .ensures)
 
 pub meet-of-sums-spec : {M : Type 1} → statement M
 meet-of-sums-spec =

@@ -1,19 +1,19 @@
--- `interpolate` writes the point between two points. Invariant: its first k intervals are written.
+-- `interpolate_tight` writes the point between two points. Invariant: its first k intervals are written.
 use mathlib.Core.Path.{_≡_, refl, sym, _∙_}
 use Prim.Native.Nat.{_-_, _≤_}
 use lib.ListN.{length}
-use Rattle.math.specs.Scalars.{geop}
+use Rattle.math.specs.Tight.{tight}
 use Rattle.lists.proofs.Put.{put-nil}
 use Rattle.math.proofs.Laws.{fraction-own, between-own}
 use Rattle.model.specs.Layout.{flat}
 use Rattle.geometry.proofs.vector.Between.{after, turn, done}
 use borrow.Author.Needs.{needs}
 use native.Mathlib.Omega.{arith}
-use Rattle.geometry.proofs.vector.interpolate.Statement.{statement}
-use Rattle.geometry.proofs.vector.interpolate.Tie as tie
+use Rattle.geometry.proofs.vector.interpolate_tight.Statement.{statement}
+use Rattle.geometry.proofs.vector.interpolate_tight.Tie as tie
 
 abbrev Inv-loop : tie.InvT-loop
-Inv-loop words₀ a b c d f k₀ words k = (k ≤ d) × ((length words ≡ length words₀) × (words ≡ after geop words₀ a b c d (f .alpha) k))
+Inv-loop words₀ a b c d f k₀ words k = (k ≤ d) × ((length words ≡ length words₀) × (words ≡ after tight words₀ a b c d (f .alpha) k))
 
 abbrev μ-loop : tie.MeasureT-loop
 μ-loop words₀ a b c d f k₀ words k = d - k
@@ -43,8 +43,8 @@ add-scalar-from-2 c = omega arith
 scalar-from-requires-2 : tie.Need-scalar-from-requires-2 Inv-loop μ-loop
 scalar-from-requires-2 c κs = omega arith
 
-between-requires : tie.Need-between-requires Inv-loop μ-loop
-between-requires c κs = search needs
+between-tight-requires : tie.Need-between-tight-requires Inv-loop μ-loop
+between-tight-requires c κs = search needs
 
 mul-set-scalar : tie.Need-mul-set-scalar Inv-loop μ-loop
 mul-set-scalar c = omega arith
@@ -74,7 +74,7 @@ loop-again c =
     let l = at-loop .loop in
     let g = k .args in
     let t = in-loop .loop-test .taken in
-    (omega (arith, t), (at-set-scalar .set-scalar .kept .0 ∙ l .inv .1 .0, turn geop (g .words .now) (g .a) (g .b) (g .c) (g .d) (at-fraction .fraction .result .alpha) (k .pre .1 .0) (k .pre .1 .1) (k .pre .0 .2) (l .k) _ _ _ _ _ (omega (arith, t)) (l .inv .1 .1) (at-scalar-from .scalar-from .ensures) (at-scalar-from2 .scalar-from2 .ensures) (at-between .between .ensures ∙ between-own _ _ _ _ (at-fraction .fraction .ensures)) (at-set-scalar .set-scalar .ensures)))
+    (omega (arith, t), (at-set-scalar .set-scalar .kept .0 ∙ l .inv .1 .0, turn tight (g .words .now) (g .a) (g .b) (g .c) (g .d) (at-fraction .fraction .result .alpha) (k .pre .1 .0) (k .pre .1 .1) (k .pre .0 .2) (l .k) _ _ _ _ _ (omega (arith, t)) (l .inv .1 .1) (at-scalar-from .scalar-from .ensures) (at-scalar-from2 .scalar-from2 .ensures) (at-between .between-tight .ensures ∙ between-own tight _ _ _ _ (at-fraction .fraction .ensures)) (at-set-scalar .set-scalar .ensures)))
 
 same-length : tie.Need-same-length Inv-loop μ-loop
 same-length c = c .before .loop .inv .1 .0
@@ -85,11 +85,11 @@ returns c =
     let u = c .before .before in
     let g = u .before .before .args in
     let e : l .k ≡ g .d = omega arith in
-    let at = after geop (g .words .now) (g .a) (g .b) (g .c) (g .d) in
-    l .inv .1 .1 ∙ (λ i. at (fraction-own _ _ (u .fraction .ensures) i) (e i)) ∙ done geop (g .words .now) (g .a) (g .b) (g .c) (g .d) (g .alpha)
+    let at = after tight (g .words .now) (g .a) (g .b) (g .c) (g .d) in
+    l .inv .1 .1 ∙ (λ i. at (fraction-own tight _ _ (u .fraction .ensures) i) (e i)) ∙ done tight (g .words .now) (g .a) (g .b) (g .c) (g .d) (g .alpha)
 
-pub interpolate-spec : {M : Type 1} → statement M
-interpolate-spec =
+pub interpolate-tight-spec : {M : Type 1} → statement M
+interpolate-tight-spec =
     tie.close
     (tie.spec
     Inv-loop
@@ -102,7 +102,7 @@ interpolate-spec =
     mul-scalar-from-2
     add-scalar-from-2
     scalar-from-requires-2
-    between-requires
+    between-tight-requires
     mul-set-scalar
     add-set-scalar
     set-scalar-requires
