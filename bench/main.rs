@@ -1,20 +1,27 @@
-//! Puts the same questions to the port and to the Rust, in one process, in turn, and measures: see README.md.
+//! Puts the same questions to the port in revision 1, to the port in revision 2 and to the Rust, in one process, in turn, and measures: see README.md.
 //! Built with `--cfg counted` against a Rust that counts its visits, cuts and depths, it compares and measures nothing.
-use geop_core_geometry::contains::curve::curve_could_contain;
-use geop_core_geometry::nurb_curve::NurbCurve;
-use geop_core_math::{geop_error::GeopResult, scalars::Scalar, vector::Vector};
 use std::hint::black_box;
 use std::process::exit;
 
 #[path = "../oracle/rust/random.rs"]
 mod random;
 mod workloads;
-use workloads::{Ask, Path, Workload, slot_words, workload};
+use workloads::{Ask, Workload, slot_words, workload};
+
+mod first {
+    use {geop_core_geometry as geometry, geop_core_math as math};
+    include!("rust.rs");
+}
+#[cfg(counted)]
+mod second {
+    use {second_geometry as geometry, second_math as math};
+    include!("rust.rs");
+}
 
 unsafe extern "C" {
     fn puhlwazo_curve_could_contain(
-        dim: usize, degree: usize, count: usize, knots: *const f64, knots_len: usize, points: *const f64, points_len: usize, cell: *const f64, cell_len: usize,
-        resolution: f64, nodes: usize, work: *mut f64, work_len: usize, counts: &mut [u64; 5], bounds: &mut [f64; 2],
+        rev: usize, dim: usize, degree: usize, count: usize, knots: *const f64, knots_len: usize, points: *const f64, points_len: usize, cell: *const f64,
+        cell_len: usize, resolution: f64, nodes: usize, work: *mut f64, work_len: usize, counts: &mut [u64; 5], bounds: &mut [f64; 2],
     ) -> u64;
     /// Of the C library. Clock 3 is CLOCK_THREAD_CPUTIME_ID.
     fn clock_gettime(clock: i32, seconds_and_nanoseconds: &mut [i64; 2]) -> i32;
@@ -23,66 +30,32 @@ unsafe extern "C" {
 /// An answer: its kind (0 nothing, 1 enclosed, 2 spent, 3 refused), visited, pending, the bits of lo and hi, cuts, and depth.
 type Answer = [u64; 7];
 
-// ---- the two sides
+// ---- the three sides
 
-/// What the Rust is asked with, made before anything is measured.
-enum Curve {
-    Plane(NurbCurve<3>),
-    Space(NurbCurve<4>),
-}
-enum Cell {
-    Plane(Vector<2>),
-    Space(Vector<3>),
-}
+/// The port in revision 1, the port in revision 2, and the Rust.
+const SIDES: [&str; 3] = ["port", "second", "rust"];
+
 struct Sides<'a> {
     load: &'a Workload,
-    curves: Vec<Curve>,
-    cells: Vec<Cell>,
+    rust: first::Rust,
     /// Lent to the port in every call.
     work: Vec<f64>,
-    /// The Rust makes its curve anew for every question, from the numbers that the port is given.
-    make: bool,
-}
-
-fn scalars(l: &[f64]) -> Vec<Scalar> {
-    l.chunks(2).map(|c| Scalar { lo: c[0], hi: c[1] }).collect()
-}
-fn curve<const D: usize>(p: &Path) -> NurbCurve<D> {
-    let points = p.points.chunks(2 * D).map(|q| Vector::from_array(std::array::from_fn(|k| Scalar { lo: q[2 * k], hi: q[2 * k + 1] }))).collect();
-    let knots = p.knots.iter().map(|&u| Scalar::from_f64(u)).collect();
-    NurbCurve::try_new(p.degree, points, knots).unwrap_or_else(|e| panic!("a path of the benchmark is no curve of the Rust: {}", e.root_message()))
 }
 impl Sides<'_> {
     fn new(load: &Workload, make: bool) -> Sides<'_> {
-        let curves = load.paths.iter().map(|p| if p.dim == 2 { Curve::Plane(curve(p)) } else { Curve::Space(curve(p)) });
-        let cells = load.cells.iter().map(|c| match scalars(c)[..] {
-            [x, y] => Cell::Plane(Vector::from_array([x, y])),
-            [x, y, z] => Cell::Space(Vector::from_array([x, y, z])),
-            _ => unreachable!("a box has two or three axes"),
-        });
         let words = load.asks.iter().map(|q| (q.nodes + 3) * slot_words(&load.paths[q.path])).max();
-        Sides { load, curves: curves.collect(), cells: cells.collect(), work: vec![0.0; words.unwrap_or(0)], make }
+        Sides { load, rust: first::Rust::new(load, make), work: vec![0.0; words.unwrap_or(0)] }
     }
-    fn port(&mut self, q: &Ask) -> (u64, [u64; 5], [f64; 2]) {
+    fn port(&mut self, rev: usize, q: &Ask) -> (u64, [u64; 5], [f64; 2]) {
         let (p, cell, work) = (&self.load.paths[q.path], &self.load.cells[q.cell], &mut self.work);
         let (mut counts, mut bounds) = ([0; 5], [0.0; 2]);
         let number = unsafe {
             puhlwazo_curve_could_contain(
-                p.dim, p.degree, p.count, p.knots.as_ptr(), p.knots.len(), p.points.as_ptr(), p.points.len(), cell.as_ptr(), cell.len(),
+                rev, p.dim, p.degree, p.count, p.knots.as_ptr(), p.knots.len(), p.points.as_ptr(), p.points.len(), cell.as_ptr(), cell.len(),
                 q.resolution, q.nodes, work.as_mut_ptr(), work.len(), &mut counts, &mut bounds,
             )
         };
         (number, counts, bounds)
-    }
-    fn rust(&self, q: &Ask) -> GeopResult<Option<Scalar>> {
-        let (path, resolution) = (&self.load.paths[q.path], Scalar::from_f64(q.resolution));
-        match (&self.curves[q.path], &self.cells[q.cell]) {
-            (Curve::Plane(_), Cell::Plane(b)) if self.make => curve_could_contain(&curve::<3>(path), b, q.nodes, resolution),
-            (Curve::Space(_), Cell::Space(b)) if self.make => curve_could_contain(&curve::<4>(path), b, q.nodes, resolution),
-            (Curve::Plane(c), Cell::Plane(b)) => curve_could_contain(c, b, q.nodes, resolution),
-            (Curve::Space(c), Cell::Space(b)) => curve_could_contain(c, b, q.nodes, resolution),
-            _ => unreachable!("a path and a box of one question have the same axes"),
-        }
     }
 }
 
@@ -91,14 +64,21 @@ impl Sides<'_> {
 #[unsafe(no_mangle)]
 fn bench_port(s: &mut Sides, asks: &[Ask]) {
     asks.iter().for_each(|q| {
-        black_box(s.port(black_box(q)));
+        black_box(s.port(1, black_box(q)));
+    });
+}
+#[inline(never)]
+#[unsafe(no_mangle)]
+fn bench_second(s: &mut Sides, asks: &[Ask]) {
+    asks.iter().for_each(|q| {
+        black_box(s.port(2, black_box(q)));
     });
 }
 #[inline(never)]
 #[unsafe(no_mangle)]
 fn bench_rust(s: &Sides, asks: &[Ask]) {
     asks.iter().for_each(|q| {
-        black_box(s.rust(black_box(q))).ok();
+        black_box(s.rust.ask(s.load, black_box(q))).ok();
     });
 }
 /// The processor time that this thread has taken, in seconds: other work on the machine does not count.
@@ -107,9 +87,13 @@ fn now() -> f64 {
     assert_eq!(unsafe { clock_gettime(3, &mut at) }, 0, "no clock for the thread");
     at[0] as f64 + at[1] as f64 * 1e-9
 }
-fn ask_side(s: &mut Sides, asks: &[Ask], port: bool) -> f64 {
+fn ask_side(s: &mut Sides, asks: &[Ask], side: usize) -> f64 {
     let start = now();
-    if port { bench_port(s, asks) } else { bench_rust(s, asks) }
+    match side {
+        0 => bench_port(s, asks),
+        1 => bench_second(s, asks),
+        _ => bench_rust(s, asks),
+    }
     now() - start
 }
 
@@ -119,51 +103,36 @@ fn ask_side(s: &mut Sides, asks: &[Ask], port: bool) -> f64 {
 fn bits(x: f64) -> u64 {
     (x + 0.0).to_bits()
 }
-/// The visits, the cuts and the depth of the Rust since the last call, where it counts them.
-#[cfg(counted)]
-fn counts_taken() -> Option<[u64; 3]> {
-    Some(geop_core_math::counts::taken())
-}
-#[cfg(not(counted))]
-fn counts_taken() -> Option<[u64; 3]> {
-    None
-}
-fn port_answer(s: &mut Sides, q: &Ask) -> Answer {
-    let (number, [kind, visited, pending, cuts, depth], bounds) = s.port(q);
+fn port_answer(s: &mut Sides, rev: usize, q: &Ask) -> Answer {
+    let (number, [kind, visited, pending, cuts, depth], bounds) = s.port(rev, q);
     assert_eq!(number, 0, "a question of the benchmark is refused");
     [kind, visited, pending, bounds[0].to_bits(), bounds[1].to_bits(), cuts, depth]
 }
-/// The Rust's answer, with the counts of `ours` where it does not count.
-fn rust_answer(s: &Sides, q: &Ask, ours: &Answer) -> Answer {
-    counts_taken();
-    let answer = s.rust(q);
-    let [visited, cuts, depth] = counts_taken().unwrap_or([ours[1], ours[5], ours[6]]);
-    match answer {
-        Ok(None) => [0, visited, 0, 0, 0, cuts, depth],
-        Ok(Some(t)) => [1, visited, 0, bits(t.lo), bits(t.hi), cuts, depth],
-        Err(e) => {
-            let said = e.root_message();
-            let pending = said.split_once(" segments pending").and_then(|(before, _)| before.rsplit(' ').next()?.parse().ok());
-            [2, visited, pending.unwrap_or_else(|| panic!("the Rust says {said}")), 0, 0, cuts, depth]
-        }
-    }
-}
-/// The port's answers, and how many differ from the Rust's.
-fn compare(s: &mut Sides) -> (Vec<Answer>, usize) {
+/// The port's answers in either revision, and how many differ from the Rust's, and from those of the test program of revision 2. That one is slow, and is
+/// asked only where counts are compared.
+fn compare(s: &mut Sides) -> ([Vec<Answer>; 2], [usize; 2]) {
     let load = s.load;
-    let ours: Vec<Answer> = load.asks.iter().map(|q| port_answer(s, q)).collect();
-    let differ = load.asks.iter().zip(&ours).filter(|(q, a)| rust_answer(s, q, a) != **a).count();
-    (ours, differ)
+    let ours = [1, 2].map(|rev| load.asks.iter().map(|q| port_answer(s, rev, q)).collect::<Vec<_>>());
+    let differ = |i: usize, answer: &dyn Fn(&Ask, &Answer) -> Answer| load.asks.iter().zip(&ours[i]).filter(|(q, a)| answer(q, a) != **a).count();
+    let first = differ(0, &|q, a| s.rust.answer(load, q, a));
+    #[cfg(counted)]
+    let second = {
+        let rust = second::Rust::new(load, false);
+        differ(1, &|q, a| rust.answer(load, q, a))
+    };
+    #[cfg(not(counted))]
+    let second = 0;
+    (ours, [first, second])
 }
 
 // ---- the measurement
 
 const BLOCK: usize = 50;
 
-/// Some questions of one part, which are put to one side and then to the other, with the seconds of the port and of the Rust in each round.
+/// Some questions of one part, which are put to one side after the other, with the seconds of each side in each round.
 struct Block<'a> {
     asks: &'a [Ask],
-    rounds: Vec<[f64; 2]>,
+    rounds: Vec<[f64; 3]>,
 }
 fn middle(l: impl Iterator<Item = f64>) -> f64 {
     let mut l: Vec<f64> = l.collect();
@@ -176,39 +145,47 @@ fn rounds<'a>(s: &mut Sides<'a>, rounds: usize) -> Vec<Block<'a>> {
     let mut blocks: Vec<Block> = parts.flat_map(|l| l.chunks(BLOCK)).map(|asks| Block { asks, rounds: Vec::new() }).collect();
     for number in 0..rounds {
         for (i, block) in blocks.iter_mut().enumerate() {
-            let port_first = (i + number) % 2 == 0;
-            let mut seconds = [0.0; 2];
-            for port in [port_first, !port_first] {
-                seconds[usize::from(!port)] = ask_side(s, block.asks, port);
+            let mut seconds = [0.0; 3];
+            for k in 0..3 {
+                let side = (i + number + k) % 3;
+                seconds[side] = ask_side(s, block.asks, side);
             }
             block.rounds.push(seconds);
         }
     }
     blocks
 }
-/// One line: the answers of some blocks, and the sums of the blocks' medians, for each question.
-fn row(name: &str, answers: &[&Answer], blocks: &[&Block]) {
-    let of = |kind: u64| answers.iter().filter(|a| a[0] == kind).count();
-    let visits: u64 = answers.iter().map(|a| a[1]).sum();
-    let [port, rust] = [0, 1].map(|side| blocks.iter().map(|b| middle(b.rounds.iter().map(|t| t[side]))).sum::<f64>() / answers.len() as f64 * 1e6);
-    let of_round = |i: usize| [0, 1].map(|side| blocks.iter().map(|b| b.rounds[i][side]).sum::<f64>());
-    let ratios = (0..blocks[0].rounds.len()).map(of_round).map(|[port, rust]| port / rust);
-    let (least, most) = ratios.fold((f64::INFINITY, 0.0f64), |(a, b), x| (a.min(x), b.max(x)));
+/// One line: the answers of some blocks, and the sums of the blocks' medians, for each question; revision 1 with the Rust, and revision 2 with revision 1.
+fn row(name: &str, answers: [&[&Answer]; 2], blocks: &[&Block]) {
+    let of = |kind: u64| answers[0].iter().filter(|a| a[0] == kind).count();
+    let visits = answers.map(|l| l.iter().map(|a| a[1]).sum::<u64>());
+    let many = answers[0].len();
+    let [port, second, rust] = [0, 1, 2].map(|side| blocks.iter().map(|b| middle(b.rounds.iter().map(|t| t[side]))).sum::<f64>() / many as f64 * 1e6);
+    // The least and the greatest ratio of two sides over whole rounds.
+    let ratios = |a: usize, b: usize| {
+        let of_round = |i: usize, side: usize| blocks.iter().map(|b| b.rounds[i][side]).sum::<f64>();
+        let ratios = (0..blocks[0].rounds.len()).map(|i| of_round(i, a) / of_round(i, b));
+        ratios.fold((f64::INFINITY, 0.0f64), |(a, b), x| (a.min(x), b.max(x)))
+    };
+    let ((least, most), (least2, most2)) = (ratios(0, 2), ratios(1, 0));
     println!(
-        "{name:<24} {:>9} {visits:>9} {:>6} {:>8} {:>6} {port:>10.3} {rust:>10.3} {:>7.3} {least:>7.3} {most:>7.3}",
-        answers.len(), of(0), of(1), of(2), port / rust
+        "{name:<24} {many:>9} {:>9} {:>6} {:>8} {:>6} {port:>10.3} {rust:>10.3} {:>7.3} {least:>7.3} {most:>7.3} {:>9} {second:>10.3} {:>7.3} {least2:>7.3} {most2:>7.3}",
+        visits[0], of(0), of(1), of(2), port / rust, visits[1], second / port
     );
 }
 fn measure(s: &mut Sides, number: usize) {
     let load = s.load;
     let (answers, differ) = compare(s);
-    let visits = answers.iter().map(|a| a[1]);
-    let deepest = answers.iter().map(|a| a[6]).max().unwrap_or(0);
-    println!(
-        "{}: {} paths, {} boxes, {} answers compared, {differ} differ; visits of a question: {} to {}; deepest: {deepest}",
-        load.name, load.paths.len(), load.cells.len(), answers.len(), visits.clone().min().unwrap_or(0), visits.max().unwrap_or(0)
-    );
-    if differ > 0 {
+    println!("{}: {} paths, {} boxes, {} questions", load.name, load.paths.len(), load.cells.len(), load.asks.len());
+    for (i, answers) in answers.iter().enumerate().take(if cfg!(counted) { 2 } else { 1 }) {
+        let visits = answers.iter().map(|a| a[1]);
+        println!(
+            "  revision {}: {} answers compared, {} differ; visits of a question: {} to {}; deepest: {}",
+            i + 1, answers.len(), differ[i], visits.clone().min().unwrap_or(0), visits.max().unwrap_or(0), answers.iter().map(|a| a[6]).max().unwrap_or(0)
+        );
+    }
+    println!("  another answer in revision 2: {}", answers[0].iter().zip(&answers[1]).filter(|(a, b)| a != b).count());
+    if differ != [0; 2] {
         exit(1);
     }
     if number == 0 {
@@ -216,14 +193,15 @@ fn measure(s: &mut Sides, number: usize) {
     }
     let blocks = rounds(s, number);
     println!(
-        "{:<24} {:>9} {:>9} {:>6} {:>8} {:>6} {:>10} {:>10} {:>7} {:>7} {:>7}",
-        "", "questions", "visits", "none", "enclosed", "spent", "port, us", "Rust, us", "ratio", "least", "most"
+        "{:<24} {:>9} {:>9} {:>6} {:>8} {:>6} {:>10} {:>10} {:>7} {:>7} {:>7} {:>9} {:>10} {:>7} {:>7} {:>7}",
+        "", "questions", "visits", "none", "enclosed", "spent", "port, us", "Rust, us", "ratio", "least", "most", "visits 2", "port 2, us", "2 / 1", "least", "most"
     );
     for (k, name) in load.parts.iter().enumerate().filter(|_| load.parts.len() > 1) {
-        let of_part: Vec<&Answer> = load.asks.iter().zip(&answers).filter(|(q, _)| q.part == k).map(|(_, a)| a).collect();
-        row(name, &of_part, &blocks.iter().filter(|b| b.asks[0].part == k).collect::<Vec<_>>());
+        let of_part = [0, 1].map(|i| load.asks.iter().zip(&answers[i]).filter(|(q, _)| q.part == k).map(|(_, a)| a).collect::<Vec<_>>());
+        row(name, [&of_part[0], &of_part[1]], &blocks.iter().filter(|b| b.asks[0].part == k).collect::<Vec<_>>());
     }
-    row(load.name, &answers.iter().collect::<Vec<_>>(), &blocks.iter().collect::<Vec<_>>());
+    let all = [0, 1].map(|i| answers[i].iter().collect::<Vec<_>>());
+    row(load.name, [&all[0], &all[1]], &blocks.iter().collect::<Vec<_>>());
 }
 
 fn main() {
@@ -232,7 +210,7 @@ fn main() {
         unsafe { std::env::remove_var(name) };
     }
     let usage = || -> ! {
-        eprintln!("words: [--workload realistic|installation|worst] [--rounds N] [--nodes N] [--make yes|no] [--side port|rust]");
+        eprintln!("words: [--workload realistic|installation|worst] [--rounds N] [--nodes N] [--make yes|no] [--side port|second|rust]");
         exit(2)
     };
     let (mut names, mut rounds, mut nodes, mut side) = (vec!["realistic".to_string(), "installation".into(), "worst".into()], 15, None, None);
@@ -245,7 +223,7 @@ fn main() {
             "--rounds" => rounds = value.parse().unwrap_or_else(|_| usage()),
             "--nodes" => nodes = Some(value.parse().unwrap_or_else(|_| usage())),
             "--make" if value == "yes" || value == "no" => make = value == "yes",
-            "--side" if value == "port" || value == "rust" => side = Some(value == "port"),
+            "--side" => side = Some(SIDES.iter().position(|s| *s == value).unwrap_or_else(|| usage())),
             _ => usage(),
         }
     }
@@ -256,8 +234,8 @@ fn main() {
         }
         let mut sides = Sides::new(&load, make);
         match side {
-            Some(port) => (0..rounds).for_each(|_| {
-                ask_side(&mut sides, &load.asks, port);
+            Some(side) => (0..rounds).for_each(|_| {
+                ask_side(&mut sides, &load.asks, side);
             }),
             None => measure(&mut sides, if cfg!(counted) { 0 } else { rounds }),
         }

@@ -62,10 +62,11 @@ compile_rust() {
     compile "${words[@]}" --crate-name geop_core_math --extern "serde=$to/libserde.rlib" "$from/math/lib.rs"
     compile "${words[@]}" --crate-name geop_core_geometry --extern "geop_core_math=$to/libgeop_core_math.rlib" "$from/geometry/lib.rs"
 }
-# The Rust's libraries by oracle/build, in release or with --debug. The folder `rust` has them then.
+# The Rust's libraries by oracle/build, in release or with --debug. The folder `rust` has them then, and `second` those with revision 2's arithmetic.
 build_rust() {
     find_rust
     rust=$root/target/oracle/rust/$mode
+    second=$rust-second
     logged "$work/build.log" "$root/oracle/build" $(! given --debug || echo --debug)
 }
 
@@ -93,10 +94,12 @@ build_port() {
 
 # ---- both
 
-# link SOURCE PROGRAM WORD..: a program over the Rust's libraries and the port's, if there is one.
+# link SOURCE PROGRAM WORD..: a program over the Rust's libraries, those of revision 2, which it calls second_math and second_geometry, and the port's,
+# if there is one.
 link() {
     compile -C opt-level=3 "${@:3}" -L "$rust" --extern "geop_core_math=$rust/libgeop_core_math.rlib" \
-        --extern "geop_core_geometry=$rust/libgeop_core_geometry.rlib" "${port[@]}" -o "$2" "$1"
+        --extern "geop_core_geometry=$rust/libgeop_core_geometry.rlib" -L "$second" --extern "second_math=$second/libgeop_core_math.rlib" \
+        --extern "second_geometry=$second/libgeop_core_geometry.rlib" "${port[@]}" -o "$2" "$1"
 }
 # compare WORD..: runs compare.rs of the script's folder.
 compare() {

@@ -1,7 +1,7 @@
 #!/usr/bin/env python3
 """Enclosure tried from outside, with exact fractions: see README.md.
 
-Usage: oracle/fractions/check.py [--library FILE | --program FILE] [--break HOW] [QUESTIONS [SEED]]
+Usage: oracle/fractions/check.py [--rev 1|2] [--library FILE | --program FILE] [--break HOW] [QUESTIONS [SEED]]
 Exit status: 0 nothing is wrong; 1 something is; 2 the library could not be built.
 """
 import argparse
@@ -307,7 +307,7 @@ def bits(x):
 
 def text(q):
     """The question as the program gripcheck reads it."""
-    lines = [f"dim={q.dim}", f"degree={q.degree}", f"count={q.count}", f"nodes={q.nodes}", f"resolution={bits(q.resolution)}"]
+    lines = [f"rev={q.rev}", f"dim={q.dim}", f"degree={q.degree}", f"count={q.count}", f"nodes={q.nodes}", f"resolution={bits(q.resolution)}"]
     lines.append("knots=" + " ".join(map(bits, q.knots)))
     lines += ["point=" + " ".join(bits(x) for pair in point for x in pair) for point in q.points]
     lines.append("box=" + " ".join(bits(x) for pair in q.box for x in pair))
@@ -334,7 +334,7 @@ class Library:
     def __init__(self, path):
         self.search = ctypes.CDLL(os.path.abspath(path)).puhlwazo_curve_could_contain
         size, at = ctypes.c_size_t, ctypes.c_void_p
-        self.search.argtypes = [size, size, size, at, size, at, size, at, size, ctypes.c_double, size, at, size, at, at]
+        self.search.argtypes = [size, size, size, size, at, size, at, size, at, size, ctypes.c_double, size, at, size, at, at]
         self.search.restype = ctypes.c_uint64
         self.work = (ctypes.c_double * (4099 * 417))()
         self.counts, self.bounds = (ctypes.c_uint64 * 5)(), (ctypes.c_double * 2)()
@@ -347,7 +347,7 @@ class Library:
         box = [x for pair in q.box for x in pair]
         box = (ctypes.c_double * len(box))(*box)
         ctypes.memmove(self.work, self.junk, len(self.junk))
-        number = self.search(q.dim, q.degree, q.count, knots, len(knots), points, len(points), box, len(box), q.resolution, q.nodes,
+        number = self.search(q.rev, q.dim, q.degree, q.count, knots, len(knots), points, len(points), box, len(box), q.resolution, q.nodes,
                              self.work, (q.nodes + 3) * words(q), self.counts, self.bounds)
         kind, visited, _, _, depth = self.counts
         return kind, visited, depth, number, self.bounds[0], self.bounds[1]
@@ -483,6 +483,7 @@ def main():
     p = argparse.ArgumentParser(description=__doc__, formatter_class=argparse.RawDescriptionHelpFormatter)
     p.add_argument("questions", nargs="?", type=int, default=150000, help="how many; 150,000 if not given")
     p.add_argument("seed", nargs="?", type=int, default=1, help="another one gives other questions; 1 if not given")
+    p.add_argument("--rev", type=int, default=1, choices=(1, 2), help="the revision in which it is asked; 1 if not given")
     p.add_argument("--library", metavar="FILE", help="a shared library that is already built")
     p.add_argument("--program", metavar="FILE", help="ask this gripcheck, one process for each question")
     p.add_argument("--break", dest="how", metavar="HOW", choices=BREAKS, help="make right answers wrong, to see that it is noticed: "
@@ -499,6 +500,7 @@ def main():
             over += 1
             continue
         asked += 1
+        q.rev = o.rev
         if o.how == "box":
             moved(q)
         answer = search.ask(q)
@@ -528,6 +530,7 @@ def main():
                 ends[x] = ends.get(x, 0) + 1
             row[5] += (Fraction(hi) - Fraction(lo)) * 1000 <= q.end - q.start
             row[6] += all(math.nextafter(a, UP) >= b for a, b in q.box)
+    print(f"revision {o.rev}")
     print("degree " + "".join(f"{h:>12}" for h in heads))
     for d, row in rows.items():
         print(f"{d:<7}" + "".join(f"{x:>12}" for x in row))

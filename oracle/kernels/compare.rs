@@ -1,5 +1,6 @@
 //! Runs the kernels of crates/geometry and the Rust's functions of the same names on the same random and edge inputs, and compares every bit of the
-//! results but the sign of a zero and the bits of a NaN.
+//! results but the sign of a zero and the bits of a NaN. Usage: compare REVISION CURVES. The script `run` builds it, for revision 2 with the Rust's
+//! libraries of that revision.
 #[path = "../rust/random.rs"]
 mod random;
 use geop_core_geometry::{aabb, contains::curve, fat_line, knot_insertion, nurb_curve::NurbCurve};
@@ -7,23 +8,25 @@ use geop_core_math::{counts, scalars::Scalar, vector::Vector};
 use random::Rng;
 
 unsafe extern "C" {
-    fn k_greville(knots: *const f64, n: usize, degree: usize, count: usize, out: *mut f64, m: usize) -> bool;
-    fn k_zeros(xi: *const f64, n: usize, d: *const f64, m: usize, count: usize, out: *mut f64, o: usize) -> bool;
-    fn k_clip(xi: *const f64, n: usize, points: *const f64, m: usize, cell: *const f64, c: usize, dim: usize, count: usize, start: f64, end: f64, out: *mut f64, o: usize) -> bool;
-    fn k_overlap(points: *const f64, m: usize, cell: *const f64, c: usize, dim: usize, count: usize) -> bool;
-    fn k_meet(points: *const f64, m: usize, cell: *const f64, c: usize, dim: usize, degree: usize, count: usize) -> bool;
+    fn k_greville(knots: *const f64, n: usize, degree: usize, count: usize, second: bool, out: *mut f64, m: usize) -> bool;
+    fn k_zeros(xi: *const f64, n: usize, d: *const f64, m: usize, count: usize, second: bool, out: *mut f64, o: usize) -> bool;
+    fn k_clip(
+        xi: *const f64, n: usize, points: *const f64, m: usize, cell: *const f64, c: usize, dim: usize, count: usize, start: f64, end: f64, second: bool, out: *mut f64, o: usize,
+    ) -> bool;
+    fn k_overlap(points: *const f64, m: usize, cell: *const f64, c: usize, dim: usize, count: usize, second: bool) -> bool;
+    fn k_meet(points: *const f64, m: usize, cell: *const f64, c: usize, dim: usize, degree: usize, count: usize, second: bool) -> bool;
     fn k_weighted(points: *const f64, m: usize, dim: usize, count: usize) -> bool;
     fn k_extent(points: *const f64, m: usize, dim: usize, count: usize) -> f64;
     fn k_carried(points: *const f64, m: usize, dim: usize, count: usize) -> f64;
-    fn k_restriction(a: f64, b: f64, lo: f64, hi: f64, size: f64, carried: f64) -> bool;
+    fn k_restriction(a: f64, b: f64, lo: f64, hi: f64, size: f64, carried: f64, second: bool) -> bool;
     fn k_stalled(a: f64, b: f64, size: f64, carried: f64, resolution: f64) -> bool;
-    fn k_mid(a: f64, b: f64) -> f64;
+    fn k_mid(a: f64, b: f64, second: bool) -> f64;
     fn k_span(knots: *const f64, n: usize, count: usize, degree: usize, t: f64) -> usize;
     fn k_bezier(knots: *const f64, n: usize, count: usize, degree: usize) -> bool;
-    fn k_insert(work: *mut f64, n: usize, dim: usize, degree: usize, count: usize, span: usize, t: f64);
-    fn k_full(work: *mut f64, n: usize, dim: usize, degree: usize, count: usize, t: f64) -> usize;
-    fn k_split(work: *mut f64, n: usize, dim: usize, degree: usize, count: usize, left: usize, right: usize, t: f64) -> bool;
-    fn k_restrict(work: *mut f64, n: usize, dim: usize, degree: usize, count: usize, to: usize, lo: f64, hi: f64) -> usize;
+    fn k_insert(work: *mut f64, n: usize, dim: usize, degree: usize, count: usize, span: usize, t: f64, second: bool);
+    fn k_full(work: *mut f64, n: usize, dim: usize, degree: usize, count: usize, t: f64, second: bool) -> usize;
+    fn k_split(work: *mut f64, n: usize, dim: usize, degree: usize, count: usize, left: usize, right: usize, t: f64, second: bool) -> bool;
+    fn k_restrict(work: *mut f64, n: usize, dim: usize, degree: usize, count: usize, to: usize, lo: f64, hi: f64, second: bool) -> usize;
 }
 
 // ---- numbers
@@ -139,6 +142,8 @@ fn scalars(l: &[f64]) -> Vec<Scalar> {
 
 struct Tally {
     names: Vec<(&'static str, u64, u64)>,
+    /// Revision 2 is compared.
+    second: bool,
 }
 impl Tally {
     fn see(&mut self, name: &'static str, equal: bool, show: impl Fn() -> String) {
@@ -157,7 +162,7 @@ impl Tally {
 }
 
 fn compare<const D: usize, const C: usize>(t: &mut Tally, r: &mut Rng, c: &Case) {
-    let (dim, p, n) = (c.dim, c.degree, c.count);
+    let (dim, p, n, second) = (c.dim, c.degree, c.count, t.second);
     let points: Vec<Vector<D>> = scalars(&c.points).chunks(D).map(|q| Vector::from_array(std::array::from_fn(|k| q[k]))).collect();
     let knots: Vec<Scalar> = c.knots.iter().map(|&u| Scalar::from_f64(u)).collect();
     let cell = scalars(&c.cell);
@@ -169,26 +174,26 @@ fn compare<const D: usize, const C: usize>(t: &mut Tally, r: &mut Rng, c: &Case)
     let show = || format!("dim {dim} degree {p} count {n} knots {:?} points {:?} box {:?}", c.knots, c.points, c.cell);
     let (kp, kn, pp, pn, cp, cn) = (c.knots.as_ptr(), c.knots.len(), c.points.as_ptr(), c.points.len(), c.cell.as_ptr(), c.cell.len());
     unsafe {
-        t.see("aabb_could_contain", k_overlap(pp, pn, cp, cn, dim, n) == aabb::aabb_could_contain(&aabb, &point), show);
-        t.see("curve_could_meet_aabb", k_meet(pp, pn, cp, cn, dim, p, n) == aabb::curve_could_meet_aabb(&curve, &cell3, C), show);
+        t.see("aabb_could_contain", k_overlap(pp, pn, cp, cn, dim, n, second) == aabb::aabb_could_contain(&aabb, &point), show);
+        t.see("curve_could_meet_aabb", k_meet(pp, pn, cp, cn, dim, p, n, second) == aabb::curve_could_meet_aabb(&curve, &cell3, C), show);
         t.see("weighted", k_weighted(pp, pn, dim, n) == points.iter().all(|q| q[D - 1].definitely_greater(Scalar::ZERO)), show);
         let size = fat_line::extent([points.iter().copied()]);
         let carried = fat_line::carried_width(&points);
         t.see("extent", same(&[k_extent(pp, pn, dim, n)], &[size]), show);
         t.see("carried_width", same(&[k_carried(pp, pn, dim, n)], &[carried]), show);
         let (a, b) = (c.knots[p], c.knots[n]);
-        t.see("mid_parameter", same(&[k_mid(a, b)], &[curve.mid_parameter().unwrap().lo]), show);
+        t.see("mid_parameter", same(&[k_mid(a, b, second)], &[curve.mid_parameter().unwrap().lo]), show);
         let hat = {
             let (x, y) = (a + (b - a) * r.unit(), a + (b - a) * r.unit());
             Scalar { lo: x.min(y), hi: x.max(y) }
         };
         let ranges = [curve.domain()];
         let cut = fat_line::restriction(&[hat], &ranges, &[size], carried).unwrap().is_some();
-        t.see("restriction", k_restriction(a, b, hat.lo, hat.hi, size, carried) == cut, show);
+        t.see("restriction", k_restriction(a, b, hat.lo, hat.hi, size, carried, second) == cut, show);
         let halves = matches!(fat_line::stalled(&ranges, &[size], carried, Scalar::from_f64(c.resolution)), fat_line::Stalled::Bisect(o) if !o.is_empty());
         t.see("stalled", k_stalled(a, b, size, carried, c.resolution) == halves, show);
         let mut out = [0.0; 64];
-        let ours = k_greville(kp, kn, p, n, out.as_mut_ptr(), 64);
+        let ours = k_greville(kp, kn, p, n, second, out.as_mut_ptr(), 64);
         let theirs = fat_line::greville_abscissae(&knots, p, n).unwrap();
         t.see("greville_abscissae", ours == theirs.is_some() && theirs.as_ref().is_none_or(|xi| same(&out[..2 * n], &numbers(xi))), show);
         if let Some(xi) = theirs {
@@ -196,10 +201,10 @@ fn compare<const D: usize, const C: usize>(t: &mut Tally, r: &mut Rng, c: &Case)
             let mut h = [0.0; 2];
             let d: Vec<Scalar> = (0..n).map(|_| { let (kind, w) = (r.below(6), r.below(3)); let v = number(r, kind); let (lo, hi) = interval(r, v, w); Scalar { lo, hi } }).collect();
             let dd = numbers(&d);
-            let some = k_zeros(x.as_ptr(), x.len(), dd.as_ptr(), dd.len(), n, h.as_mut_ptr(), 2);
+            let some = k_zeros(x.as_ptr(), x.len(), dd.as_ptr(), dd.len(), n, second, h.as_mut_ptr(), 2);
             let zeros = fat_line::fat_line_zeros(&xi, &d);
             t.see("fat_line_zeros", some == zeros.is_some() && zeros.is_none_or(|z| same(&h, &[z.lo, z.hi])), || format!("{} d {dd:?}", show()));
-            let some = k_clip(x.as_ptr(), x.len(), pp, pn, cp, cn, dim, n, a, b, h.as_mut_ptr(), 2);
+            let some = k_clip(x.as_ptr(), x.len(), pp, pn, cp, cn, dim, n, a, b, second, h.as_mut_ptr(), 2);
             let clip = curve::clip(&curve, &xi, &point);
             t.see("clip", some == clip.is_some() && clip.is_none_or(|z| same(&h, &[z.lo, z.hi])), show);
         }
@@ -251,7 +256,7 @@ fn lows(knots: &[Scalar]) -> Vec<f64> {
 }
 
 fn cuts<const D: usize>(t: &mut Tally, r: &mut Rng, c: &Case, points: &[Vector<D>], knots: &[Scalar]) {
-    let (dim, p, n) = (c.dim, c.degree, c.count);
+    let (dim, p, n, second) = (c.dim, c.degree, c.count, t.second);
     let (a, b) = (c.knots[p], c.knots[n]);
     let inner: Vec<f64> = c.knots.iter().copied().filter(|&u| a < u && u < b).collect();
     let x = if !inner.is_empty() && r.one_in(3) { r.of(&inner) } else { a + (b - a) * r.unit() };
@@ -269,14 +274,14 @@ fn cuts<const D: usize>(t: &mut Tally, r: &mut Rng, c: &Case, points: &[Vector<D
         let (mut k2, mut rows) = (knots.to_vec(), [points.to_vec()]);
         knot_insertion::insert_once(&mut k2, &mut rows, p, span, s);
         let mut l = write_slot(c);
-        k_insert(l.as_mut_ptr(), l.len(), dim, p, n, span, x);
+        k_insert(l.as_mut_ptr(), l.len(), dim, p, n, span, x, second);
         let (ok, op) = read_slot(c, &l, 0);
         t.see("insert_once", same(&ok, &lows(&k2)) && same(&op, &flat(&rows[0])) && only(c, &l, &[0]), show);
 
         let (mut k2, mut rows) = (knots.to_vec(), [points.to_vec()]);
         let at = knot_insertion::insert_to_full_multiplicity(&mut k2, &mut rows, p, s).unwrap();
         let mut l = write_slot(c);
-        let ours = k_full(l.as_mut_ptr(), l.len(), dim, p, n, x);
+        let ours = k_full(l.as_mut_ptr(), l.len(), dim, p, n, x, second);
         let (ok, op) = read_slot(c, &l, 0);
         let name = if bezier { BY_TRIANGLE[p - 1] } else { BY_INSERTIONS };
         t.see(name, ours == at && same(&ok, &lows(&k2)) && same(&op, &flat(&rows[0])) && only(c, &l, &[0]), show);
@@ -284,7 +289,7 @@ fn cuts<const D: usize>(t: &mut Tally, r: &mut Rng, c: &Case, points: &[Vector<D
         let (mut k2, mut rows) = (knots.to_vec(), [points.to_vec()]);
         let (rk, rr) = knot_insertion::split(&mut k2, &mut rows, p, s).unwrap();
         let mut l = write_slot(c);
-        let done = k_split(l.as_mut_ptr(), l.len(), dim, p, n, slot_words(c), 2 * slot_words(c), x);
+        let done = k_split(l.as_mut_ptr(), l.len(), dim, p, n, slot_words(c), 2 * slot_words(c), x, second);
         let ((lk, lp), (qk, qp)) = (read_slot(c, &l, 1), read_slot(c, &l, 2));
         t.see("split", done && same(&lk, &lows(&k2)) && same(&lp, &flat(&rows[0])) && same(&qk, &lows(&rk)) && same(&qp, &flat(&rr[0])) && only(c, &l, &[1, 2]), show);
 
@@ -295,27 +300,28 @@ fn cuts<const D: usize>(t: &mut Tally, r: &mut Rng, c: &Case, points: &[Vector<D
         knot_insertion::restrict(&mut k2, &mut rows, p, Scalar::from_f64(lo), Scalar::from_f64(hi)).unwrap();
         let made = counts::made();
         let mut l = write_slot(c);
-        let cuts = k_restrict(l.as_mut_ptr(), l.len(), dim, p, n, slot_words(c), lo, hi);
+        let cuts = k_restrict(l.as_mut_ptr(), l.len(), dim, p, n, slot_words(c), lo, hi, second);
         let (ok, op) = read_slot(c, &l, 1);
         t.see("restrict", cuts as u64 == made && same(&ok, &lows(&k2)) && same(&op, &flat(&rows[0])) && only(c, &l, &[1]), || format!("lo {lo} hi {hi} {}", show()));
     }
 }
 
 fn main() {
-    let total: u64 = std::env::args().nth(1).map_or(200_000, |w| w.parse().expect("a number of questions"));
+    let words: Vec<u64> = std::env::args().skip(1).map(|w| w.parse().expect("REVISION CURVES")).collect();
+    let [revision, total] = words[..] else { panic!("REVISION CURVES") };
     let mut r = Rng(0x9e0b_2024_0517_c0de);
-    let mut t = Tally { names: Vec::new() };
+    let mut t = Tally { names: Vec::new(), second: revision == 2 };
     for _ in 0..total {
         let c = case(&mut r);
         if c.dim == 2 { compare::<3, 2>(&mut t, &mut r, &c) } else { compare::<4, 3>(&mut t, &mut r, &c) }
     }
     t.names.sort_by_key(|e| if e.0.starts_with("cut") { e.0 } else { "" });
     let mut differ = 0;
-    println!("{:<30} {:>12} {:>12}", "function", "inputs", "differences");
+    println!("{:<30} {:>12} {:>12}", format!("revision {revision}"), "inputs", "differences");
     for (name, seen, bad) in &t.names {
         println!("{name:<30} {seen:>12} {bad:>12}");
         differ += bad;
     }
-    println!("{} compared, {differ} differ", t.names.iter().map(|e| e.1).sum::<u64>());
+    println!("revision {revision}: {} compared, {differ} differ", t.names.iter().map(|e| e.1).sum::<u64>());
     std::process::exit(if differ > 0 { 1 } else { 0 });
 }

@@ -1,7 +1,11 @@
 //! The two sides, function by function: `ours_*` from the library that is built of exports.txt, and `rust_*` over the
-//! Rust. Both are `extern "C"`, and both are called through a pointer, so that neither is inlined.
+//! Rust; and of revision 2 `second_*`, and `swapped_*` over the Rust with five functions swapped, or over the functions
+//! that they are swapped for, and `machine_*` over the machine's directed rounding.
+//! All are `extern "C"`, and all are called through a pointer, so that none is inlined.
 
+use crate::machine;
 use geop_core_math::scalars::{self, Scalar};
+use second_math::{scalars::Scalar as Swapped, tight};
 
 /// Where a function puts an interval's bounds.
 pub type Out = [f64; 2];
@@ -63,6 +67,14 @@ fn put(r: Scalar, out: &mut Out) {
     *out = [r.lo, r.hi];
 }
 
+fn w(lo: f64, hi: f64) -> Swapped {
+    Swapped { lo, hi }
+}
+
+fn put_swapped(r: Swapped, out: &mut Out) {
+    *out = [r.lo, r.hi];
+}
+
 /// Declares the function of either side for each line: `ours_*` from the library, `rust_*` with the line's body.
 macro_rules! calls {
     ($($ours:ident $rust:ident ($($x:ident: $t:ty),*) $(-> $r:ty)? $body:block)*) => {
@@ -75,8 +87,15 @@ macro_rules! calls {
 
 /// The same for methods of two intervals.
 macro_rules! methods {
-    ($($ours:ident $rust:ident $method:ident)*) => {
-        calls! { $($ours $rust(al: f64, ah: f64, bl: f64, bh: f64, out: &mut Out) { put(s(al, ah).$method(s(bl, bh)), out) })* }
+    ($put:ident $s:ident $($ours:ident $rust:ident $method:ident)*) => {
+        calls! { $($ours $rust(al: f64, ah: f64, bl: f64, bh: f64, out: &mut Out) { $put($s(al, ah).$method($s(bl, bh)), out) })* }
+    };
+}
+/// The same for two numbers, by the function of tight.rs; and the machine's besides.
+macro_rules! directed {
+    ($($second:ident $swapped:ident $machine:ident $op:ident $side:literal)*) => {
+        calls! { $($second $swapped(a: f64, b: f64) -> f64 { tight::$op(a, b)[$side] })* }
+        $(#[inline(never)] pub extern "C" fn $machine(a: f64, b: f64) -> f64 { machine::$op(a, b)[$side] })*
     };
 }
 macro_rules! tests {
@@ -90,6 +109,8 @@ calls! {
     ours_one rust_one(out: &mut Out) { put(Scalar::ONE, out) }
     ours_two rust_two(out: &mut Out) { put(Scalar::TWO, out) }
     ours_entire rust_entire(out: &mut Out) { put(Scalar::ENTIRE, out) }
+    ours_four_fifths rust_four_fifths(out: &mut Out) { put(Scalar::from_ratio(4, 5).unwrap_or(Scalar::ENTIRE), out) }
+    second_four_fifths swapped_four_fifths(out: &mut Out) { put_swapped(Swapped::from_ratio(4, 5).unwrap_or(Swapped::ENTIRE), out) }
     ours_next_up rust_next_up(x: f64) -> f64 { scalars::next_up(x) }
     ours_next_down rust_next_down(x: f64) -> f64 { scalars::next_down(x) }
     ours_is_nan rust_is_nan(x: f64) -> bool { x.is_nan() }
@@ -108,17 +129,49 @@ calls! {
     ours_div rust_div(al: f64, ah: f64, bl: f64, bh: f64, out: &mut Out) -> bool {
         s(al, ah).div(s(bl, bh)).map(|r| put(r, out)).is_ok()
     }
+    ours_over rust_over(al: f64, ah: f64, bl: f64, bh: f64, out: &mut Out) { put(s(al, ah).div(s(bl, bh)).unwrap_or(Scalar::ENTIRE), out) }
+    ours_quotient rust_quotient(al: f64, ah: f64, bl: f64, bh: f64, out: &mut Out) { put(s(al, ah).div(s(bl, bh)).unwrap_or(Scalar::ENTIRE), out) }
     ours_interpolate rust_interpolate(al: f64, ah: f64, bl: f64, bh: f64, cl: f64, ch: f64, out: &mut Out) {
         put(Scalar::interpolate(s(al, ah), s(bl, bh), s(cl, ch)), out)
+    }
+    second_div swapped_div(al: f64, ah: f64, bl: f64, bh: f64, out: &mut Out) -> bool {
+        w(al, ah).div(w(bl, bh)).map(|r| put_swapped(r, out)).is_ok()
+    }
+    second_over swapped_over(al: f64, ah: f64, bl: f64, bh: f64, out: &mut Out) { put_swapped(w(al, ah).div(w(bl, bh)).unwrap_or(Swapped::ENTIRE), out) }
+    second_quotient swapped_quotient(al: f64, ah: f64, bl: f64, bh: f64, out: &mut Out) { put_swapped(w(al, ah).div(w(bl, bh)).unwrap_or(Swapped::ENTIRE), out) }
+    second_interpolate swapped_interpolate(al: f64, ah: f64, bl: f64, bh: f64, cl: f64, ch: f64, out: &mut Out) {
+        put_swapped(Swapped::interpolate(w(al, ah), w(bl, bh), w(cl, ch)), out)
     }
 }
 
 methods! {
+    put s
     ours_add rust_add add
     ours_sub rust_sub sub
     ours_mul rust_mul mul
+    ours_times rust_times mul
     ours_intersect rust_intersect intersect
+    ours_difference rust_difference sub
     ours_union rust_union union
+    ours_join rust_join union
+}
+
+methods! {
+    put_swapped w
+    second_add swapped_add add
+    second_sub swapped_sub sub
+    second_mul swapped_mul mul
+    second_times swapped_times mul
+    second_difference swapped_difference sub
+}
+
+directed! {
+    second_sum_down swapped_sum_down machine_sum_down sum 0
+    second_sum_up swapped_sum_up machine_sum_up sum 1
+    second_product_down swapped_product_down machine_product_down product 0
+    second_product_up swapped_product_up machine_product_up product 1
+    second_quotient_down swapped_quotient_down machine_quotient_down quotient 0
+    second_quotient_up swapped_quotient_up machine_quotient_up quotient 1
 }
 
 tests! {

@@ -1,6 +1,9 @@
-//! Runs each operation of the crate math and of the Rust on the same operands, and compares what they give.
+//! Runs each operation of the crate math and of the Rust on the same operands, and compares what they give: in revision 1 with the
+//! Rust's; in revision 2 with the swapped ones of the test program, and sums, products and quotients of two numbers with the machine's.
 //! Usage: compare COUNT. The script `run` builds it.
 mod calls;
+#[path = "../rust/machine.rs"]
+mod machine;
 mod operands;
 #[path = "../rust/random.rs"]
 mod random;
@@ -42,6 +45,8 @@ fn operations() -> Vec<Operation> {
         Nothing S0 "ONE" ours_one rust_one;
         Nothing S0 "TWO" ours_two rust_two;
         Nothing S0 "ENTIRE" ours_entire rust_entire;
+        Nothing S0 "four_fifths" ours_four_fifths rust_four_fifths;
+        Nothing S0 "four_fifths 2" second_four_fifths swapped_four_fifths;
         Number F1 "next_up" ours_next_up rust_next_up;
         Number F1 "next_down" ours_next_down rust_next_down;
         Number B1 "is_nan" ours_is_nan rust_is_nan;
@@ -49,6 +54,18 @@ fn operations() -> Vec<Operation> {
         Root F1 "sqrt" ours_sqrt rust_sqrt;
         Numbers F2 "min" ours_min rust_min;
         Numbers F2 "max" ours_max rust_max;
+        Numbers F2 "sum_down" second_sum_down swapped_sum_down;
+        Numbers F2 "sum_down, machine" second_sum_down machine_sum_down;
+        Numbers F2 "sum_up" second_sum_up swapped_sum_up;
+        Numbers F2 "sum_up, machine" second_sum_up machine_sum_up;
+        Numbers F2 "product_down" second_product_down swapped_product_down;
+        Numbers F2 "product_down, machine" second_product_down machine_product_down;
+        Numbers F2 "product_up" second_product_up swapped_product_up;
+        Numbers F2 "product_up, machine" second_product_up machine_product_up;
+        Numbers F2 "quotient_down" second_quotient_down swapped_quotient_down;
+        Numbers F2 "quotient_down, machine" second_quotient_down machine_quotient_down;
+        Numbers F2 "quotient_up" second_quotient_up swapped_quotient_up;
+        Numbers F2 "quotient_up, machine" second_quotient_up machine_quotient_up;
         Ratio R2 "from_ratio" ours_from_ratio rust_from_ratio;
         Interval F2 "to_f64" ours_to_f64 rust_to_f64;
         Interval S2 "width" ours_width rust_width;
@@ -58,15 +75,29 @@ fn operations() -> Vec<Operation> {
         Intervals S4 "add" ours_add rust_add;
         Intervals S4 "sub" ours_sub rust_sub;
         Intervals S4 "mul" ours_mul rust_mul;
+        Intervals S4 "times" ours_times rust_times;
         Intervals R4 "div" ours_div rust_div;
+        Intervals S4 "over" ours_over rust_over;
+        Intervals S4 "Bounds::over" ours_quotient rust_quotient;
+        Intervals S4 "Bounds::difference" ours_difference rust_difference;
+        Intervals S4 "add 2" second_add swapped_add;
+        Intervals S4 "sub 2" second_sub swapped_sub;
+        Intervals S4 "mul 2" second_mul swapped_mul;
+        Intervals S4 "times 2" second_times swapped_times;
+        Intervals R4 "div 2" second_div swapped_div;
+        Intervals S4 "over 2" second_over swapped_over;
+        Intervals S4 "Bounds::over 2" second_quotient swapped_quotient;
+        Intervals S4 "Bounds::difference 2" second_difference swapped_difference;
         Intervals S4 "intersect" ours_intersect rust_intersect;
         Intervals S4 "union" ours_union rust_union;
+        Intervals S4 "Bounds::join" ours_join rust_join;
         Intervals B4 "could_be_equal" ours_could_be_equal rust_could_be_equal;
         Intervals B4 "definitely_greater" ours_definitely_greater rust_definitely_greater;
         Intervals B4 "definitely_less" ours_definitely_less rust_definitely_less;
         Intervals B4 "is_subset_of" ours_is_subset_of rust_is_subset_of;
         Intervals B4 "is_exactly" ours_is_exactly rust_is_exactly;
         Alpha S6 "interpolate" ours_interpolate rust_interpolate;
+        Alpha S6 "interpolate 2" second_interpolate swapped_interpolate;
     }
 }
 
@@ -135,7 +166,7 @@ fn compare(list: &mut [Operation], v: &[f64; 6]) {
             }
         };
         let taken = if o.takes == Takes::Ratio { format!("{}/{}", v[0], v[1]) } else { hex(&v[..o.takes.count()]) };
-        o.first.push(format!("    [{taken}] ours {}, the Rust's {}{note}", show(ours), show(rust)));
+        o.first.push(format!("    [{taken}] ours {}, expected {}{note}", show(ours), show(rust)));
     }
 }
 
@@ -193,9 +224,9 @@ fn main() {
         let to = list.iter().rposition(|o| o.takes == takes).unwrap();
         run(&mut list[from..=to], takes, count);
     }
-    println!("{:<20} {:>14} {:>14} {:>16}", "operation", "operands", "differences", "zero's sign only");
+    println!("{:<24} {:>14} {:>14} {:>16}", "operation", "operands", "differences", "zero's sign only");
     for o in &list {
-        println!("{:<20} {:>14} {:>14} {:>16}", o.name, grouped(o.compared), grouped(o.differ), grouped(o.signs));
+        println!("{:<24} {:>14} {:>14} {:>16}", o.name, grouped(o.compared), grouped(o.differ), grouped(o.signs));
         for line in &o.first {
             println!("{line}");
         }

@@ -1,18 +1,19 @@
-//! Asks the search of the C library and the Rust's `curve_could_contain` the same questions, and compares the answers bit for bit.
-//! What the Rust has no answer for, refusals 1 to 10 and the work area, is held to the words of the scope.
+//! Asks the search of the C library and the Rust's `curve_could_contain` the same questions, and compares the answers bit for bit: each question in
+//! revision 1, where the Rust is as it stands, and in revision 2, where it is the test program of that revision.
+//! What the Rust has no answer for, refusals 16 and 1 to 10 and the work area, is held to the words of the scope.
 #[path = "../rust/answers.rs"]
 mod answers;
 mod questions;
 #[path = "../rust/random.rs"]
 mod random;
 use answers::{Answer, expected, hush, refusal};
-use questions::{Question, extreme, question, stated};
+use questions::{Question, extreme, other_revision, question, stated};
 use random::Rng;
 
 unsafe extern "C" {
     fn puhlwazo_curve_could_contain(
-        dim: usize, degree: usize, count: usize, knots: *const f64, knots_len: usize, points: *const f64, points_len: usize, cell: *const f64, cell_len: usize,
-        resolution: f64, nodes: usize, work: *mut f64, work_len: usize, counts: &mut [u64; 5], bounds: &mut [f64; 2],
+        rev: usize, dim: usize, degree: usize, count: usize, knots: *const f64, knots_len: usize, points: *const f64, points_len: usize, cell: *const f64,
+        cell_len: usize, resolution: f64, nodes: usize, work: *mut f64, work_len: usize, counts: &mut [u64; 5], bounds: &mut [f64; 2],
     ) -> u64;
 }
 
@@ -25,7 +26,7 @@ fn ask_port(r: &mut Rng, q: &Question) -> (Answer, bool) {
     let (mut counts, mut bounds) = ([u64::MAX; 5], [f64::NAN; 2]);
     let number = unsafe {
         puhlwazo_curve_could_contain(
-            q.dim, q.degree, q.count, q.knots.as_ptr(), q.knots.len(), q.points.as_ptr(), q.points.len(), q.cell.as_ptr(), q.cell.len(),
+            q.rev, q.dim, q.degree, q.count, q.knots.as_ptr(), q.knots.len(), q.points.as_ptr(), q.points.len(), q.cell.as_ptr(), q.cell.len(),
             q.resolution, q.nodes, work.as_mut_ptr(), work.len(), &mut counts, &mut bounds,
         )
     };
@@ -46,16 +47,24 @@ struct Row {
     deepest: u64,
     differ: u64,
 }
-/// Where an answer is counted: nothing, enclosed, spent, refused 1 to 11, none at all.
+/// The rows of a revision: nothing, enclosed, spent, refused 1 to 11, no answer at all; and refused 16, which is of no revision.
+type Rows = [Row; 16];
+const NONE: usize = 14;
+const OTHER: usize = 15;
 fn row_of(a: &Result<Answer, String>) -> usize {
-    a.as_ref().map_or(14, |a| (a[0] + a[3].saturating_sub(1)) as usize)
+    match a {
+        Ok(a) if a[3] == 16 => OTHER,
+        Ok(a) => (a[0] + a[3].saturating_sub(1)) as usize,
+        Err(_) => NONE,
+    }
 }
 fn row_name(i: usize) -> String {
     match i {
         0 => "nothing".into(),
         1 => "enclosed".into(),
         2 => "spent".into(),
-        14 => "no answer (debug)".into(),
+        NONE => "no answer (debug)".into(),
+        OTHER => "refused 16".into(),
         n => format!("refused {}", n - 2),
     }
 }
@@ -72,8 +81,8 @@ fn more_nodes_change_nothing(r: &mut Rng, q: &mut Question, answer: Answer) -> b
     let more = visited + (answer[4] ^ answer[5] ^ answer[2]) as usize % (4097 - visited);
     ask(visited) == Some(answer) && ask(more) == Some(answer) && ask(visited - 1).is_some_and(|a| a[0] == 2 && a[2] == answer[2] - 1)
 }
-/// Asks both, the port sometimes twice. No answer, as where an assertion of the debug build fires, is a difference.
-fn compare(r: &mut Rng, q: &mut Question, row: &mut [Row; 15], completed: &mut u64) {
+/// Asks both, the port sometimes twice, and gives the port's answer. No answer, as where an assertion of the debug build fires, is a difference.
+fn compare(r: &mut Rng, q: &mut Question, row: &mut Rows, completed: &mut u64) -> Answer {
     let theirs = expected(q);
     let (ours, mut left) = ask_port(r, q);
     let mut same = theirs == Ok(ours);
@@ -98,6 +107,7 @@ fn compare(r: &mut Rng, q: &mut Question, row: &mut [Row; 15], completed: &mut u
             println!("differs: expected {theirs:x?}, the port {ours:x?}, the work area is {}\n  {q:?}", if left { "right" } else { "wrong" });
         }
     }
+    ours
 }
 /// An extreme question that none of 1 to 10 refuses.
 fn accepted(r: &mut Rng) -> Question {
@@ -115,18 +125,30 @@ fn main() {
     let (total, seed) = (words.next().unwrap_or(200_000), words.next().unwrap_or(1));
     hush();
     let mut r = Rng::of_seed(seed);
-    let mut rows = [Row::default(); 15];
-    let mut completed = 0;
+    // Of revision 1, of revision 2, and of no revision.
+    let mut rows = [Rows::default(); 3];
+    let (mut completed, mut others) = ([0; 3], 0);
     for _ in 0..total {
-        let mut q = if extremes { accepted(&mut r) } else { question(&mut r) };
-        compare(&mut r, &mut q, &mut rows, &mut completed);
+        let q = if extremes { accepted(&mut r) } else { question(&mut r) };
+        let mut ask = |r: &mut Rng, rev: usize, i: usize| compare(r, &mut Question { rev, ..q.clone() }, &mut rows[i], &mut completed[i]);
+        let answers = [ask(&mut r, 1, 0), ask(&mut r, 2, 1)];
+        others += u64::from(answers[0] != answers[1]);
+        if r.one_in(16) {
+            let rev = other_revision(&mut r);
+            ask(&mut r, rev, 2);
+        }
     }
-    println!("{:<18} {:>10} {:>12} {:>8} {:>12} {:>8} {:>12}", "expected", "questions", "visits", "most", "cuts", "deepest", "differences");
-    for (i, row) in rows.iter().enumerate() {
-        println!("{:<18} {:>10} {:>12} {:>8} {:>12} {:>8} {:>12}", row_name(i), row.questions, row.visits, row.most, row.cuts, row.deepest, row.differ);
+    for (i, rows) in rows.iter().enumerate() {
+        let name = ["revision 1", "revision 2", "another revision"][i];
+        println!("{name:<18} {:>10} {:>12} {:>8} {:>12} {:>8} {:>12}", "questions", "visits", "most", "cuts", "deepest", "differences");
+        for (k, row) in rows.iter().enumerate().filter(|(k, row)| row.questions > 0 || (i < 2 && *k != OTHER)) {
+            println!("{:<18} {:>10} {:>12} {:>8} {:>12} {:>8} {:>12}", row_name(k), row.questions, row.visits, row.most, row.cuts, row.deepest, row.differ);
+        }
     }
-    let differ: u64 = rows.iter().map(|row| row.differ).sum();
-    println!("{completed} completed searches asked again: with as many nodes as visits, with more, and with one less");
-    println!("{total} compared, {differ} differ");
+    let asked: u64 = rows.iter().flatten().map(|row| row.questions).sum();
+    let differ: u64 = rows.iter().flatten().map(|row| row.differ).sum();
+    println!("{others} of {total} questions have another answer in revision 2 than in revision 1");
+    println!("{} and {} completed searches asked again: with as many nodes as visits, with more, and with one less", completed[0], completed[1]);
+    println!("{asked} compared, {differ} differ");
     std::process::exit(if differ > 0 { 1 } else { 0 });
 }

@@ -52,8 +52,10 @@ fn interval(r: &mut Rng, x: f64, width: usize) -> [f64; 2] {
 
 // ---- questions
 
-#[derive(Debug)]
+#[derive(Clone, Debug)]
 pub struct Question {
+    /// The revision.
+    pub rev: usize,
     pub dim: usize,
     pub degree: usize,
     pub count: usize,
@@ -194,7 +196,13 @@ pub fn stated(q: &Question) -> usize {
     (q.nodes + 3) * (2 * (q.dim + 1) * (q.count + q.degree + 1) + 2 * (q.count + 2 * q.degree + 2) + 1)
 }
 
-/// A question. About one in six is wrong in some way, or in two.
+/// A revision that there is not.
+pub fn other_revision(r: &mut Rng) -> usize {
+    let any = r.next() as usize;
+    r.of(&[0, 0, 3, 3, 4, 16, 257, 258, (1 << 32) + 1, (1 << 32) + 2, usize::MAX, any | 4])
+}
+
+/// A question, in revision 1. About one in six is wrong in some way, or in two.
 pub fn question(r: &mut Rng) -> Question {
     let degree = if r.one_in(16) { 0 } else { r.of(&[1, 1, 2, 2, 3, 3, 3, 4, 5, 6, 7]) };
     let more = match r.below(6) {
@@ -205,7 +213,7 @@ pub fn question(r: &mut Rng) -> Question {
     let (dim, count) = (2 + r.below(2), degree + 1 + more);
     let (knots, points) = (some_knots(r, degree, count), some_points(r, dim, count));
     let (resolution, nodes) = (some_resolution(r), some_nodes(r));
-    let mut q = Question { dim, degree, count, knots, points, cell: Vec::new(), resolution, nodes, room: 0 };
+    let mut q = Question { rev: 1, dim, degree, count, knots, points, cell: Vec::new(), resolution, nodes, room: 0 };
     q.cell = some_cell(r, &q);
     q.room = stated(&q) + r.below(6);
     if r.one_in(6) {
@@ -290,7 +298,7 @@ fn extreme_knots(r: &mut Rng, degree: usize, count: usize) -> Vec<f64> {
     knots
 }
 
-/// A question whose numbers are extreme; mostly of degree 7. Whether it is accepted is left to chance.
+/// A question whose numbers are extreme, in revision 1; mostly of degree 7. Whether it is accepted is left to chance.
 pub fn extreme(r: &mut Rng) -> Question {
     let degree = r.of(&[7, 7, 7, 7, 7, 6, 5, 4, 3, 2, 1, 1, 0]);
     let more = if r.one_in(3) { r.below(32 - degree) } else { r.below(4) };
@@ -306,7 +314,7 @@ pub fn extreme(r: &mut Rng) -> Question {
         points.extend(extreme_weight(r, one));
     }
     let (resolution, nodes) = (if r.one_in(2) { 0.0 } else { some_resolution(r) }, if r.one_in(40) { r.below(600) } else { r.below(28) });
-    let mut q = Question { dim, degree, count, knots, points, cell: Vec::new(), resolution, nodes, room: 0 };
+    let mut q = Question { rev: 1, dim, degree, count, knots, points, cell: Vec::new(), resolution, nodes, room: 0 };
     q.cell = match r.below(3) {
         0 => (0..dim).flat_map(|_| { let x = extreme_number(r); extreme_interval(r, x) }).collect(),
         _ => some_cell(r, &q),

@@ -49,16 +49,24 @@ fn doubles_line(line: Option<&&[u8]>, key: &str, many: usize) -> Option<Vec<f64>
     let numbers: Option<Vec<f64>> = words(line, key)?.into_iter().map(double).collect();
     numbers.filter(|l| l.len() == many)
 }
-/// The first three lines of a text.
+/// The revision that a text names in a first line `rev=..`, or else 1, and what stands behind that line.
+fn revision(text: &[u8]) -> Option<(usize, &[u8])> {
+    if !text.starts_with(b"rev=") {
+        return Some((1, text));
+    }
+    let end = text.iter().position(|b| *b == b'\n')?;
+    Some((small(&text[4..end])?, &text[end + 1..]))
+}
+/// The three lines with the sizes.
 fn sizes(text: &[u8]) -> Option<[usize; 3]> {
     let lines: Vec<&[u8]> = text.splitn(4, |b| *b == b'\n').collect();
     let sizes = [small_line(lines.first(), "dim")?, small_line(lines.get(1), "degree")?, small_line(lines.get(2), "count")?];
     (lines.len() == 4).then_some(sizes)
 }
-/// A text of these sizes that is of the form.
-fn whole(text: &[u8], [dim, degree, count]: [usize; 3]) -> Option<Question> {
+/// What stands behind the line with the revision, of these sizes and of the form.
+fn whole(rev: usize, text: &[u8], [dim, degree, count]: [usize; 3]) -> Option<Question> {
     let mut lines: Vec<&[u8]> = text.split(|b| *b == b'\n').collect();
-    if text.len() > LONGEST || lines.pop() != Some(b"") || lines.len() != 7 + count {
+    if lines.pop() != Some(b"") || lines.len() != 7 + count {
         return None;
     }
     let nodes = small_line(lines.get(3), "nodes")?;
@@ -66,14 +74,18 @@ fn whole(text: &[u8], [dim, degree, count]: [usize; 3]) -> Option<Question> {
     let knots = doubles_line(lines.get(5), "knots", count + degree + 1)?;
     let points: Option<Vec<Vec<f64>>> = (6..6 + count).map(|i| doubles_line(lines.get(i), "point", 2 * (dim + 1))).collect();
     let cell = doubles_line(lines.last(), "box", 2 * dim)?;
-    Some(Question { dim, degree, count, knots, points: points?.concat(), cell, resolution, nodes, room: LENT })
+    Some(Question { rev, dim, degree, count, knots, points: points?.concat(), cell, resolution, nodes, room: LENT })
 }
 
 // ---- what is expected: refusals
 
 /// The question that a text asks, or the number by which the scope refuses it.
 fn asked(text: &[u8]) -> Result<Question, u64> {
-    let sizes = sizes(text).ok_or(12u64)?;
+    let (rev, rest) = revision(text).ok_or(12u64)?;
+    if rev != 1 && rev != 2 {
+        return Err(16);
+    }
+    let sizes = sizes(rest).ok_or(12u64)?;
     let [dim, degree, count] = sizes;
     if dim != 2 && dim != 3 {
         return Err(1);
@@ -82,7 +94,7 @@ fn asked(text: &[u8]) -> Result<Question, u64> {
     } else if count < degree + 1 || count > 32 {
         return Err(3);
     }
-    let q = whole(text, sizes).ok_or(12u64)?;
+    let q = whole(rev, rest, sizes).filter(|_| text.len() <= LONGEST).ok_or(12u64)?;
     match refusal(&q) {
         0 => Ok(q),
         n => Err(n),
@@ -137,9 +149,11 @@ fn line_of(r: &mut Rng, style: usize, key: &str, numbers: &[f64]) -> String {
     let numbers: Vec<String> = numbers.iter().map(|x| hex(r, style, *x)).collect();
     format!("{key}={}\n", numbers.join(" "))
 }
-fn written(r: &mut Rng, q: &Question) -> Vec<u8> {
+/// The question as a text, with a line that names the revision or without.
+fn written(r: &mut Rng, q: &Question, named: bool) -> Vec<u8> {
     let style = r.below(4);
-    let mut text = format!("dim={}\ndegree={}\ncount={}\nnodes={}\n", q.dim, q.degree, q.count, q.nodes);
+    let mut text = if named { format!("rev={}\n", q.rev) } else { String::new() };
+    text += &format!("dim={}\ndegree={}\ncount={}\nnodes={}\n", q.dim, q.degree, q.count, q.nodes);
     text += &line_of(r, style, "resolution", &[q.resolution]);
     text += &line_of(r, style, "knots", &q.knots);
     for point in q.points.chunks(2 * (q.dim.clamp(2, 3) + 1)) {
@@ -174,6 +188,14 @@ fn fitting(r: &mut Rng) -> Question {
 fn lines_of(text: &[u8]) -> Vec<Vec<u8>> {
     text.split(|b| *b == b'\n').map(<[u8]>::to_vec).collect()
 }
+/// How many lines a text has before that of dim.
+fn before_dim(text: &[u8]) -> usize {
+    usize::from(text.starts_with(b"rev"))
+}
+/// The bytes of the lines up to that of count.
+fn head(text: &[u8]) -> usize {
+    lines_of(text).iter().take(3 + before_dim(text)).map(|l| l.len() + 1).sum::<usize>().min(text.len())
+}
 /// Bytes that stand in texts, or stand just beside those that do, and sometimes any byte.
 fn some_byte(r: &mut Rng) -> u8 {
     if r.one_in(4) { r.next() as u8 } else { r.of(b"0123456789abcdefABCDEF =\n\r\t-+./:@G`gxdegrcountbpkiszlm\0\x80") }
@@ -196,8 +218,11 @@ fn replace_value(r: &mut Rng, text: &mut Vec<u8>, value: &str) {
     }
     *text = lines.join(&b'\n');
 }
-/// Puts another number in one of the first four lines.
+/// Puts another number in one of the lines dim, degree, count and nodes, which are 0 to 3.
 fn replace_small(r: &mut Rng, text: &mut Vec<u8>, i: usize, change: impl Fn(&mut Rng, String) -> String) {
+    replace_in_line(r, text, before_dim(text) + i, change)
+}
+fn replace_in_line(r: &mut Rng, text: &mut Vec<u8>, i: usize, change: impl Fn(&mut Rng, String) -> String) {
     let mut lines = lines_of(text);
     let at = lines[i.min(lines.len() - 1)].iter().position(|b| *b == b'=');
     if let (true, Some(at)) = (i < lines.len(), at) {
@@ -242,18 +267,54 @@ fn lengthen(r: &mut Rng, text: &mut Vec<u8>) {
         _ => junk(r, many),
     };
     if r.one_in(4) {
-        let at = lines_of(text).iter().take(3).map(|l| l.len() + 1).sum::<usize>().min(text.len());
+        let at = head(text);
         text.splice(at..at, more);
     } else {
         text.extend(more);
     }
 }
-/// The names of the ways to damage a text.
-const DAMAGE: [&str; 22] = [
+/// The names of the ways to damage a text. The last one is about the revision.
+const DAMAGE: [&str; 23] = [
     "byte changed", "byte dropped", "byte doubled", "byte inserted", "line dropped", "line doubled", "lines swapped", "value too few", "value too many", "leading zeros",
     "small number", "upper-case key", "no last newline", "newline more", "spaces", "CR LF", "text after the end", "about 65,536", "sizes refused", "value replaced", "cut off",
-    "nodes",
+    "nodes", "revision",
 ];
+/// Another revision, or none of the form; a line more, or the line elsewhere; with all, nothing or junk behind it.
+fn spoil_revision(r: &mut Rng, text: &mut Vec<u8>) {
+    if before_dim(text) == 0 {
+        text.splice(0..0, *b"rev=1\n");
+    }
+    match r.below(8) {
+        0..4 => {
+            let known = r.of(&[
+                "0", "3", "3", "4", "10", "12", "20", "21", "257", "258", "999999999", "1000000000", "1000000002", "4294967298", "01", "02", "00", "", " 2", "2 ", "+2", "-1", "2.0",
+                "a", "1\r", "2 1",
+            ]);
+            let value = if r.one_in(4) { format!("{}", r.next() % 3_000_000_000) } else { known.into() };
+            replace_in_line(r, text, 0, |_, _| value.clone());
+        }
+        4 => drop(text.splice(0..0, r.of(&[&b"rev=1\n"[..], b"rev=2\n", b"rev=3\n", b"rev\n", b"rev=", b"\n"]).to_vec())),
+        5 => {
+            let (mut lines, by) = (lines_of(text), r.below(4));
+            let first = lines.remove(0);
+            lines.insert((1 + by).min(lines.len()), first);
+            *text = lines.join(&b'\n');
+        }
+        6 => text[..3].copy_from_slice(r.of(&[b"Rev", b"REV", b"rve", b"ref"])),
+        _ => {
+            let value = r.of(&["0", "3", "999999999"]);
+            replace_in_line(r, text, 0, |_, _| value.into());
+            let at = lines_of(text)[0].len() + 1;
+            let many = r.below(300);
+            match r.below(4) {
+                0 => text.truncate(at),
+                1 => text.truncate(at - 1),
+                2 => drop(text.splice(at.., junk(r, many))),
+                _ => lengthen(r, text),
+            }
+        }
+    }
+}
 fn damage(r: &mut Rng, text: &mut Vec<u8>, way: usize) {
     let at = r.below(text.len().max(1));
     let mut lines = lines_of(text);
@@ -346,8 +407,7 @@ fn damage(r: &mut Rng, text: &mut Vec<u8>, way: usize) {
         17 => lengthen(r, text),
         18 => {
             refuse_sizes(r, text);
-            let lines = lines_of(text);
-            let head = lines.iter().take(3).map(|l| l.len() + 1).sum::<usize>().min(text.len());
+            let head = head(text);
             let many = r.below(300);
             match r.below(4) {
                 0 => text.truncate(head),
@@ -373,22 +433,34 @@ fn damage(r: &mut Rng, text: &mut Vec<u8>, way: usize) {
         }
         20 => text.truncate(at),
         21 => replace_small(r, text, 3, |r, _| r.of(&["4096", "4097", "9999", "999999999", "0", "1", "2", "40", "428", "429"]).into()),
+        22 => spoil_revision(r, text),
         _ => {}
     }
 }
+/// The revisions of a text: one that names none, or either, where half of those of revision 1 name it.
+#[derive(Clone, Copy, PartialEq)]
+enum Named {
+    None,
+    Either,
+}
 /// A text, and the way in which it was damaged first.
-fn some_text(r: &mut Rng) -> (Vec<u8>, Option<usize>) {
-    let q = fitting(r);
-    let mut text = written(r, &q);
+fn some_text(r: &mut Rng, revisions: Named) -> (Vec<u8>, Option<usize>) {
+    let mut q = fitting(r);
+    let (mut named, mut ways) = (false, DAMAGE.len() - 1);
+    if revisions == Named::Either {
+        (q.rev, ways) = (1 + r.below(2), DAMAGE.len());
+        named = q.rev == 2 || r.one_in(2);
+    }
+    let mut text = written(r, &q, named);
     if !r.one_in(3) {
         return (text, None);
     }
-    let way = r.below(DAMAGE.len());
+    let way = r.below(ways);
     // Long texts take long to make.
     let way = if way == 17 && !r.one_in(4) { 18 } else { way };
     damage(r, &mut text, way);
     if r.one_in(5) {
-        let next = r.below(DAMAGE.len());
+        let next = r.below(ways);
         damage(r, &mut text, if next == 17 { 0 } else { next });
     }
     (text, Some(way))
@@ -396,10 +468,12 @@ fn some_text(r: &mut Rng) -> (Vec<u8>, Option<usize>) {
 
 // ---- the comparison
 
-const WORDS: [&str; 15] = [
+const WORDS: [&str; 16] = [
     "none", "enclosed", "spent", "refused-1", "refused-2", "refused-3", "refused-5", "refused-6", "refused-7", "refused-8", "refused-9", "refused-10", "refused-11",
-    "refused-12", "no answer (debug)",
+    "refused-12", "refused-16", "no answer (debug)",
 ];
+/// The number of words that a text can have for an answer.
+const ANSWERS: usize = WORDS.len() - 1;
 #[derive(Clone, Copy, Default)]
 struct Row {
     texts: u64,
@@ -421,7 +495,12 @@ impl Row {
     }
 }
 fn row_of(theirs: &Result<Expected, String>) -> usize {
-    theirs.as_ref().map_or(14, |e| WORDS.iter().position(|w| *w == e.word).unwrap_or(14))
+    theirs.as_ref().map_or(ANSWERS, |e| WORDS.iter().position(|w| *w == e.word).unwrap_or(ANSWERS))
+}
+/// Where a text is counted: with those of its revision, or with those that are refused by 12 or 16.
+fn table_of(text: &[u8], theirs: &Result<Expected, String>) -> usize {
+    let refused = theirs.as_ref().is_ok_and(|e| e.word == "refused-12" || e.word == "refused-16");
+    revision(text).filter(|_| !refused).map_or(2, |(rev, _)| rev - 1)
 }
 /// Asks both. No answer, as where an assertion of the Rust's debug build fires, is a difference.
 fn same(r: &mut Rng, text: &[u8], theirs: &Result<Expected, String>) -> bool {
@@ -450,17 +529,20 @@ fn show(text: &[u8]) {
     println!("the text, {} bytes:\n{}", text.len(), text[..most].escape_ascii().to_string().replace("\\n", "\n"));
 }
 fn compare(r: &mut Rng, total: u64) -> bool {
-    let (mut rows, mut ways) = ([Row::default(); 15], [[0u64; 2]; DAMAGE.len()]);
+    // Of texts in revision 1, in revision 2, and of those that are refused by 12 or 16.
+    let (mut rows, mut ways) = ([[Row::default(); WORDS.len()]; 3], [[0u64; 3]; DAMAGE.len()]);
     for _ in 0..total {
-        let (text, way) = some_text(r);
+        let (text, way) = some_text(r, Named::Either);
         let theirs = expected(&text);
         let same = same(r, &text, &theirs);
-        let row = &mut rows[row_of(&theirs)];
+        let row = &mut rows[table_of(&text, &theirs)][row_of(&theirs)];
         row.count(theirs.as_ref().ok());
         if let Some(way) = way {
+            let word = theirs.map_or(String::new(), |e| e.word);
             row.damaged += 1;
             ways[way][0] += 1;
-            ways[way][1] += theirs.is_ok_and(|e| e.word == "refused-12") as u64;
+            ways[way][1] += (word == "refused-12") as u64;
+            ways[way][2] += (word == "refused-16") as u64;
         }
         if !same {
             row.differ += 1;
@@ -469,15 +551,17 @@ fn compare(r: &mut Rng, total: u64) -> bool {
             }
         }
     }
-    println!("{:<18} {:>10} {:>10} {:>12} {:>8} {:>12} {:>8} {:>12}", "expected", "texts", "damaged", "visits", "most", "cuts", "deepest", "differences");
-    for (word, row) in WORDS.iter().zip(&rows) {
-        println!("{word:<18} {:>10} {:>10} {:>12} {:>8} {:>12} {:>8} {:>12}", row.texts, row.damaged, row.visits, row.most, row.cuts, row.deepest, row.differ);
+    for (name, rows) in ["revision 1", "revision 2", "of no revision"].iter().zip(&rows) {
+        println!("{name:<18} {:>10} {:>10} {:>12} {:>8} {:>12} {:>8} {:>12}", "texts", "damaged", "visits", "most", "cuts", "deepest", "differences");
+        for (word, row) in WORDS.iter().zip(rows).filter(|(_, row)| row.texts > 0) {
+            println!("{word:<18} {:>10} {:>10} {:>12} {:>8} {:>12} {:>8} {:>12}", row.texts, row.damaged, row.visits, row.most, row.cuts, row.deepest, row.differ);
+        }
     }
-    println!("{:<18} {:>10} {:>10}", "damaged", "texts", "refused-12");
-    for (way, [texts, refused]) in DAMAGE.iter().zip(&ways) {
-        println!("{way:<18} {texts:>10} {refused:>10}");
+    println!("{:<18} {:>10} {:>10} {:>10}", "damaged", "texts", "refused-12", "refused-16");
+    for (way, [texts, refused, other]) in DAMAGE.iter().zip(&ways) {
+        println!("{way:<18} {texts:>10} {refused:>10} {other:>10}");
     }
-    let differ: u64 = rows.iter().map(|row| row.differ).sum();
+    let differ: u64 = rows.iter().flatten().map(|row| row.differ).sum();
     println!("{total} compared, {differ} differ");
     differ == 0
 }
@@ -485,11 +569,14 @@ fn compare(r: &mut Rng, total: u64) -> bool {
 // ---- stored answers
 
 /// How many texts are stored of each result word; of the first three, for each degree and each dim. Beside these, so many of over 100 visits.
-const STORED: [usize; 14] = [12, 22, 12, 20, 20, 20, 23, 23, 23, 23, 23, 23, 36, 60];
-const LONG: usize = 30;
-/// Which number of `STORED` a text counts for, and its band of visits: to 1, to 5, to 19, to 59, or more.
+type Wanted = ([usize; ANSWERS], usize);
+/// Of those that name no revision.
+const PLAIN: Wanted = ([12, 22, 12, 20, 20, 20, 23, 23, 23, 23, 23, 23, 36, 60, 0], 30);
+/// Of those that name one: of the first three and of refusal 11 just those of revision 2.
+const NAMED: Wanted = ([4, 7, 4, 4, 4, 4, 4, 4, 4, 4, 4, 4, 12, 30, 20], 10);
+/// Which number of `Wanted` a text counts for, and its band of visits: to 1, to 5, to 19, to 59, or more.
 fn cell_of(word: usize, text: &[u8], visited: u64) -> (usize, usize) {
-    let [dim, degree, _] = sizes(text).unwrap_or_default();
+    let [dim, degree, _] = revision(text).and_then(|(_, rest)| sizes(rest)).unwrap_or_default();
     let band = [1, 5, 19, 59].iter().filter(|&&v| visited > v).count();
     if word < 3 { (1 + word + 3 * (dim + 4 * degree), band) } else { (1000 + word, 0) }
 }
@@ -499,56 +586,74 @@ fn chosen_texts() -> Vec<Vec<u8>> {
     let texts = parts.map(|part| part.lines().filter(|l| !l.starts_with('#')).flat_map(|l| [l, "\n"]).collect::<String>());
     texts.filter(|text| !text.is_empty()).map(String::into_bytes).collect()
 }
-/// Chooses texts and writes them, and those of chosen.txt, with their answers: data/00 and so on, args, stdout.
-fn store(r: &mut Rng, folder: &str) -> std::io::Result<bool> {
-    let mut cells = std::collections::BTreeMap::<usize, [usize; 5]>::new();
-    let (mut chosen, mut rows, mut made, mut long, mut right) = (Vec::new(), [Row::default(); 15], 0, 0, true);
-    let wanted: usize = LONG + STORED.iter().enumerate().map(|(i, n)| if i < 3 { 16 * n } else { *n }).sum::<usize>();
-    while chosen.len() < wanted && made < 1_000_000 {
-        made += 1;
-        let (mut text, _) = some_text(r);
-        if let (true, Ok(q)) = (r.one_in(3), asked(&text)) {
-            replace_small(r, &mut text, 3, |_, _| most_nodes(&q).to_string());
-        }
-        if text.contains(&0) || text.len() > if r.one_in(8) { 6000 } else { 1600 } {
-            continue;
-        }
-        let theirs = expected(&text);
-        let word = row_of(&theirs);
-        let Ok(answer) = theirs.as_ref() else { continue };
-        let (cell, band) = cell_of(word, &text, answer.visited);
-        let taken = cells.entry(cell).or_default();
-        // At first each band of visits has its own share; then what is left goes to any.
-        let share = if word < 3 && made < 300_000 { STORED[word].div_ceil(5) } else { STORED[word] };
-        if answer.visited > 100 && long < LONG {
-            long += 1;
-        } else if taken.iter().sum::<usize>() >= STORED[word] || taken[band] >= share {
-            continue;
-        } else {
-            taken[band] += 1;
-        }
-        if !same(r, &text, &theirs) {
-            show(&text);
-            right = false;
-        }
-        rows[word].count(Some(answer));
-        chosen.push((text, answer.lines.clone()));
-    }
-    for i in (1..chosen.len()).rev() {
-        chosen.swap(i, r.below(i + 1));
-    }
-    right &= chosen.len() == wanted;
-    for text in chosen_texts() {
+/// What is stored: texts with their answers, a row for each result word, how many texts were made for it, and whether the port gives all of the answers.
+struct Stored {
+    texts: Vec<(Vec<u8>, String)>,
+    rows: [Row; WORDS.len()],
+    made: usize,
+    right: bool,
+}
+impl Stored {
+    /// A text goes in, where there is an answer; it is wrong where there is none, or the port gives another.
+    fn put(&mut self, r: &mut Rng, text: Vec<u8>) {
         let theirs = expected(&text);
         if !same(r, &text, &theirs) || theirs.is_err() {
             show(&text);
-            right = false;
+            self.right = false;
         }
         if let Ok(answer) = &theirs {
-            rows[row_of(&theirs)].count(Some(answer));
-            chosen.push((text, answer.lines.clone()));
+            self.rows[row_of(&theirs)].count(Some(answer));
+            self.texts.push((text, answer.lines.clone()));
         }
     }
+    /// Random texts, in random order.
+    fn choose(&mut self, r: &mut Rng, revisions: Named, (stored, longest): Wanted) {
+        let mut cells = std::collections::BTreeMap::<usize, [usize; 5]>::new();
+        let (first, mut made, mut long) = (self.texts.len(), 0, 0);
+        let wanted = first + longest + stored.iter().enumerate().map(|(i, n)| if i < 3 { 16 * n } else { *n }).sum::<usize>();
+        while self.texts.len() < wanted && made < 1_000_000 {
+            made += 1;
+            let (mut text, _) = some_text(r, revisions);
+            if let (true, Ok(q)) = (r.one_in(3), asked(&text)) {
+                replace_small(r, &mut text, 3, |_, _| most_nodes(&q).to_string());
+            }
+            if text.contains(&0) || text.len() > if r.one_in(8) { 6000 } else { 1600 } {
+                continue;
+            }
+            let theirs = expected(&text);
+            let word = row_of(&theirs);
+            let Ok(answer) = theirs.as_ref() else { continue };
+            let searched = word < 3 || WORDS[word] == "refused-11";
+            if revisions == Named::Either && !text.starts_with(if searched { b"rev=2" } else { b"rev" }) {
+                continue;
+            }
+            let (cell, band) = cell_of(word, &text, answer.visited);
+            let taken = cells.entry(cell).or_default();
+            // At first each band of visits has its own share; then what is left goes to any.
+            let share = if word < 3 && made < 300_000 { stored[word].div_ceil(5) } else { stored[word] };
+            if answer.visited > 100 && long < longest {
+                long += 1;
+            } else if taken.iter().sum::<usize>() >= stored[word] || taken[band] >= share {
+                continue;
+            } else {
+                taken[band] += 1;
+            }
+            self.put(r, text);
+        }
+        for i in (1..self.texts.len() - first).rev() {
+            self.texts.swap(first + i, first + r.below(i + 1));
+        }
+        self.made += made;
+        self.right &= self.texts.len() == wanted;
+    }
+}
+/// Chooses texts and writes them, and those of chosen.txt, with their answers: data/00 and so on, args, stdout.
+fn store(r: &mut Rng, folder: &str) -> std::io::Result<bool> {
+    let mut all = Stored { texts: Vec::new(), rows: [Row::default(); WORDS.len()], made: 0, right: true };
+    all.choose(r, Named::None, PLAIN);
+    chosen_texts().into_iter().for_each(|text| all.put(r, text));
+    all.choose(r, Named::Either, NAMED);
+    let Stored { texts: chosen, rows, made, right } = all;
     let mut files: Vec<(Vec<u8>, usize)> = vec![(Vec::new(), 0)];
     for (text, _) in &chosen {
         if files.last().is_some_and(|(bytes, many)| bytes.len() + text.len() >= 65_000 || *many >= 60) {
@@ -567,7 +672,7 @@ fn store(r: &mut Rng, folder: &str) -> std::io::Result<bool> {
     std::fs::write(format!("{folder}/args"), (0..files.len()).map(|i| format!("{i:02}\n")).collect::<String>())?;
     std::fs::write(format!("{folder}/stdout"), chosen.iter().map(|(_, lines)| lines.as_str()).collect::<String>())?;
     println!("{:<18} {:>10} {:>12} {:>8} {:>12} {:>8}", "stored", "texts", "visits", "most", "cuts", "deepest");
-    for (word, row) in WORDS.iter().zip(&rows).take(14) {
+    for (word, row) in WORDS.iter().zip(&rows).take(ANSWERS) {
         println!("{word:<18} {:>10} {:>12} {:>8} {:>12} {:>8}", row.texts, row.visits, row.most, row.cuts, row.deepest);
     }
     let bytes: usize = files.iter().map(|(bytes, _)| bytes.len()).sum();
