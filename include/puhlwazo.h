@@ -1,7 +1,7 @@
 /* The search of libpuhlwazo.a, for C and C++ on x86-64: does a taught path pass through a box, and between which two parameters?
  *
  * docs/LINKING.md leads through it. The library calls nothing but memcpy and memset, takes no memory of its own and keeps nothing between two calls: several
- * threads may call it at once, each with its own work area and answer. A call takes less than 4 KB of stack, the first one a few more where the dynamic linker
+ * threads may call it at once, each with its own work area and answer. A call takes less than 5 KB of stack, the first one a few more where the dynamic linker
  * binds memset in it (some 6 KB in all were seen; the linker's share depends on the processor).
  *
  * What the pointers must be, in every call:

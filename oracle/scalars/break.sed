@@ -22,8 +22,8 @@
 /fn ours_times/,/^}/ s/\.times(/.add(/
 /fn ours_div/,/^}/ s/put_divided(\(.*\)\.div(\(.*\), false), out)/put(\1.mul(\2.inverse(), false), out);\n    true/
 /fn ours_over/,/^}/ s/\.over(.*, out)/.upper(), out)/
-/fn ours_quotient/,/^}/ s/\.widen(false)/.widen(true)/
-/fn ours_difference/,/^}/ s/\.widen(false)/.widen(true)/
+/fn ours_quotient/,/^}/ s/hi: bh/hi: bl/
+/fn ours_difference/,/^}/ s/hi: bh/hi: bl/
 /fn ours_join/,/^}/ s/r\.lo, hi: r\.hi/r.lo, hi: ah/
 /fn ours_intersect/,/^}/ s/\.intersect(/.union(/
 /fn ours_union/,/^}/ s/\.union(/.intersect(/
@@ -47,7 +47,4 @@
 /fn second_mul/,/^}/ s/true/false/
 /fn second_times/,/^}/ s/true/false/
 /fn second_div/,/^}/ s/, true), out)/, false), out)/
-/fn second_over/,/^}/ s/true/false/g
-/fn second_quotient/,/^}/ s/true/false/g
-/fn second_difference/,/^}/ s/true/false/g
 /fn second_interpolate/,/^}/ s/true/false/

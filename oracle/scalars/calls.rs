@@ -137,8 +137,6 @@ calls! {
     second_div swapped_div(al: f64, ah: f64, bl: f64, bh: f64, out: &mut Out) -> bool {
         w(al, ah).div(w(bl, bh)).map(|r| put_swapped(r, out)).is_ok()
     }
-    second_over swapped_over(al: f64, ah: f64, bl: f64, bh: f64, out: &mut Out) { put_swapped(w(al, ah).div(w(bl, bh)).unwrap_or(Swapped::ENTIRE), out) }
-    second_quotient swapped_quotient(al: f64, ah: f64, bl: f64, bh: f64, out: &mut Out) { put_swapped(w(al, ah).div(w(bl, bh)).unwrap_or(Swapped::ENTIRE), out) }
     second_interpolate swapped_interpolate(al: f64, ah: f64, bl: f64, bh: f64, cl: f64, ch: f64, out: &mut Out) {
         put_swapped(Swapped::interpolate(w(al, ah), w(bl, bh), w(cl, ch)), out)
     }
@@ -162,7 +160,6 @@ methods! {
     second_sub swapped_sub sub
     second_mul swapped_mul mul
     second_times swapped_times mul
-    second_difference swapped_difference sub
 }
 
 directed! {

@@ -85,9 +85,6 @@ fn operations() -> Vec<Operation> {
         Intervals S4 "mul 2" second_mul swapped_mul;
         Intervals S4 "times 2" second_times swapped_times;
         Intervals R4 "div 2" second_div swapped_div;
-        Intervals S4 "over 2" second_over swapped_over;
-        Intervals S4 "Bounds::over 2" second_quotient swapped_quotient;
-        Intervals S4 "Bounds::difference 2" second_difference swapped_difference;
         Intervals S4 "intersect" ours_intersect rust_intersect;
         Intervals S4 "union" ours_union rust_union;
         Intervals S4 "Bounds::join" ours_join rust_join;
