@@ -5,7 +5,8 @@ ghost use lib.ListN.{length};
 ghost use Rattle.model.specs.Call.{lent};
 ghost use Rattle.clear.specs.Clear.{Clears};
 
-// The search has shown, in the revision that is named, that the curve meets the box at no parameter t of its domain, a rational number, both ends included. A search that was refused or spent has shown nothing.
+// The search has shown, in the revision that is named, that the curve meets the box at no parameter t of its domain, a
+// rational number, both ends included. A search that was refused or spent has shown nothing.
 pub fn is_clear(
     rev: usize,
     dim: usize,

@@ -41,7 +41,8 @@ fn divisor_of(w: Scalar, last: Divisor) -> Divisor
     Divisor::of(w)
 }
 
-// The box of a piece along axis k in revision 1: the union over its points, which is widened once, since neighbours keep the order of numbers.
+// The box of a piece along axis k in revision 1: the union over its points, which is widened once, since neighbours
+// keep the order of numbers.
 fn axis_box_wide(points: &[f64], dim: usize, count: usize, k: usize) -> Scalar
     requires { ⌜ (dim ≤ 3) × (1 ≤ count) × (count ≤ 32) × (k < dim) × (2 * (suc dim * count) ≤ length (now points)) ⌝ }
     ensures { λ r. ⌜ r ≡ unions (map (λ q. place geop dim k q) (pointsOf (suc dim) count (now (points .entry)))) ⌝ }

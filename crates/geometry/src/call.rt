@@ -1,5 +1,5 @@
-// What a call may lend: the check 16 of request E8 and 1 to 10 of the scope, each equal to its definition. 16 looks at the revision, 1 to 3 at the sizes, 1 to 8 at a curve,
-// 9 and 10 at the nodes and the work area.
+// What a call may lend: the check 16 of request E8 and 1 to 10 of the scope, each equal to its definition. 16 looks at
+// the revision, 1 to 3 at the sizes, 1 to 8 at a curve, 9 and 10 at the nodes and the work area.
 use crate::nurb_curve::weights_positive;
 ghost use mathlib.Core.Path.{_≡_};
 ghost use Prim.Native.Nat.{suc, max, _+_, _*_, _≤_, _<_};

@@ -67,7 +67,8 @@ pub(crate) fn split_mid(
     ensures { λ r.
         let old = now (work .entry) in
         let c = pieceAt s old src in
-        ⌜ SplitAt (arithmetic second) s old (now (work .exit)) left right (midParameter (arithmetic second) (start (s .degree) c) (end c)) c r ⌝ }
+        ⌜ SplitAt (arithmetic second) s old (now (work .exit)) left right
+        (midParameter (arithmetic second) (start (s .degree) c) (end c)) c r ⌝ }
 {
     let n = count_at(work, src);
     let first = knots_from(src);

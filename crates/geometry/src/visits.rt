@@ -277,7 +277,8 @@ fn plan_in(
     resolution: f64,
     second: bool,
 ) -> Plan
-    requires { ⌜ Held s (now work) base × Fit (arithmetic second) s (pieceAt s (now work) base) × (2 * s .dim ≤ length (now «point_box»)) ⌝ }
+    requires { ⌜ Held s (now work) base × Fit (arithmetic second) s (pieceAt s (now work) base)
+        × (2 * s .dim ≤ length (now «point_box»)) ⌝ }
     ensures { λ r.
         let box = now («point_box» .entry) in
         ⌜ r ≡ planned (arithmetic second) (s .dim) (s .degree) (scalarsOf (s .dim) box) resolution
@@ -366,7 +367,8 @@ pub(crate) fn visit(
     resolution: f64,
     second: bool,
 ) -> Outcome
-    requires { ⌜ Held s (now work) base × Fit (arithmetic second) s (pieceAt s (now work) base) × (2 * s .dim ≤ length (now «point_box»)) ⌝ }
+    requires { ⌜ Held s (now work) base × Fit (arithmetic second) s (pieceAt s (now work) base)
+        × (2 * s .dim ≤ length (now «point_box»)) ⌝ }
     requires { ⌜ Inside s (now work) a × Inside s (now work) b × Apart s base a × Apart s base b × Apart s a b ⌝ }
     ensures { λ r.
         let old = now (work .entry) in

@@ -101,8 +101,8 @@ fn end(l: Line) -> Hat
     sloped_zeros(s, l.x0, l.y0, l.last, l.band, l.second)
 }
 
-// Where the spline could be zero whose graph has the control polygon (xi i, d i), in a revision: anywhere, if the slices are no polygon, or the
-// revision is neither 1 nor 2.
+// Where the spline could be zero whose graph has the control polygon (xi i, d i), in a revision: anywhere, if the
+// slices are no polygon, or the revision is neither 1 nor 2.
 pub fn fat_line_zeros(rev: usize, xi: &[Scalar], d: &[Scalar]) -> Hat
     ensures { λ r. ⌜ ZerosFound rev (now (xi .entry)) (now (d .entry)) r ⌝ }
 {

@@ -1,6 +1,7 @@
-// Revision 1: bounds that are not widened yet, and divisors that are at hand. Where many intervals are joined, each bound is widened once, at the end. (In revision 2
-// a bound is rounded outward when it is made: two exact bounds may round to one double, and only one of them may have to move.)
-// A function's promise names the definition that it equals, in specs/, for every operand, NaN and the infinities included.
+// Revision 1: bounds that are not widened yet, and divisors that are at hand. Where many intervals are joined, each
+// bound is widened once, at the end. (In revision 2 a bound is rounded outward when it is made: two exact bounds may
+// round to one double, and only one of them may have to move.) A function's promise names the definition that it
+// equals, in specs/, for every operand, NaN and the infinities included.
 use crate::floats::greater;
 use crate::floats::lesser;
 use crate::floats::max;

@@ -1,4 +1,5 @@
-// How a product of two sizes compares with a third, exactly, in whole numbers. Powers of two: 2^26 is 0x400_0000, 2^52 is 0x10_0000_0000_0000.
+// How a product of two sizes compares with a third, exactly, in whole numbers. Powers of two: 2^26 is 0x400_0000, 2^52
+// is 0x10_0000_0000_0000.
 ghost use mathlib.Core.Path.{_≡_};
 ghost use Prim.Native.Nat.{_+_, _*_, _^_, _≤_, _<_};
 ghost use Rattle.math.specs.Digits.{digitsOf, shiftOf, sizeOf, sideOf, isPast, isNear};

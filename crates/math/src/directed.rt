@@ -34,7 +34,8 @@ fn is_ordinary(b: u64) -> bool
     0 < m && m < 0x7ff0_0000_0000_0000
 }
 
-// x, or the f64 before it where `outward` says so: for an ordinary number by a sum, since neither that nor the sign can be foreseen. The bits go one down above zero, and one up below it.
+// x, or the f64 before it where `outward` says so: for an ordinary number by a sum, since neither that nor the sign can
+// be foreseen. The bits go one down above zero, and one up below it.
 fn stepped(x: f64, outward: bool) -> f64
     ensures { λ r. ⌜ r ≡ cond outward (nextDown x) x ⌝ }
 {
@@ -90,7 +91,8 @@ fn magnitude(x: f64) -> u64
     f64::to_bits(x) % 0x8000_0000_0000_0000
 }
 
-// A product p of two finite factors, rounded to the nearest, lies above a b: its size is more than that of a b where it is positive, and less where it is negative.
+// A product p of two finite factors, rounded to the nearest, lies above a b: its size is more than that of a b where it
+// is positive, and less where it is negative.
 fn above_product(a: f64, b: f64, p: f64) -> bool
     requires { ⌜ (isFinite a ≡ true) × (isFinite b ≡ true) × (p ≡ mul binary64 a b) ⌝ }
     ensures { λ r. ⌜ r ≡ exceeds p (value a *ℚ value b) ⌝ }
@@ -156,7 +158,8 @@ pub fn product_up(a: f64, b: f64) -> f64
     -product_down(-a, b)
 }
 
-// A quotient q of two finite numbers, rounded to the nearest, lies above a / b: its product with b is too large where it is positive, and too small where it is negative.
+// A quotient q of two finite numbers, rounded to the nearest, lies above a / b: its product with b is too large where
+// it is positive, and too small where it is negative.
 fn above_quotient(a: f64, b: f64, q: f64) -> bool
     requires { ⌜ (isFinite a ≡ true) × (isFinite b ≡ true) × (isZero b ≡ false) × (q ≡ div binary64 a b) ⌝ }
     ensures { λ r. ⌜ r ≡ exceeds q (value a *ℚ invℚ (value b)) ⌝ }

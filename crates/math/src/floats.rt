@@ -6,7 +6,8 @@ ghost use lib.Ieee.{isNan};
 ghost use Rattle.math.specs.Neighbours.{nextUp, nextDown};
 ghost use Rattle.math.specs.Picks.{lesserF, greaterF, minF, maxF};
 
-// The neighbouring f64 above a number: 2^-1074 from either zero; the positive infinity stays. The bits go one up from zero on, and one down below it.
+// The neighbouring f64 above a number: 2^-1074 from either zero; the positive infinity stays. The bits go one up from
+// zero on, and one down below it.
 pub(crate) fn up(x: f64) -> f64
     requires { ⌜ isNan x ≡ false ⌝ }
     ensures { λ r. ⌜ r ≡ nextUp x ⌝ }

@@ -1,5 +1,6 @@
-// Intervals of f64, rounded outward: what the search needs of geop-core-math's scalars/mod.rs, under its names. An operation that rounds is told the revision:
-// `second` says that it is revision 2, the tightest, and else it is the Rust's.
+// Intervals of f64, rounded outward: what the search needs of geop-core-math's scalars/mod.rs, under its names. An
+// operation that rounds is told the revision: `second` says that it is revision 2, the tightest, and else it is the
+// Rust's.
 // A function's promise names the definition that it equals, in specs/, for every operand, NaN and the infinities included.
 use crate::bounds::Bounds;
 use crate::bounds::Divisor;
@@ -346,7 +347,8 @@ impl Scalar {
         }
     }
 
-    // The bounds of the product in revision 1 before they are widened: picked from two products, not from four, where the other operand is a factor and this one is in order.
+    // The bounds of the product in revision 1 before they are widened: picked from two products, not from four, where
+    // the other operand is a factor and this one is in order.
     fn corners(self, other: Scalar) -> Bounds
         ensures { λ r. ⌜ Corners self other r ⌝ }
     {
