@@ -1,7 +1,8 @@
 //! What a question is to be answered with: the refusals 16 and 1 to 10 of the scope, and else what `curve_could_contain` says: that of the Rust in
 //! revision 1, and that of the test program in revision 2.
-//! The comparisons of the search and of whole texts share it; `questions` is a module of theirs.
-use crate::questions::{MOST, Question, stated};
+//! The comparisons of the search and of whole texts share it; `questions` and `refusals` are modules of theirs.
+use crate::questions::Question;
+use crate::refusals::refusal;
 use std::panic::set_hook;
 use std::sync::atomic::{AtomicBool, Ordering::Relaxed};
 
@@ -16,46 +17,6 @@ mod second {
 
 /// An answer: its kind (0 nothing, 1 enclosed, 2 spent, 3 refused), pending, visited, the number of the refusal, the bits of lo and hi, cuts, and depth.
 pub type Answer = [u64; 8];
-
-/// The number, 16 or from 1 to 10, by which the scope refuses a question, or 0.
-pub fn refusal(q: &Question) -> u64 {
-    let mut numbers = q.knots.iter().chain(&q.points).chain(&q.cell).chain([&q.resolution]);
-    let mut intervals = q.points.chunks(2).chain(q.cell.chunks(2));
-    if q.rev != 1 && q.rev != 2 {
-        16
-    } else if q.dim != 2 && q.dim != 3 {
-        1
-    } else if q.degree > 7 {
-        2
-    } else if q.count < q.degree + 1 || q.count > 32 {
-        3
-    } else if q.knots.len() != q.count + q.degree + 1 || q.points.len() != 2 * (q.dim + 1) * q.count || q.cell.len() != 2 * q.dim {
-        4
-    } else if numbers.any(|x| x.is_nan() || x.abs() > MOST) || q.resolution < 0.0 {
-        5
-    } else if intervals.any(|c| c[0] > c[1]) {
-        6
-    } else if q.points.chunks(2 * (q.dim + 1)).any(|p| p[2 * q.dim] <= 0.0) {
-        7
-    } else if knots_wrong(q) {
-        8
-    } else if q.nodes > 4096 {
-        9
-    } else if q.room < stated(q) {
-        10
-    } else {
-        0
-    }
-}
-fn knots_wrong(q: &Question) -> bool {
-    let (start, end) = (q.knots[q.degree], q.knots[q.count]);
-    let times = |u: f64| q.knots.iter().filter(|v| **v == u).count();
-    q.knots.windows(2).any(|w| w[0] > w[1])
-        || start >= end
-        || times(start) > q.degree + 1
-        || times(end) > q.degree + 1
-        || q.knots.iter().any(|&u| start < u && u < end && times(u) > q.degree.max(1))
-}
 
 /// The Rust is being asked: its panics are answers, and say nothing.
 static ASKING: AtomicBool = AtomicBool::new(false);

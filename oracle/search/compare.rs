@@ -6,9 +6,12 @@ mod answers;
 mod questions;
 #[path = "../rust/random.rs"]
 mod random;
-use answers::{Answer, expected, hush, refusal};
+#[path = "../rust/refusals.rs"]
+mod refusals;
+use answers::{Answer, expected, hush};
 use questions::{Question, extreme, other_revision, question, stated};
 use random::Rng;
+use refusals::refusal;
 
 unsafe extern "C" {
     fn puhlwazo_curve_could_contain(

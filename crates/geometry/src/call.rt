@@ -11,7 +11,7 @@ ghost use Rattle.lists.specs.Lists.{all};
 ghost use Rattle.math.specs.Scalars.{zeroF};
 ghost use Rattle.model.specs.Layout.{scalarsOf, slotWords};
 ghost use Rattle.model.specs.Call.{AllDoubles, curveOf, lent, usable, ordered, rising, multiplicityOk, knotsValid, nodesFit, revisionFits, revisionRefusal, sizesRefusal, statedWords};
-ghost use Rattle.geometry.specs.Call.{CurveRefused, CallRefused};
+ghost use Rattle.geometry.specs.Call.{CurveRefused, QuestionRefused, CallRefused};
 ghost use Rattle.geometry.specs.Multiplicity.{repeatsAt, multiplicityOkAt};
 
 // A number, and at most 2^100 in size.
@@ -319,8 +319,8 @@ pub fn stated_words(dim: usize, degree: usize, count: usize, nodes: usize) -> us
     (nodes + 3) * slot_words(dim, degree, count)
 }
 
-// The number by which a call is refused, or 0: 16, then 1 to 10.
-pub(crate) fn refusal(
+// The number by which a question is refused, whatever is lent to search it, or 0: 16, then 1 to 9.
+pub fn question_refusal(
     rev: usize,
     dim: usize,
     degree: usize,
@@ -330,11 +330,10 @@ pub(crate) fn refusal(
     point_box: &[f64],
     resolution: f64,
     nodes: usize,
-    work_len: usize,
 ) -> usize
     ensures { λ r.
-        let k = now (knots .entry) in let p = now (points .entry) in let b = now («point_box» .entry) in
-        ⌜ CallRefused (lent rev dim degree count k p b resolution nodes «work_len») r ⌝ }
+        let v = curveOf dim degree count (now (knots .entry)) (now (points .entry)) in
+        ⌜ QuestionRefused rev v (now («point_box» .entry)) resolution nodes r ⌝ }
 {
     let first = revision_refusal(rev);
     if first != 0 {
@@ -355,6 +354,40 @@ pub(crate) fn refusal(
     }
     if !nodes_fit(nodes) {
         return 9;
+    }
+    0
+}
+
+// The number by which a call is refused, or 0: that of its question, then 10.
+pub(crate) fn refusal(
+    rev: usize,
+    dim: usize,
+    degree: usize,
+    count: usize,
+    knots: &[f64],
+    points: &[f64],
+    point_box: &[f64],
+    resolution: f64,
+    nodes: usize,
+    work_len: usize,
+) -> usize
+    ensures { λ r.
+        let k = now (knots .entry) in let p = now (points .entry) in let b = now («point_box» .entry) in
+        ⌜ CallRefused (lent rev dim degree count k p b resolution nodes «work_len») r ⌝ }
+{
+    let number = question_refusal(
+        rev,
+        dim,
+        degree,
+        count,
+        knots,
+        points,
+        point_box,
+        resolution,
+        nodes,
+    );
+    if number != 0 {
+        return number;
     }
     if stated_words(dim, degree, count, nodes) > work_len {
         return 10;

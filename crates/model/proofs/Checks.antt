@@ -3,15 +3,15 @@ use mathlib.Core.Path.{_≡_, refl, sym, ap, _∙_, subst}
 use mathlib.Core.Bool.{Bool, true, false, cond, _&&_}
 use mathlib.Core.Logic.{inl, inr}
 use mathlib.Core.List.{List, [], _∷_}
-use Prim.Native.Nat.{ℕ, zero, suc, _+_, _*_, _≤_, _<_}
-use native.Mathlib.Nat.{le-trans, mul-le-mul-left, mul-le-mul-right}
+use Prim.Native.Nat.{ℕ, zero, suc, _+_, _≤_, _<_}
+use native.Mathlib.Nat.{mul-le-mul-right}
 use native.Mathlib.Omega.{arith}
 use lib.Dec.{T, leb, eqb, leb→le, eqb→eq}
 use borrow.Author.Tests.{eq-eqb, ne-eqb}
 use lib.Ieee.{Float}
 use lib.Ieee.Bits.{is-true}
 use Rattle.math.proofs.Bools.{and-l, and-r, or-split}
-use Rattle.model.specs.Call.{Curve, Call, curveOf, dimFits, degreeFits, countFits, lengthsFit, numbersUsable, boundsOrdered, weightsFit, knotsFit, nodesFit, stated, areaFits, firstFailed, orElse, revisionFits, revisionRefusal, sizesRefusal, curveRefusal, refusal, statedWords}
+use Rattle.model.specs.Call.{Curve, Call, curveOf, dimFits, degreeFits, countFits, lengthsFit, numbersUsable, boundsOrdered, weightsFit, knotsFit, nodesFit, stated, areaFits, firstFailed, orElse, revisionFits, revisionRefusal, sizesRefusal, curveRefusal, questionRefusal, refusal, statedWords}
 use Rattle.model.specs.Layout.{slotWords, areaWords}
 use Rattle.model.specs.Enclosure.{Every}
 
@@ -124,34 +124,48 @@ pub revision-passes : (rev : ℕ) → revisionRefusal rev ≡ 0 → T (revisionF
 unfolding revisionRefusal
 revision-passes rev e = passed rev 15 (revisionFits ∷ []) e .0
 
+-- What 16 and 1 to 9 ask.
+pub record QuestionPasses (rev : ℕ) (v : Curve) (box : List Float) (resolution : Float) (nodes : ℕ) : Type 0 where
+  pub rev-known : T (revisionFits rev)
+  pub curve : CurvePasses (v .dim) box resolution v
+  pub nodes-few : T (nodesFit nodes)
+
+pub question-passes : (rev : ℕ) (v : Curve) (box : List Float) (resolution : Float) (nodes : ℕ) → questionRefusal rev v box resolution nodes ≡ 0 → QuestionPasses rev v box resolution nodes
+unfolding questionRefusal
+question-passes rev v box resolution nodes e =
+    let y = else-none _ _ e in
+    let z = else-none _ _ (y .1) in
+    record { rev-known = revision-passes rev (y .0); curve = curve-passes _ _ _ _ (z .0); nodes-few = passed nodes 8 (nodesFit ∷ []) (z .1) .0 }
+
+pub question-sizes : (rev : ℕ) (v : Curve) (box : List Float) (resolution : Float) (nodes : ℕ) → questionRefusal rev v box resolution nodes ≡ 0 → sizesRefusal (v .dim) (v .degree) (v .count) ≡ 0
+unfolding questionRefusal curveRefusal
+question-sizes rev v box resolution nodes e = else-none _ _ (else-none _ _ (else-none _ _ e .1) .0) .0
+
 -- What 16 and 1 to 10 ask.
 pub record CallPasses (c : Call) : Type 0 where
-  pub rev : T (revisionFits (c .rev))
-  pub curve : CurvePasses (c .curve .dim) (c .box) (c .resolution) (c .curve)
-  pub nodes : T (nodesFit (c .nodes))
+  pub question : QuestionPasses (c .rev) (c .curve) (c .box) (c .resolution) (c .nodes)
   pub area : T (areaFits c)
 
 pub call-passes : (c : Call) → refusal c ≡ 0 → CallPasses c
 unfolding refusal
 call-passes c e =
-    let y = else-none _ _ e in
-    let z = else-none _ _ (y .1) in
-    let h = passed c 8 ((λ c. nodesFit (c .nodes)) ∷ areaFits ∷ []) (z .1) in
-    record { rev = revision-passes (c .rev) (y .0); curve = curve-passes _ _ _ _ (z .0); nodes = h .0; area = h .1 .0 }
+    let z = else-none _ _ e in
+    record { question = question-passes _ _ _ _ _ (z .0); area = passed c 9 (areaFits ∷ []) (z .1) .0 }
 
 -- A call with other nodes and another work area is accepted if the curve is, and 9 and 10 are passed.
 pub accepted-by : (c : Call) → revisionRefusal (c .rev) ≡ 0 → curveRefusal (c .curve .dim) (c .box) (c .resolution) (c .curve) ≡ 0 → T (nodesFit (c .nodes)) → T (areaFits c) → refusal c ≡ 0
-unfolding refusal
-accepted-by c r e n a = else-left _ _ r ∙ else-left _ _ e ∙ none-failed c 9 ((λ c. nodesFit (c .nodes)) ∷ areaFits ∷ []) (n, (a, tt))
+unfolding refusal questionRefusal
+accepted-by c r e n a =
+    else-left _ _ (else-left _ _ r ∙ else-left _ _ e ∙ none-failed (c .nodes) 9 (nodesFit ∷ []) (n, tt)) ∙ none-failed c 10 (areaFits ∷ []) (a, tt)
 
 -- The revision and the curve of an accepted call are not refused, and neither are the sizes of such a curve.
 pub revision-accepted : (c : Call) → refusal c ≡ 0 → revisionRefusal (c .rev) ≡ 0
-unfolding refusal
-revision-accepted c e = else-none _ _ e .0
+unfolding refusal questionRefusal
+revision-accepted c e = else-none _ _ (else-none _ _ e .0) .0
 
 pub curve-accepted : (c : Call) → refusal c ≡ 0 → curveRefusal (c .curve .dim) (c .box) (c .resolution) (c .curve) ≡ 0
-unfolding refusal
-curve-accepted c e = else-none _ _ (else-none _ _ e .1) .0
+unfolding refusal questionRefusal
+curve-accepted c e = else-none _ _ (else-none _ _ (else-none _ _ e .0) .1) .0
 
 pub sizes-accepted : (sides : ℕ) (box : List Float) (resolution : Float) (v : Curve) → curveRefusal sides box resolution v ≡ 0 → sizesRefusal (v .dim) (v .degree) (v .count) ≡ 0
 unfolding curveRefusal
@@ -188,4 +202,4 @@ some-words d p n k e f = omega (arith, stated-words d p n k e f, mul-le-mul-righ
 -- A call that is accepted states as many.
 pub stated-is : (c : Call) → refusal c ≡ 0 → statedWords (c .curve .dim) (c .curve .degree) (c .curve .count) (c .nodes) ≡ stated c
 unfolding stated
-stated-is c e = stated-words _ _ _ _ (sizes-accepted _ _ _ _ (curve-accepted c e)) (is-true _ (call-passes c e .nodes))
+stated-is c e = stated-words _ _ _ _ (sizes-accepted _ _ _ _ (curve-accepted c e)) (is-true _ (call-passes c e .question .nodes-few))

@@ -24,7 +24,7 @@ use Rattle.model.specs.FatLine.{abscissa, greville, crossing, zerosBy, f
 use Rattle.model.specs.Subdivide.{positiveZero, joined, complete, after, ended, step, stop, advance, answered}
 use Rattle.model.specs.Contains.{axis, narrowed, clip, carried, handOn, handBoth, shrink, clipped, visit, couldContain}
 use Rattle.model.specs.Layout.{pointAt, pointsOf, slotWords}
-use Rattle.model.specs.Call.{Call, curveOf, asPiece, dimFits, degreeFits, countFits, lengthsFit, numbersUsable, boundsOrdered, weightsFit, rising, multiplicityOk, knotsValid, knotsFit, stated, areaFits, firstFailed, orElse, revisionFits, revisionRefusal, sizesRefusal, curveRefusal, refusal, searchedBy, searched, answerTo}
+use Rattle.model.specs.Call.{Call, curveOf, asPiece, dimFits, degreeFits, countFits, lengthsFit, numbersUsable, boundsOrdered, weightsFit, rising, multiplicityOk, knotsValid, knotsFit, stated, areaFits, firstFailed, orElse, revisionFits, revisionRefusal, sizesRefusal, curveRefusal, questionRefusal, refusal, searchedBy, searched, answerTo}
 use Rattle.model.specs.Paper.{Result, none-found, enclosed, spent, refused, Paper, paper}
 
 -- A text for the program, line by line; `points` has the numbers of all `point` lines.
@@ -100,7 +100,7 @@ unfolding zipWith add sub mul div lt le eq isNan neg ofInt toBits ofBits
     abscissa greville crossing zerosBy fatLineZeros cartesian distance distances pathLength extent toF64 widest carriedBy carriedWidth restricts halves
     positiveZero joined complete after ended step stop advance answered
     axis narrowed clip carried handOn handBoth shrink clipped visit couldContain
-    pointAt pointsOf slotWords dimFits degreeFits countFits lengthsFit numbersUsable boundsOrdered weightsFit rising multiplicityOk knotsValid knotsFit stated areaFits firstFailed orElse revisionFits revisionRefusal sizesRefusal curveRefusal refusal searchedBy searched
+    pointAt pointsOf slotWords dimFits degreeFits countFits lengthsFit numbersUsable boundsOrdered weightsFit rising multiplicityOk knotsValid knotsFit stated areaFits firstFailed orElse revisionFits revisionRefusal sizesRefusal curveRefusal questionRefusal refusal searchedBy searched
     exceeds lower sumDown productDown quotientDown addT subT lowOf mulT quotient divT fourFifthsT value ℚ mk _+ℚ_ _*ℚ_ -ℚ_ invℚ _÷_ nonneg lift₂
 right (prints rev t expected) = alike (printed (paper (answerTo (callOf rev t)))) expected
 right (cuts t lo hi n) = eqb (restrict geop (t .degree) (ofBits binary64 lo) (ofBits binary64 hi) (asPiece (callOf 1 t .curve)) .cuts) n

@@ -184,12 +184,19 @@ curveRefusal sides box resolution v =
     orElse (sizesRefusal (v .dim) (v .degree) (v .count))
     (firstFailed v 4 (lengthsFit sides box ∷ numbersUsable box resolution ∷ boundsOrdered sides box ∷ weightsFit ∷ knotsFit ∷ []))
 
--- The number by which the call is refused, or 0: 16 first of all; then that of the curve with a side of the box for each axis, then 9, then 10.
+-- The number by which a question is refused, whatever is lent to search it, or 0: 16 first of all;
+-- then that of the curve with a side of the box for each axis, then 9.
+unfoldable pub questionRefusal : ℕ → Curve → List Float → Float → ℕ → ℕ
+questionRefusal rev v box resolution nodes =
+    orElse (revisionRefusal rev)
+    (orElse (curveRefusal (v .dim) box resolution v)
+    (firstFailed nodes 9 (nodesFit ∷ [])))
+
+-- The number by which the call is refused, or 0: that of its question, then 10.
 unfoldable pub refusal : Call → ℕ
 refusal c =
-    orElse (revisionRefusal (c .rev))
-    (orElse (curveRefusal (c .curve .dim) (c .box) (c .resolution) (c .curve))
-    (firstFailed c 9 ((λ c. nodesFit (c .nodes)) ∷ areaFits ∷ [])))
+    orElse (questionRefusal (c .rev) (c .curve) (c .box) (c .resolution) (c .nodes))
+    (firstFailed c 10 (areaFits ∷ []))
 
 -- The words that a caller has to lend: the stated words, and 0 for sizes that 1, 2, 3 or 9 refuse.
 unfoldable pub statedWords : ℕ → ℕ → ℕ → ℕ → ℕ

@@ -10,12 +10,15 @@ use Rattle.text.specs.Bytes.{bytes, Read, bad, got, then, word}
 use Rattle.text.specs.Numerals.{isHex, hexOf, doubleOf, double}
 use Rattle.text.specs.Question.{smallLine, line, lines}
 use Rattle.text.specs.Question.{Sizes, sizesOf, knotDoubles, pointDoubles, boxDoubles, Numbers}
+use Rattle.text.specs.Question.{Reading, refusedBy, asks}
 use Rattle.text.specs.declared.cursor.Place.{Place}
 use Rattle.text.specs.declared.cursor.Place.the-variants.{Bad, At}
 use Rattle.text.specs.declared.cursor.Small.{Small}
 use Rattle.text.specs.declared.cursor.Small.the-variants.{NoNumber, Number}
 use Rattle.text.specs.declared.cursor.Head.{Head}
 use Rattle.text.specs.declared.cursor.Head.the-variants.{NoHead, Heads}
+use Rattle.text.specs.declared.cursor.Asked.{Asked}
+use Rattle.text.specs.declared.cursor.Asked.the-variants.{No, Yes}
 
 -- A word was read.
 abbrev pub WordRead : List ℕ → Read (Unit {0}) → Place → Type 0
@@ -142,3 +145,17 @@ pub record NumbersAt (text : List ℕ) (spec : Read Numbers) (s : Sizes) (l m : 
 abbrev pub NumbersRead : List ℕ → Read Numbers → Sizes → List Float → List Float → Small → Type 0
 NumbersRead text spec s l m NoNumber = spec ≡ bad
 NumbersRead text spec s l m (Number nodes i) = NumbersAt text spec s l m nodes i
+
+-- ---- the whole text
+
+-- The text comes to a question of small sizes, whose doubles were written to the front of the memory m.
+pub record QuestionAt (r : Reading) (m : List Float) (rev : ℕ) (s : Sizes) (nodes : ℕ) : Type 0 where
+  pub says : r ≡ asks rev s (numbersIn s nodes m)
+  pub dim-small : s .dim ≤ 3
+  pub degree-small : s .degree ≤ 7
+  pub count-small : s .count ≤ 32
+
+-- It was read.
+abbrev pub TextRead : Reading → List Float → Asked → Type 0
+TextRead r m (No n) = r ≡ refusedBy n
+TextRead r m (Yes rev dim degree count nodes) = QuestionAt r m rev (sizesOf dim degree count) nodes

@@ -21,3 +21,11 @@ pub enum Head {
     // dim, degree, count, and where the rest begins.
     Heads(usize, usize, usize, usize),
 }
+
+// A whole text.
+pub enum Asked {
+    // The number by which it is refused.
+    No(u64),
+    // The revision, dim, degree, count and nodes of its question.
+    Yes(usize, usize, usize, usize, usize),
+}

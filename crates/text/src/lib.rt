@@ -4,4 +4,5 @@ pub mod cursor;
 mod numerals;
 mod print;
 mod question;
+mod reading;
 pub mod respond;

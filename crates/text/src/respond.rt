@@ -1,21 +1,17 @@
 // The answer to a text.
-use crate::cursor::Head;
-use crate::cursor::Small;
+use crate::cursor::Asked;
 use crate::print::write;
-use crate::question::numbers;
-use crate::question::revision;
-use crate::question::sizes;
-use geometry::call::revision_refusal;
-use geometry::call::sizes_refusal;
+use crate::reading::read;
+use crate::reading::room;
 use geometry::contains::curve_could_contain;
 use model::contains::Found;
 ghost use mathlib.Core.Path.{_≡_};
 ghost use Prim.Native.Nat.{_≤_};
-ghost use lib.ListN.{length, drop};
+ghost use lib.ListN.{length};
 ghost use Rattle.model.specs.Call.{answerTo};
-ghost use Rattle.text.specs.Question.{sizesOf, callOf, sizes, numbers, completeBy, readBy};
+ghost use Rattle.text.specs.Question.{sizesOf, callOf};
 ghost use Rattle.text.specs.Cursor.{numbersIn};
-ghost use Rattle.text.specs.Respond.{answeredBy, answered, fitting};
+ghost use Rattle.text.specs.Respond.{answered, fitting};
 ghost use Rattle.text.specs.Printable.{Written, Printable};
 ghost use Rattle.text.specs.Counts.{Counts};
 
@@ -24,13 +20,6 @@ fn area() -> [f64; 8192]
     ensures { λ r. ⌜ 8192 ≡ length r ⌝ }
 {
     [0.0; 8192]
-}
-
-// Room for the numbers of a question.
-fn room() -> [f64; 303]
-    ensures { λ r. ⌜ 303 ≡ length r ⌝ }
-{
-    [0.0; 303]
 }
 
 // The answer of the search to the question whose numbers stand in `lines`:
@@ -67,58 +56,18 @@ fn ask_lines(
     )
 }
 
-// The answer to a text of these sizes, whose other lines begin at `at`.
-fn asked(text: &[u8], at: usize, rev: usize, dim: usize, degree: usize, count: usize) -> Found
-    requires { ⌜ (at ≤ length (now text)) × (dim ≤ 3) × (degree ≤ 7) × (count ≤ 32) ⌝ }
-    ensures equal { λ r.
-        let t = now (text .entry) in let s = sizesOf dim degree count in
-        ⌜ r ≡ answeredBy (completeBy rev s (length t) (numbers s (drop at t))) ⌝ }
-    ensures numbers { λ r. ⌜ Printable r ⌝ }
-{
-    let mut lines = room();
-    let Small::Number(nodes, end) = numbers(text, at, dim, degree, count, &mut lines) else {
-        return Found::Refused(12, 0, 0, 0);
-    };
-    if 65536 < text.len() {
-        return Found::Refused(12, 0, 0, 0);
-    }
-    if end < text.len() {
-        return Found::Refused(12, 0, 0, 0);
-    }
-    ask_lines(&lines, rev, dim, degree, count, nodes)
-}
-
-// The answer to a text in this revision, whose lines behind that of the revision begin at `at`.
-fn answered_in(text: &[u8], at: usize, rev: usize) -> Found
-    requires { ⌜ at ≤ length (now text) ⌝ }
-    ensures equal { λ r.
-        let t = now (text .entry) in
-        ⌜ r ≡ answeredBy (readBy rev (length t) (sizes (drop at t))) ⌝ }
-    ensures numbers { λ r. ⌜ Printable r ⌝ }
-{
-    let Head::Heads(dim, degree, count, rest) = sizes(text, at) else {
-        return Found::Refused(12, 0, 0, 0);
-    };
-    let number = sizes_refusal(dim, degree, count);
-    if number != 0 {
-        return Found::Refused(number as u64, 0, 0, 0);
-    }
-    asked(text, rest, rev, dim, degree, count)
-}
-
 // The answer to a text.
 fn answered(text: &[u8]) -> Found
     ensures equal { λ r. ⌜ r ≡ answered (now (text .entry)) ⌝ }
     ensures numbers { λ r. ⌜ Printable r ⌝ }
 {
-    let Small::Number(rev, at) = revision(text) else {
-        return Found::Refused(12, 0, 0, 0);
-    };
-    let refused = revision_refusal(rev);
-    if refused != 0 {
-        return Found::Refused(refused as u64, 0, 0, 0);
+    let mut lines = room();
+    match read(text, &mut lines) {
+        Asked::No(n) => Found::Refused(n, 0, 0, 0),
+        Asked::Yes(rev, dim, degree, count, nodes) => {
+            ask_lines(&lines, rev, dim, degree, count, nodes)
+        }
     }
-    answered_in(text, at, rev)
 }
 
 // What the program writes for a text, written to the front of `out`. The result is how many bytes that is.

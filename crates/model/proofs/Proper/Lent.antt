@@ -37,7 +37,7 @@ module _ (c : Call) (d : Doubles c) (acc : Accepted c) where
   ch = checked c d acc
 
   h : CurvePasses (c .curve .dim) (c .box) (c .resolution) (c .curve)
-  h = call-passes c acc .curve
+  h = call-passes c acc .question .curve
 
   -- ---- checks 5 and 6
   abbrev Lists : Bool

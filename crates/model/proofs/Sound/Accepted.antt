@@ -21,7 +21,7 @@ use Rattle.lists.proofs.Fold.{all-getD}
 use Rattle.math.specs.Scalars.{zeroF}
 use Rattle.math.proofs.Bools.{and-l, and-r, and-i, or-l, or-r, or-split}
 use Rattle.model.specs.NurbCurve.{knot, weightsPositive}
-use Rattle.model.specs.Call.{Curve, Call, AllDoubles, asPiece, lengthsFit, usable, numbersUsable, weightsFit, rising, multiplicityOk, knotsValid, knotsFit, nodesFit, stated, areaFits, refusal}
+use Rattle.model.specs.Call.{Curve, Call, AllDoubles, asPiece, lengthsFit, usable, numbersUsable, weightsFit, rising, multiplicityOk, knotsValid, knotsFit, stated, areaFits, refusal}
 use Rattle.model.specs.Enclosure.{Doubles}
 use Rattle.model.proofs.Checks.{SmallSizes, small-sizes, CurvePasses, CallPasses, call-passes, curve-accepted, sizes-accepted}
 use Rattle.model.proofs.Sound.Base.{values, Known}
@@ -137,10 +137,10 @@ sizes c e = record {
   degree = k .degree;
   room = k .room;
   count = k .count;
-  knots = eqb→eq (length (v .knots)) (v .count + v .degree + 1) (and-l KL PL (and-l (KL && PL) BL (h .curve .lengths)));
-  points = eqb→eq (length (v .points)) (2 * suc (v .dim) * v .count) (and-r KL PL (and-l (KL && PL) BL (h .curve .lengths)));
-  box = eqb→eq (length (c .box)) (2 * v .dim) (and-r (KL && PL) BL (h .curve .lengths));
-  nodes = leb→le (c .nodes) 4096 (h .nodes);
+  knots = eqb→eq (length (v .knots)) (v .count + v .degree + 1) (and-l KL PL (and-l (KL && PL) BL (h .question .curve .lengths)));
+  points = eqb→eq (length (v .points)) (2 * suc (v .dim) * v .count) (and-r KL PL (and-l (KL && PL) BL (h .question .curve .lengths)));
+  box = eqb→eq (length (c .box)) (2 * v .dim) (and-r (KL && PL) BL (h .question .curve .lengths));
+  nodes = leb→le (c .nodes) 4096 (h .question .nodes-few);
   area = leb→le (stated c) (c .workLen) (h .area);
 }
   where
@@ -193,7 +193,7 @@ checked c d e = record {
     z = sizes c e
 
     h : CurvePasses (c .curve .dim) (c .box) (c .resolution) (c .curve)
-    h = call-passes c e .curve
+    h = call-passes c e .question .curve
 
     KN : Bool
     KN = all usable (c .curve .knots)

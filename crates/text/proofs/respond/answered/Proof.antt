@@ -1,58 +1,61 @@
--- `answered` equals its definition: the line of the revision is bad, or refused, or the rest answers.
-use Rattle.text.proofs.respond.Cases.{revision-bad, revision-inside, revision-refused, revision-named}
+-- `answered` equals its definition: the text is refused, or the search answers.
+use mathlib.Core.Path.{subst}
+use Rattle.text.specs.Cursor.{TextRead}
+use Rattle.text.proofs.respond.Cases.{answered-refused, answered-asked}
+use native.Mathlib.Omega.{arith}
 use borrow.Author.Needs.{needs}
 use Rattle.text.proofs.respond.answered.Statement.{statement}
 use Rattle.text.proofs.respond.answered.Tie as tie
 
-revision-requires : tie.Need-revision-requires
-revision-requires c κs = search needs
+room-requires : tie.Need-room-requires
+room-requires c κs = search needs
+
+slice-aggregate-read : tie.Need-slice-aggregate-read
+slice-aggregate-read c = search needs
+
+read-requires : tie.Need-read-requires
+read-requires c κs = search needs
+
+enum-known-n : tie.Need-enum-known-n
+enum-known-n c = search needs
 
 enum-known-rev : tie.Need-enum-known-rev
 enum-known-rev c = search needs
 
-enum-told : tie.Need-enum-told
-enum-told c = search needs
+slice-aggregate-ask-lines : tie.Need-slice-aggregate-ask-lines
+slice-aggregate-ask-lines c = search needs
+
+ask-lines-requires : tie.Need-ask-lines-requires
+ask-lines-requires c κs =
+    let rev = c .before .before in
+    let r = rev .before .before .before in
+    let q = subst (TextRead _ _) (rev .rev .given .1) (r .read .ensures) in
+    (omega arith, q .dim-small, q .degree-small, q .count-small)
 
 returns : tie.Need-returns
-returns c = let line = c .before .before .revision in (revision-bad _ _ (line .ensures) (c .enum-told .given .1), tt)
-
-revision-refusal-requires : tie.Need-revision-refusal-requires
-revision-refusal-requires c κs = search needs
+returns c =
+    let n = c .before in
+    let r = n .before .before .before in
+    (answered-refused _ _ (subst (TextRead _ _) (n .n .given .1) (r .read .ensures)), tt)
 
 returns-2 : tie.Need-returns-2
 returns-2 c =
-    let refused = c .before in
-    let at-rev = refused .before .before in
-    let line = at-rev .before .before .revision in (
-      revision-refused _ _ (line .ensures) _ _ (at-rev .rev .given .1) _ (refused .revision-refusal .ensures) (c .if1 .taken),
-      tt,
-    )
-
-answered-in-requires : tie.Need-answered-in-requires
-answered-in-requires c κs =
-    let at-rev = c .before .before .before in
-    revision-inside _ _ (at-rev .before .before .revision .ensures) _ _ (at-rev .rev .given .1)
-
-returns-3 : tie.Need-returns-3
-returns-3 c =
-    let refused = c .before .before in
-    let at-rev = refused .before .before in
-    let line = at-rev .before .before .revision in
-    let answer = c .answered-in .ensures in (
-      revision-named _ _ (line .ensures) _ _ (at-rev .rev .given .1) _ _ (refused .revision-refusal .ensures)
-          (c .before .if1 .left) (answer .0),
-      answer .1,
-    )
+    let rev = c .before .before .before in
+    let r = rev .before .before .before in
+    let q = subst (TextRead _ _) (rev .rev .given .1) (r .read .ensures) in
+    let f = c .ask-lines in
+    (answered-asked _ _ _ _ (f .result) (q .says) (f .ensures .0), f .ensures .1)
 
 pub answered-spec : {M : Type 1} → statement M
 answered-spec =
     tie.close
     (tie.spec
-    revision-requires
+    room-requires
+    slice-aggregate-read
+    read-requires
+    enum-known-n
     enum-known-rev
-    enum-told
+    slice-aggregate-ask-lines
+    ask-lines-requires
     returns
-    revision-refusal-requires
-    returns-2
-    answered-in-requires
-    returns-3)
+    returns-2)

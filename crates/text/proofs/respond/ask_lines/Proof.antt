@@ -1,11 +1,11 @@
 -- `ask_lines` asks what its numbers say.
-use mathlib.Core.Path.{_≡_, ap, _∙_}
-use Prim.Native.Nat.{ℕ, suc, _+_, _-_, _*_, _≤_}
+use Prim.Native.Nat.{ℕ, _+_, _-_, _*_, _≤_}
 use native.Mathlib.Omega.{arith}
 use Rattle.lists.specs.Lists.{part}
 use Rattle.model.specs.Call.{curveOf}
 use Rattle.text.specs.Question.{sizesOf}
 use Rattle.text.proofs.question.Others.{few-numbers}
+use Rattle.text.proofs.reading.Back.{parts-lent}
 use Rattle.text.proofs.respond.Lent.{lines-same, printable}
 use borrow.Author.Needs.{needs}
 use Rattle.text.proofs.respond.ask_lines.Statement.{statement}
@@ -96,20 +96,12 @@ returns c =
     let work = at-area .area .result in
     let K : ℕ = g .count + g .degree + 1 in
     let P : ℕ = 2 * (g .dim + 1) * g .count in
-    let one : g .dim + 1 ≡ suc (g .dim) = omega arith in
-    let e : P ≡ 2 * suc (g .dim) * g .count = ap (λ (k : ℕ). 2 * k * g .count) one in
-    let long-knots : 1 + K - 1 ≡ K = omega arith in
-    let long-points : 1 + K + P - (1 + K) ≡ P = omega arith in
-    let long-box : 1 + K + P + 2 * g .dim - (1 + K + P) ≡ 2 * g .dim = omega arith in
     let ks = part l 1 (1 + K - 1) in
     let ps = part l (1 + K) (1 + K + P - (1 + K)) in
-    let bs = part l (1 + K + P) (1 + K + P + 2 * g .dim - (1 + K + P)) in (
+    let bs = part l (1 + K + P) (1 + K + P + 2 * g .dim - (1 + K + P)) in
+    let parts = parts-lent (g .dim) (g .degree) (g .count) l in (
       lines-same (asked .curve-could-contain .result) (g .rev) (sizesOf (g .dim) (g .degree) (g .count)) (g .nodes) l work ks ps bs
-          (ap (part l 1) long-knots)
-          (ap (part l (1 + K)) (long-points ∙ e))
-          (λ i. part l (1 + K + e i) (long-box i))
-          (at-area .area .ensures)
-          (asked .curve-could-contain .ensures .result),
+          (parts .knots) (parts .points) (parts .box) (at-area .area .ensures) (asked .curve-could-contain .ensures .result),
       printable (curveOf (g .dim) (g .degree) (g .count) ks ps) (asked .curve-could-contain .result)
           (asked .curve-could-contain .ensures .within),
     )
