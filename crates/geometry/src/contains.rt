@@ -36,8 +36,8 @@ ghost use Rattle.geometry.specs.State.{foundOf, withDepths, askedOf, Tur
 
 // ---- the answer
 
-// A bound as it is given out, with no negative zero.
-fn positive_zero(x: f64) -> f64
+// A number as it is given out, with no negative zero.
+pub fn positive_zero(x: f64) -> f64
     ensures { λ r. ⌜ r ≡ positiveZero x ⌝ }
 {
     if x == 0.0 { 0.0 } else { x }

@@ -15,3 +15,4 @@ pub mod Enclosure
 pub mod Weights
 pub mod Debug
 pub mod Witness
+pub mod Signs

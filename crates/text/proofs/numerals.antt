@@ -2,3 +2,4 @@
 pub mod Base
 pub mod Decimal
 pub mod Hexadecimal
+pub mod Back

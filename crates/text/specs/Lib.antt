@@ -1,4 +1,4 @@
--- The text of a question, and what is printed for it.
+-- The text of a question, what is printed for it, and its one form.
 pub mod Bytes
 pub mod Numerals
 pub mod Question
@@ -6,3 +6,5 @@ pub mod Respond
 pub mod Cursor
 pub mod Printable
 pub mod Counts
+pub mod Form
+pub mod OneForm

@@ -1,4 +1,4 @@
-// The text of a question and of its answer.
+// The text of a question, of its answer, and its one form.
 
 pub mod cursor;
 mod numerals;
@@ -6,3 +6,4 @@ mod print;
 mod question;
 mod reading;
 pub mod respond;
+pub mod rewrite;

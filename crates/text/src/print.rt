@@ -2,21 +2,19 @@
 use model::contains::Found;
 use model::subdivide::Counts;
 ghost use mathlib.Core.Path.{_≡_};
-ghost use mathlib.Core.Bool.{not};
 ghost use mathlib.Core.List.{_++_};
 ghost use Prim.Native.Nat.{_+_, _≤_, _<_};
 ghost use lib.ListN.{length};
 ghost use lib.Dec.{T};
-ghost use lib.Ieee.{isNan};
 ghost use Rattle.model.specs.Paper.{paper};
 ghost use Rattle.text.specs.Numerals.{digitOf, lastDigits, decimalLength, decimal, hexadecimal};
 ghost use Rattle.text.specs.Respond.{resultWord, countLines, boundLines, printed};
-ghost use Rattle.text.specs.Printable.{countsOf, Written, Printable};
+ghost use Rattle.text.specs.Printable.{countsOf, Written, isNumber, Printable};
 
 // ---- words and numbers
 
 // The word w from `at` on. As of all that write here, the result is where the rest begins.
-fn put_word(out: &mut [u8], at: usize, w: &[u8]) -> usize
+pub(crate) fn put_word(out: &mut [u8], at: usize, w: &[u8]) -> usize
     requires { ⌜ at + length (now w) ≤ length (now out) ⌝ }
     ensures { λ r. ⌜ Written (now (out .entry)) at (now (w .entry)) (now (out .exit)) r ⌝ }
 {
@@ -77,8 +75,8 @@ fn put_decimal(out: &mut [u8], at: usize, n: u64) -> usize
 }
 
 // A double that is no NaN as the sixteen hexadecimal digits of its bits, from `at` on.
-fn put_double(out: &mut [u8], at: usize, x: f64) -> usize
-    requires { ⌜ (at + 16 ≤ length (now out)) × T (not (isNan x)) ⌝ }
+pub(crate) fn put_double(out: &mut [u8], at: usize, x: f64) -> usize
+    requires { ⌜ (at + 16 ≤ length (now out)) × T (isNumber x) ⌝ }
     ensures { λ r. ⌜ Written (now (out .entry)) at (hexadecimal x) (now (out .exit)) r × (r ≡ at + 16) ⌝ }
 {
     put_digits(out, at, 16, 16, f64::to_bits(x))
@@ -155,7 +153,7 @@ fn pending_of(f: Found) -> u64
 }
 
 // A key and a number, from `at` on.
-fn put_count(out: &mut [u8], at: usize, key: &[u8], n: u64) -> usize
+pub(crate) fn put_count(out: &mut [u8], at: usize, key: &[u8], n: u64) -> usize
     requires { ⌜ at + length (now key) + 20 ≤ length (now out) ⌝ }
     ensures { λ r.
         let k = now (key .entry) in let l = now (out .entry) in let m = now (out .exit) in

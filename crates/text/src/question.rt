@@ -65,7 +65,7 @@ fn small_line(text: &[u8], at: usize, key: &[u8]) -> Small
 }
 
 // What stands behind a value, where so many follow it.
-fn behind(n: usize) -> u8
+pub(crate) fn behind(n: usize) -> u8
     ensures { λ r. ⌜ r ≡ behind n ⌝ }
 {
     if n == 0 { 10 } else { 32 }

@@ -45,7 +45,7 @@ digit-low n h = rw (le-leb n 9 h)
 pub digit-high : (n : ℕ) → 9 < n → 87 + n ≡ digitOf n
 digit-high n h = rw (lt-leb n 9 h)
 
-length-digits : (b k n : ℕ) → length (lastDigits b k n) ≡ k
+pub length-digits : (b k n : ℕ) → length (lastDigits b k n) ≡ k
 unfolding lastDigits
 length-digits b zero n = refl
 length-digits b (suc k) n = simp (length-append, length-digits b k (n / b), add-one)
@@ -94,11 +94,11 @@ digits-done l at b k n m (suc i) rest h w = absurd (not-suc-le-zero h)
 -- ---- how many digits
 
 -- a digit more, and those of the rest
-length-more : (k n : ℕ) → 9 < n → decimalLength (suc k) n ≡ suc (decimalLength k (n / 10))
+pub length-more : (k n : ℕ) → 9 < n → decimalLength (suc k) n ≡ suc (decimalLength k (n / 10))
 unfolding decimalLength
 length-more k n h = rw (lt-leb n 9 h)
 
-length-last : (k n : ℕ) → n ≤ 9 → decimalLength k n ≡ 1
+pub length-last : (k n : ℕ) → n ≤ 9 → decimalLength k n ≡ 1
 unfolding decimalLength
 length-last zero n h = refl
 length-last (suc k) n h = rw (le-leb n 9 h)
@@ -171,7 +171,7 @@ dashes-written f {l} {m} {at} {r} k w h =
     (subst (λ (x : Option Scalar). Written l at (boundLines x) m r) (sym (unbounded f k)) w, h)
 
 -- Four words, one behind the other.
-four-joined : {l m₁ m₂ m₃ m₄ : List ℕ} {at p q r s : ℕ} {a b c d : List ℕ} → s ≤ length l
+pub four-joined : {l m₁ m₂ m₃ m₄ : List ℕ} {at p q r s : ℕ} {a b c d : List ℕ} → s ≤ length l
     → Written l at a m₁ p → Written m₁ p b m₂ q → Written m₂ q c m₃ r → Written m₃ r d m₄ s
     → Written l at (a ++ b ++ c ++ d) m₄ s
 four-joined h u v w x = joined (omega arith) (joined (omega arith) (joined (omega arith) u v) w) x

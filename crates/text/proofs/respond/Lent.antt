@@ -4,8 +4,7 @@ use mathlib.Core.List.{List}
 use Prim.Native.Nat.{ℕ}
 use lib.ListN.{length, getD}
 use lib.Dec.{T}
-use lib.Ieee.{Float, nan, isNan, le}
-use mathlib.Core.Bool.{not}
+use lib.Ieee.{Float, nan, le}
 use Rattle.math.proofs.Bools.{and-l}
 use Rattle.math.proofs.Laws.{le-number-r}
 use Rattle.model.specs.NurbCurve.{start, end}
@@ -17,7 +16,7 @@ use mathlib.Core.Option.{Option, none, some}
 use Rattle.model.specs.declared.contains.Found.{Found}
 use Rattle.text.specs.Question.{Sizes, callOf}
 use Rattle.text.specs.Cursor.{numbersIn}
-use Rattle.text.specs.Printable.{Printable}
+use Rattle.text.specs.Printable.{isNumber, Printable}
 
 -- the numbers that the code cuts out of the memory and lends are those of the question
 pub lines-same : (r : Found) (rev : ℕ) (s : Sizes) (nodes : ℕ) (l work ks ps bs : List Float) → ks ≡ numbersIn s nodes l .knots
@@ -38,10 +37,10 @@ printable v r = by (paper r .bounds)
     b : Float
     b = end (asPiece v)
 
-    number : (x : Float) → NotOutside a b x → T (not (isNan x))
+    number : (x : Float) → NotOutside a b x → T (isNumber x)
     number x k = le-number-r a x (and-l (le a x) (le x b) k)
 
     by : (x : Option Scalar) → OfBounds (λ y. NotOutside a b (y .lo) × NotOutside a b (y .hi)) x
-        → OfBounds (λ y. T (not (isNan (y .lo))) × T (not (isNan (y .hi)))) x
+        → OfBounds (λ y. T (isNumber (y .lo)) × T (isNumber (y .hi))) x
     by none h = tt
     by (some x) h = (number (x .lo) (h .0), number (x .hi) (h .1))
