@@ -34,8 +34,8 @@ fn is_ordinary(b: u64) -> bool
     0 < m && m < 0x7ff0_0000_0000_0000
 }
 
-// x, or the f64 before it where `outward` says so: for an ordinary number by a sum, since neither that nor the sign can
-// be foreseen. The bits go one down above zero, and one up below it.
+// x, or the f64 before it where `outward` says so; a NaN and the negative infinity, which have none before them, stay. For
+// an ordinary number by a sum, since neither that nor the sign can be foreseen: the bits go one down above zero, and one up below it.
 fn stepped(x: f64, outward: bool) -> f64
     ensures { λ r. ⌜ r ≡ cond outward (nextDown x) x ⌝ }
 {
@@ -60,7 +60,7 @@ fn above_sum(a: f64, b: f64, s: f64) -> bool
     b < s - a || a < s - b
 }
 
-// The greatest f64 that is at most a + b.
+// The greatest f64 that is at most a + b; a NaN, as a + b is, where a or b is one or they are opposite infinities.
 pub fn sum_down(a: f64, b: f64) -> f64
     ensures { λ r. ⌜ r ≡ sumDown a b ⌝ }
 {
@@ -68,7 +68,7 @@ pub fn sum_down(a: f64, b: f64) -> f64
     stepped(s, above_sum(a, b, s))
 }
 
-// The least f64 that is at least a + b.
+// The least f64 that is at least a + b; a NaN, as a + b is, where a or b is one or they are opposite infinities.
 pub fn sum_up(a: f64, b: f64) -> f64
     ensures { λ r. ⌜ r ≡ sumUp a b ⌝ }
 {
@@ -112,7 +112,7 @@ fn both_finite(a: f64, b: f64) -> bool
     is_finite(a) && is_finite(b)
 }
 
-// The greatest f64 that is at most a b, where one of the two is not finite: zero where the other is zero.
+// `product_down` where one of the two is not finite: IEEE 754's product, but 0 for zero times an infinity.
 fn unbounded_product(a: f64, b: f64) -> f64
     requires { ⌜ (isFinite a && isFinite b) ≡ false ⌝ }
     ensures { λ r. ⌜ r ≡ productDown a b ⌝ }
@@ -137,7 +137,7 @@ fn is_flat(a: f64, b: f64, p: f64) -> bool
     p == 0.0 && (a == 0.0 || b == 0.0)
 }
 
-// The greatest f64 that is at most a b; 0 for zero times an infinity.
+// The greatest f64 that is at most a b; 0 for zero times an infinity, and a NaN where a or b is one.
 pub fn product_down(a: f64, b: f64) -> f64
     ensures { λ r. ⌜ r ≡ productDown a b ⌝ }
 {
@@ -151,7 +151,7 @@ pub fn product_down(a: f64, b: f64) -> f64
     stepped(p, above_product(a, b, p))
 }
 
-// The least f64 that is at least a b; a zero for zero times an infinity.
+// The least f64 that is at least a b; -0 for zero times an infinity, and a NaN where a or b is one.
 pub fn product_up(a: f64, b: f64) -> f64
     ensures { λ r. ⌜ r ≡ productUp a b ⌝ }
 {
@@ -182,7 +182,7 @@ fn divides(a: f64, b: f64) -> bool
     b != 0.0
 }
 
-// The greatest f64 that is at most a / b, for a b that is not zero.
+// The greatest f64 that is at most a / b, and by zero IEEE 754's infinity; a NaN for zero by zero, for two infinities and for a NaN.
 pub fn quotient_down(a: f64, b: f64) -> f64
     ensures { λ r. ⌜ r ≡ quotientDown a b ⌝ }
 {
@@ -196,14 +196,14 @@ pub fn quotient_down(a: f64, b: f64) -> f64
     stepped(q, above_quotient(a, b, q))
 }
 
-// The least f64 that is at least a / b, for a b that is not zero.
+// The least f64 that is at least a / b, and by zero IEEE 754's infinity; a NaN for zero by zero, for two infinities and for a NaN.
 pub fn quotient_up(a: f64, b: f64) -> f64
     ensures { λ r. ⌜ r ≡ quotientUp a b ⌝ }
 {
     -quotient_down(-a, b)
 }
 
-// The lower bound of [a, b] times [c, d]: which two bounds have the least product goes by the signs.
+// The lower bound of [a, b] times [c, d], which are in order: which two bounds have the least product goes by the signs.
 pub(crate) fn low_of(a: f64, b: f64, c: f64, d: f64) -> f64
     ensures { λ r. ⌜ r ≡ lowOf a b c d ⌝ }
 {
@@ -228,7 +228,7 @@ pub(crate) fn low_of(a: f64, b: f64, c: f64, d: f64) -> f64
     min(product_down(a, d), product_down(b, c))
 }
 
-// The lower bound of a over [c, d], which lies above zero.
+// The lower bound of a over [c, d], for an a below the positive infinity and an interval in order that lies above zero.
 pub(crate) fn over(a: f64, c: f64, d: f64) -> f64
     ensures { λ r. ⌜ r ≡ over a c d ⌝ }
 {

@@ -75,6 +75,8 @@ table =
     ∷ record { op = over; left = from 0x3ff0_0000_0000_0000 0x3ff0_0000_0000_0000; right = from 0x3ff0_0000_0000_0000 0x7ff0_0000_0000_0000; expected = from 0 0x3ff0_0000_0000_0000 }
     -- what is at most -1, over 2 to 4
     ∷ record { op = over; left = from 0xfff0_0000_0000_0000 0xbff0_0000_0000_0000; right = from 0x4000_0000_0000_0000 0x4010_0000_0000_0000; expected = from 0xfff0_0000_0000_0000 0xbfd0_0000_0000_0000 }
+    -- 0 to 1 over 1 to 2: the dividend may hold zero
+    ∷ record { op = over; left = from 0 0x3ff0_0000_0000_0000; right = from 0x3ff0_0000_0000_0000 0x4000_0000_0000_0000; expected = from 0 0x3ff0_0000_0000_0000 }
     ∷ []
 
 -- 4 / 5 lies between two doubles

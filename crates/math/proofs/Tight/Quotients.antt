@@ -28,7 +28,7 @@ use Rattle.math.specs.Directed.{quotientDown}
 use Rattle.math.specs.Tight.{tight, divT, quotient, over, fourFifthsT}
 use Rattle.math.specs.Tightest.{Hull, Results, Tightest}
 use Rattle.math.proofs.Tight.Ends.{quotient-greatest, quotient-fits}
-use Rattle.math.proofs.Tight.Instance.{quotient-holds, is-low, not-low, four-fifths, four-fifths-turned, ratio-holds}
+use Rattle.math.proofs.Tight.Instance.{quotient-holds, div-fails, is-low, not-low, four-fifths, four-fifths-turned, ratio-holds}
 use Rattle.math.proofs.Tight.Limits.{mirrored, mirror-back, mirror-proper, flip, turned, Bounding, Falls, Rises, falls-low, End, low-end, high-end}
 use Rattle.math.proofs.Tight.Hulls.{sum-hull, difference-hull, product-hull}
 
@@ -169,7 +169,7 @@ ratio-hull = record {
 
 -- THE LAWS
 pub tight-tightest : Tightest tight
-tight-tightest = record { sum = sum-hull; difference = difference-hull; product = product-hull; quotient = divided; ratio = ratio-hull }
+tight-tightest = record { sum = sum-hull; difference = difference-hull; product = product-hull; quotient = divided; fails = div-fails; ratio = ratio-hull }
   where
     divided : (a b c : Scalar) → Proper a → Proper b → divT a b ≡ Value c → Hull c (Quotients a b)
     divided a b c A B e = go (hasZero b) refl (unfold divT in e)
