@@ -1,11 +1,11 @@
 -- The scope's cases P1 to P10, cases C1 to C14 of request E2, D1 to D7 of request E5 and R1 to R8 of request E8: one table, and one proposition for all its rows, by computation. A row reads as Rows.antt
--- says. Doubles are their bits.
+-- says. Doubles are their bits. Cases C10, C11, C12, R4 and R5, which take longest, stand in crates/cases.
 use mathlib.Core.Path.{_≡_, refl}
 use mathlib.Core.Bool.{true}
 use mathlib.Core.List.{List, [], _∷_}
 use Rattle.lists.specs.Lists.{all}
 use Rattle.model.proofs.Rows.{Row, prints, cuts, sums, products, roots, right}
-use Rattle.model.proofs.Texts.{single, twice, brief, empty, slope, diagonal, light, loose, arc, rise, still}
+use Rattle.model.proofs.Texts.{single, twice, brief, empty, slope, diagonal, light, loose, rise, still}
 
 -- enclosed, visited 1, pending 0, from 0 to 1
 abbrev P1 : Row
@@ -83,18 +83,6 @@ C8 = prints 1 (diagonal 1 0 0) (2 ∷ 1 ∷ 1 ∷ 0 ∷ 1 ∷ 0 ∷ 0 ∷ [])
 abbrev C9 : Row
 C9 = prints 1 (diagonal 1 0x3ff0000000000000 0x3ff0000000000000) (2 ∷ 1 ∷ 1 ∷ 0 ∷ 1 ∷ 0 ∷ 0 ∷ [])
 
--- the box as wide as the path: a halving, and two reports: enclosed, visited 3, cuts 0
-abbrev C10 : Row
-C10 = prints 1 (diagonal 3 0 0x3ff0000000000000) (1 ∷ 3 ∷ 0 ∷ 1 ∷ 0 ∷ 0 ∷ 0x3ff0000000000000 ∷ [])
-
--- cut down at both ends, and then dropped: none, visited 2, cuts 2
-abbrev C11 : Row
-C11 = prints 1 arc (0 ∷ 2 ∷ 2 ∷ 0 ∷ 0 ∷ 0 ∷ 0 ∷ [])
-
--- cut down at both ends twice: spent, visited 2, cuts 4, pending 1
-abbrev C12 : Row
-C12 = prints 1 (rise 0x3ff0000000000000 2) (2 ∷ 2 ∷ 4 ∷ 0 ∷ 1 ∷ 0 ∷ 0 ∷ [])
-
 -- two cuts, and a weight of what they leave is not above zero: refused by 11, visited 1, cuts 0
 abbrev C13 : Row
 C13 = prints 1 light (111 ∷ 1 ∷ 0 ∷ 0 ∷ 0 ∷ 0 ∷ 0 ∷ [])
@@ -143,14 +131,6 @@ R2 = prints 2 (single 1 0x4008000000000000) (1 ∷ 1 ∷ 0 ∷ 0 ∷ 0 ∷ 0 ∷
 abbrev R3 : Row
 R3 = prints 1 brief (111 ∷ 1 ∷ 0 ∷ 0 ∷ 0 ∷ 0 ∷ 0 ∷ [])
 
--- and in revision 2: spent, visited 8, depth 3, pending 3
-abbrev R4 : Row
-R4 = prints 2 brief (2 ∷ 8 ∷ 0 ∷ 3 ∷ 3 ∷ 0 ∷ 0 ∷ [])
-
--- C6 in revision 2: the hat is 1/2 alone, one cut leaves a piece that begins there, and it is reported: enclosed, visited 2, cuts 1, from 1/2 to 1/2
-abbrev R5 : Row
-R5 = prints 2 (diagonal 2 0x3fe0000000000000 0x3fe0000000000000) (1 ∷ 2 ∷ 1 ∷ 0 ∷ 0 ∷ 0x3fe0000000000000 ∷ 0x3fe0000000000000 ∷ [])
-
 -- Another revision: 16, before 1; and 1 comes behind it
 abbrev R6 : Row
 R6 = prints 3 empty (116 ∷ 0 ∷ 0 ∷ 0 ∷ 0 ∷ 0 ∷ 0 ∷ [])
@@ -163,9 +143,9 @@ R8 = prints 2 empty (101 ∷ 0 ∷ 0 ∷ 0 ∷ 0 ∷ 0 ∷ 0 ∷ [])
 
 -- The table.
 abbrev pub table : List Row
-table = P1 ∷ P2 ∷ P3 ∷ P4 ∷ P5 ∷ P6 ∷ P7 ∷ P8 ∷ P9 ∷ P10 ∷ C1 ∷ C2 ∷ C3 ∷ C4 ∷ C5 ∷ C6 ∷ C7 ∷ C8 ∷ C9 ∷ C10 ∷ C11 ∷ C12 ∷ C13 ∷ C14
+table = P1 ∷ P2 ∷ P3 ∷ P4 ∷ P5 ∷ P6 ∷ P7 ∷ P8 ∷ P9 ∷ P10 ∷ C1 ∷ C2 ∷ C3 ∷ C4 ∷ C5 ∷ C6 ∷ C7 ∷ C8 ∷ C9 ∷ C13 ∷ C14
     ∷ D1 ∷ D2 ∷ D3 ∷ D4 ∷ D5 ∷ D6 ∷ D7
-    ∷ R1 ∷ R2 ∷ R3 ∷ R4 ∷ R5 ∷ R6 ∷ R7 ∷ R8 ∷ []
+    ∷ R1 ∷ R2 ∷ R3 ∷ R6 ∷ R7 ∷ R8 ∷ []
 
 right-P1 : right P1 ≡ true
 unfolding right
@@ -243,18 +223,6 @@ right-C9 : right C9 ≡ true
 unfolding right
 right-C9 = refl
 
-right-C10 : right C10 ≡ true
-unfolding right
-right-C10 = refl
-
-right-C11 : right C11 ≡ true
-unfolding right
-right-C11 = refl
-
-right-C12 : right C12 ≡ true
-unfolding right
-right-C12 = refl
-
 right-C13 : right C13 ≡ true
 unfolding right
 right-C13 = refl
@@ -303,14 +271,6 @@ right-R3 : right R3 ≡ true
 unfolding right
 right-R3 = refl
 
-right-R4 : right R4 ≡ true
-unfolding right
-right-R4 = refl
-
-right-R5 : right R5 ≡ true
-unfolding right
-right-R5 = refl
-
 right-R6 : right R6 ≡ true
 unfolding right
 right-R6 = refl
@@ -347,9 +307,6 @@ all-right =
       right-C7,
       right-C8,
       right-C9,
-      right-C10,
-      right-C11,
-      right-C12,
       right-C13,
       right-C14,
       right-D1,
@@ -362,8 +319,6 @@ all-right =
       right-R1,
       right-R2,
       right-R3,
-      right-R4,
-      right-R5,
       right-R6,
       right-R7,
       right-R8,

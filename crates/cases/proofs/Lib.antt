@@ -1,0 +1,2 @@
+-- Cases of the search by computation.
+pub mod Table
