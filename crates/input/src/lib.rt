@@ -1,7 +1,10 @@
 // The text on standard input, for the programs.
-ghost use Prim.Native.Nat.{_≤_};
+ghost use mathlib.Core.Path.{_≡_};
+ghost use Prim.Native.Nat.{_+_, _≤_, min};
 ghost use lib.ListN.{length};
 ghost use Rattle.io.specs.Counts.{Counts};
+ghost use Rattle.lists.specs.Lists.{put};
+ghost use Rattle.input.specs.Filled.{Filled};
 
 // What was read: so many bytes at the front of a slice, and whether a read failed.
 pub struct Input {
@@ -9,22 +12,63 @@ pub struct Input {
     pub failed: bool,
 }
 
-// One read from standard input, into buf behind its first `done` bytes.
-fn read_more(buf: &mut [u8], done: usize) -> Input
-    requires { ⌜ done ≤ length (now buf) ⌝ }
-    ensures { λ r. ⌜ (done ≤ r .bytes) × (r .bytes ≤ length (now (buf .exit))) ⌝ }
+// Room for one read.
+fn chunk() -> [u8; 4096]
+    ensures { λ r. ⌜ 4096 ≡ length r ⌝ }
 {
-    let rest = &mut buf[done..];
-    let got = libc::read(libc::STDIN_FILENO, rest);
+    [0; 4096]
+}
+
+// The lesser of two.
+fn lesser(a: usize, b: usize) -> usize
+    ensures { λ r. ⌜ (r ≤ a) × (r ≤ b) ⌝ }
+{
+    if a < b { a } else { b }
+}
+
+// The bytes of `from`, written to buf from `at` on.
+fn copy(buf: &mut [u8], at: usize, from: &[u8])
+    requires { ⌜ at + length (now from) ≤ length (now buf) ⌝ }
+    ensures { λ _. ⌜ now (buf .exit) ≡ put (now (buf .entry)) at (now (from .entry)) ⌝ }
+{
+    let mut i = 0;
+    while i < from.len() {
+        buf[at + i] = from[i];
+        i += 1;
+    }
+}
+
+// One read from standard input into `room`, of which what was read is copied to buf behind its first `done` bytes. (Of what a
+// read leaves in the bytes that it is lent the toolchain's contract says nothing, behind those that it moved either.)
+fn read_through(room: &mut [u8], buf: &mut [u8], done: usize) -> Input
+    requires { ⌜ done + length (now room) ≤ length (now buf) ⌝ }
+    ensures { λ r. ⌜ Filled (now (buf .entry)) (now (buf .exit)) done (r .bytes) ⌝ }
+{
+    let got = libc::read(libc::STDIN_FILENO, room);
+    let n = io::count(got, room);
+    copy(buf, done, &room[..n]);
     Input {
-        bytes: done + io::count(got, rest),
+        bytes: done + n,
         failed: got < 0,
     }
 }
 
-// Reads from standard input until buf is full, the input ends or a read fails.
+// One read from standard input, to buf behind its first `done` bytes.
+fn read_more(buf: &mut [u8], done: usize) -> Input
+    requires { ⌜ done ≤ length (now buf) ⌝ }
+    ensures { λ r. ⌜ Filled (now (buf .entry)) (now (buf .exit)) done (r .bytes) ⌝ }
+{
+    let mut chunk = chunk();
+    let most = lesser(4096, buf.len() - done);
+    read_through(&mut chunk[..most], buf, done)
+}
+
+// Reads from standard input until buf is full, the input ends or a read fails. The result is how many bytes were read,
+// which stand at the front of buf, and whether a read failed. All behind them is as it was. Which bytes were read is left
+// free: no contract can say it.
 pub fn read_input(buf: &mut [u8]) -> Input
-    ensures { λ r. ⌜ Counts (r .bytes) (now (buf .exit)) ⌝ }
+    ensures filled { λ r. ⌜ Filled (now (buf .entry)) (now (buf .exit)) 0 (r .bytes) ⌝ }
+    ensures counts { λ r. ⌜ Counts (r .bytes) (now (buf .exit)) ⌝ }
 {
     let mut done = 0;
     while done < buf.len() {

@@ -107,9 +107,37 @@ unfoldable pub outputBy : List ℕ → Reading → List ℕ
 outputBy l (refusedBy r) = l
 outputBy l (asks rev s q) = outputFor l (form rev s q)
 
+-- ---- an answer of the writer on paper
+
+-- What request E7 says of an answer.
+pub record OnPaper : Type 0 where
+  -- the number of its refusal, 0 where it has none
+  pub refused : ℕ
+  -- how many bytes were written
+  pub written : ℕ
+
+-- Each case of an answer: bytes without a refusal, or a refusal without bytes.
+abbrev pub onPaperOf : Rewritten → OnPaper
+onPaperOf (Bytes n) = record { refused = 0; written = n }
+onPaperOf (Refused r) = record { refused = r; written = 0 }
+
+-- What the paper gives for a text that comes to this, with room for n bytes: the number of its refusal; else 15 where its
+-- form is longer than n; else all the bytes of its form.
+unfoldable pub onPaperFor : ℕ → Reading → OnPaper
+onPaperFor n (refusedBy r) = record { refused = r; written = 0 }
+onPaperFor n (asks rev s q) =
+    let w = length (form rev s q) in
+    cond (leb w n) (record { refused = 0; written = w }) (record { refused = 15; written = 0 })
+
+-- ---- what the writer promises
+
 -- The writer, for a text that comes to a, was lent the bytes l, left m and gave r.
 pub record Rewrites (a : Reading) (l m : List ℕ) (r : Rewritten) : Type 0 where
+  -- The answer is the definition's.
   pub result : r ≡ rewrittenBy (length l) a
+  -- On paper it is the number of the refusal, or else all the bytes of the form.
+  pub paper : onPaperOf r ≡ onPaperFor (length l) a
+  -- The form stands at the front where it fits; a refusal leaves all bytes as they were.
   pub memory : m ≡ outputBy l a
 
 -- A count that it gives is one of bytes at the start of the output.

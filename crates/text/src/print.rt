@@ -92,21 +92,11 @@ fn put_result(out: &mut [u8], at: usize, f: Found) -> usize
         ⌜ Written l at (resultWord (paper f .result)) m r × (r ≤ at + 28) ⌝ }
 {
     match f {
-        Found::Nothing(_, _, _) => {
-            let none = [b'n', b'o', b'n', b'e'];
-            put_word(out, at, &none)
-        }
-        Found::Enclosed(_, _, _, _, _) => {
-            let enclosed = [b'e', b'n', b'c', b'l', b'o', b's', b'e', b'd'];
-            put_word(out, at, &enclosed)
-        }
-        Found::Spent(_, _, _, _) => {
-            let spent = [b's', b'p', b'e', b'n', b't'];
-            put_word(out, at, &spent)
-        }
+        Found::Nothing(_, _, _) => { put_word(out, at, b"none") }
+        Found::Enclosed(_, _, _, _, _) => { put_word(out, at, b"enclosed") }
+        Found::Spent(_, _, _, _) => { put_word(out, at, b"spent") }
         Found::Refused(n, _, _, _) => {
-            let refused = [b'r', b'e', b'f', b'u', b's', b'e', b'd', b'-'];
-            let i = put_word(out, at, &refused);
+            let i = put_word(out, at, b"refused-");
             put_decimal(out, i, n)
         }
     }
@@ -171,16 +161,11 @@ fn put_counts(out: &mut [u8], at: usize, f: Found) -> usize
         ⌜ Written l at (countLines (paper f)) m r × (r ≤ at + 112) ⌝ }
 {
     let counts = counts_of(f);
-    let visited = [b'\n', b'v', b'i', b's', b'i', b't', b'e', b'd', b'='];
-    let i = put_count(out, at, &visited, counts.visited as u64);
-    let cuts = [b'\n', b'c', b'u', b't', b's', b'='];
-    let j = put_count(out, i, &cuts, counts.cuts as u64);
-    let depth = [b'\n', b'd', b'e', b'p', b't', b'h', b'='];
-    let k = put_count(out, j, &depth, counts.depth as u64);
-    let pending = [b'\n', b'p', b'e', b'n', b'd', b'i', b'n', b'g', b'='];
-    let l = put_count(out, k, &pending, pending_of(f));
-    let end = [b'\n'];
-    put_word(out, l, &end)
+    let i = put_count(out, at, b"\nvisited=", counts.visited as u64);
+    let j = put_count(out, i, b"\ncuts=", counts.cuts as u64);
+    let k = put_count(out, j, b"\ndepth=", counts.depth as u64);
+    let l = put_count(out, k, b"\npending=", pending_of(f));
+    put_word(out, l, b"\n")
 }
 
 // The lines of the two bounds, from `at` on.
@@ -191,17 +176,13 @@ fn put_bounds(out: &mut [u8], at: usize, f: Found) -> usize
         ⌜ Written l at (boundLines (paper f .bounds)) m r × (r ≤ at + 40) ⌝ }
 {
     let Found::Enclosed(lo, hi, _, _, _) = f else {
-        let dashes = [b'l', b'o', b'=', b'-', b'\n', b'h', b'i', b'=', b'-', b'\n'];
-        return put_word(out, at, &dashes);
+        return put_word(out, at, b"lo=-\nhi=-\n");
     };
-    let first = [b'l', b'o', b'='];
-    let i = put_word(out, at, &first);
+    let i = put_word(out, at, b"lo=");
     let j = put_double(out, i, lo);
-    let second = [b'\n', b'h', b'i', b'='];
-    let k = put_word(out, j, &second);
+    let k = put_word(out, j, b"\nhi=");
     let l = put_double(out, k, hi);
-    let end = [b'\n'];
-    put_word(out, l, &end)
+    put_word(out, l, b"\n")
 }
 
 // The seven lines of an answer, written to the front of `out`. The result is how many bytes they are.
@@ -209,8 +190,7 @@ pub(crate) fn write(f: Found, out: &mut [u8]) -> usize
     requires { ⌜ (192 ≤ length (now out)) × Printable f ⌝ }
     ensures { λ r. ⌜ Written (now (out .entry)) 0 (printed (paper f)) (now (out .exit)) r × (r ≤ 192) ⌝ }
 {
-    let result = [b'r', b'e', b's', b'u', b'l', b't', b'='];
-    let i = put_word(out, 0, &result);
+    let i = put_word(out, 0, b"result=");
     let j = put_result(out, i, f);
     let k = put_counts(out, j, f);
     put_bounds(out, k, f)

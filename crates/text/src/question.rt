@@ -146,11 +146,10 @@ fn lines(
 pub(crate) fn revision(text: &[u8]) -> Small
     ensures { λ r. ⌜ SmallRead (now (text .entry)) (revision (now (text .entry))) r ⌝ }
 {
-    let rev = [b'r', b'e', b'v', b'='];
-    let Place::At(_) = word(text, 0, &rev) else {
+    let Place::At(_) = word(text, 0, b"rev=") else {
         return Small::Number(1, 0);
     };
-    small_line(text, 0, &rev)
+    small_line(text, 0, b"rev=")
 }
 
 // The three lines of the sizes from `at` on.
@@ -158,16 +157,13 @@ pub(crate) fn sizes(text: &[u8], at: usize) -> Head
     requires { ⌜ at ≤ length (now text) ⌝ }
     ensures { λ r. let t = now (text .entry) in ⌜ HeadRead t (sizes (drop at t)) r ⌝ }
 {
-    let dim = [b'd', b'i', b'm', b'='];
-    let Small::Number(d, i) = small_line(text, at, &dim) else {
+    let Small::Number(d, i) = small_line(text, at, b"dim=") else {
         return Head::NoHead;
     };
-    let degree = [b'd', b'e', b'g', b'r', b'e', b'e', b'='];
-    let Small::Number(p, j) = small_line(text, i, &degree) else {
+    let Small::Number(p, j) = small_line(text, i, b"degree=") else {
         return Head::NoHead;
     };
-    let count = [b'c', b'o', b'u', b'n', b't', b'='];
-    let Small::Number(n, k) = small_line(text, j, &count) else {
+    let Small::Number(n, k) = small_line(text, j, b"count=") else {
         return Head::NoHead;
     };
     Head::Heads(d, p, n, k)
@@ -180,24 +176,10 @@ fn limits(text: &[u8], at: usize, out: &mut [f64]) -> Small
         let t = now (text .entry) in
         ⌜ LimitsRead t (drop at t) (now (out .entry)) (now (out .exit)) r ⌝ }
 {
-    let nodes = [b'n', b'o', b'd', b'e', b's', b'='];
-    let Small::Number(n, i) = small_line(text, at, &nodes) else {
+    let Small::Number(n, i) = small_line(text, at, b"nodes=") else {
         return Small::NoNumber;
     };
-    let resolution = [
-        b'r',
-        b'e',
-        b's',
-        b'o',
-        b'l',
-        b'u',
-        b't',
-        b'i',
-        b'o',
-        b'n',
-        b'=',
-    ];
-    let Place::At(j) = line(text, i, &resolution, 1, out, 0) else {
+    let Place::At(j) = line(text, i, b"resolution=", 1, out, 0) else {
         return Small::NoNumber;
     };
     Small::Number(n, j)
@@ -210,18 +192,15 @@ fn shape(text: &[u8], at: usize, dim: usize, degree: usize, count: usize, out: &
         let t = now (text .entry) in
         ⌜ ShapeRead t (drop at t) (sizesOf dim degree count) (now (out .entry)) (now (out .exit)) r ⌝ }
 {
-    let knots = [b'k', b'n', b'o', b't', b's', b'='];
     let k = count + degree + 1;
-    let Place::At(i) = line(text, at, &knots, k, out, 1) else {
+    let Place::At(i) = line(text, at, b"knots=", k, out, 1) else {
         return Place::Bad;
     };
-    let point = [b'p', b'o', b'i', b'n', b't', b'='];
     let w = 2 * (dim + 1);
-    let Place::At(j) = lines(text, i, &point, w, count, out, 1 + k) else {
+    let Place::At(j) = lines(text, i, b"point=", w, count, out, 1 + k) else {
         return Place::Bad;
     };
-    let cell = [b'b', b'o', b'x', b'='];
-    line(text, j, &cell, 2 * dim, out, 1 + k + w * count)
+    line(text, j, b"box=", 2 * dim, out, 1 + k + w * count)
 }
 
 // All the other lines.

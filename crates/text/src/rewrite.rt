@@ -41,8 +41,7 @@ fn put_small(out: &mut [u8], at: usize, key: &[u8], n: usize) -> usize
         ⌜ Written l at (smallText k n) m r × (r ≤ at + length k + 21) ⌝ }
 {
     let i = put_count(out, at, key, n as u64);
-    let end = [b'\n'];
-    put_word(out, i, &end)
+    put_word(out, i, b"\n")
 }
 
 // The n doubles of `xs` from `from` on, from `at` on.
@@ -84,11 +83,10 @@ fn put_points(out: &mut [u8], at: usize, xs: &[f64], from: usize, n: usize, k: u
         let w = linesText (bytes "point=") n k (part (now (xs .entry)) from (n * k)) in
         ⌜ Written (now (out .entry)) at w (now (out .exit)) r × (r ≡ at + (6 + 17 * n) * k) ⌝ }
 {
-    let point = [b'p', b'o', b'i', b'n', b't', b'='];
     let mut i = 0;
     let mut p = at;
     while i < k {
-        p = put_line(out, p, &point, xs, from + n * i, n);
+        p = put_line(out, p, b"point=", xs, from + n * i, n);
         i += 1;
     }
     p
@@ -103,14 +101,10 @@ fn put_sizes(out: &mut [u8], rev: usize, dim: usize, degree: usize, count: usize
         let s = sizesOf dim degree count in
         ⌜ Written (now (out .entry)) 0 (sizesText rev s) (now (out .exit)) r × (r ≤ 105) ⌝ }
 {
-    let revision = [b'r', b'e', b'v', b'='];
-    let i = put_small(out, 0, &revision, rev);
-    let dimension = [b'd', b'i', b'm', b'='];
-    let j = put_small(out, i, &dimension, dim);
-    let power = [b'd', b'e', b'g', b'r', b'e', b'e', b'='];
-    let k = put_small(out, j, &power, degree);
-    let points = [b'c', b'o', b'u', b'n', b't', b'='];
-    put_small(out, k, &points, count)
+    let i = put_small(out, 0, b"rev=", rev);
+    let j = put_small(out, i, b"dim=", dim);
+    let k = put_small(out, j, b"degree=", degree);
+    put_small(out, k, b"count=", count)
 }
 
 // The line of the nodes and that of the resolution, which is the first of `lines`, from `at` on.
@@ -121,22 +115,8 @@ fn put_limits(out: &mut [u8], at: usize, nodes: usize, lines: &[f64]) -> usize
         let x = getD (now (lines .entry)) 0 nan in
         ⌜ Written (now (out .entry)) at (limitsText nodes x) (now (out .exit)) r × (r ≤ at + 55) ⌝ }
 {
-    let most = [b'n', b'o', b'd', b'e', b's', b'='];
-    let i = put_small(out, at, &most, nodes);
-    let resolution = [
-        b'r',
-        b'e',
-        b's',
-        b'o',
-        b'l',
-        b'u',
-        b't',
-        b'i',
-        b'o',
-        b'n',
-        b'=',
-    ];
-    put_line(out, i, &resolution, lines, 0, 1)
+    let i = put_small(out, at, b"nodes=", nodes);
+    put_line(out, i, b"resolution=", lines, 0, 1)
 }
 
 // The lines of the knots, the points and the box, which stand in `lines` from its second place on, from `at` on.
@@ -155,13 +135,11 @@ fn put_shape(
         let w = shapeText (sizesOf dim degree count) (q .knots) (q .points) (q .box) in
         ⌜ Written (now (out .entry)) at w (now (out .exit)) r × (r ≤ at + 5336) ⌝ }
 {
-    let knots = [b'k', b'n', b'o', b't', b's', b'='];
     let k = count + degree + 1;
-    let i = put_line(out, at, &knots, lines, 1, k);
+    let i = put_line(out, at, b"knots=", lines, 1, k);
     let w = 2 * (dim + 1);
     let j = put_points(out, i, lines, 1 + k, w, count);
-    let cell = [b'b', b'o', b'x', b'='];
-    put_line(out, j, &cell, lines, 1 + k + w * count, 2 * dim)
+    put_line(out, j, b"box=", lines, 1 + k + w * count, 2 * dim)
 }
 
 // The one form of the question whose doubles stand in `lines`, at the front. The result is how many bytes it has.
@@ -189,7 +167,7 @@ fn put_form(
 // ---- what is given
 
 // Room for the form of any question, with numbers of up to twenty digits.
-fn sheet() -> [u8; 5496]
+fn blank_form() -> [u8; 5496]
     ensures { λ r. ⌜ 5496 ≡ length r ⌝ }
 {
     [0; 5496]
@@ -265,7 +243,7 @@ fn rewrite_lines(
     if number != 0 {
         return Rewritten::Refused(number as u64);
     }
-    let mut text = sheet();
+    let mut text = blank_form();
     let n = put_form(&mut text, rev, dim, degree, count, nodes, lines);
     give(&text[..n], out)
 }

@@ -8,7 +8,8 @@ use Prim.Native.Nat.{ℕ, zero, suc, _+_, _-_, _/_, _%_, _≤_, _<_}
 use native.Mathlib.Nat.{add-zero, add-suc, not-suc-le-zero}
 use native.Mathlib.Numerals.{add-one, sub-one}
 use native.Mathlib.Omega.{arith}
-use lib.ListN.{length, set, length-append}
+use lib.ListN.{length, take, drop, set, length-append}
+use lib.Seq.{take-at}
 use lib.Ieee.{Float, binary64, toBits}
 use borrow.Author.Tests.{le-leb, lt-leb}
 use Rattle.lists.specs.Lists.{put}
@@ -36,6 +37,16 @@ joined {l} {m} {k} {a} {b} {c} {xs} {ys} h w v = record {
       ∙ put-put l a xs ys (omega (arith, w .end));
   end = simp length-append (omega (arith, w .end, v .end));
 }
+
+-- Bytes that were written to the front are what stands there.
+pub front : (l w : List ℕ) → take (length w) (put l 0 w) ≡ w
+unfolding put
+front l w = take-at w (drop (0 + length w) l) (length w) refl
+
+pub written-front : {l w m : List ℕ} {r : ℕ} → Written l 0 w m r → take r m ≡ w
+written-front {l} {w} v =
+    let z : 0 + length w ≡ length w = omega arith in
+    (λ i. take ((v .end ∙ z) i) (v .memory i)) ∙ front l w
 
 -- ---- digits
 

@@ -2,32 +2,21 @@
 use mathlib.Core.Path.{_≡_, refl, sym, ap, _∙_, subst}
 use mathlib.Core.Bool.{Bool, true, false, cond}
 use mathlib.Core.List.{List}
-use Prim.Native.Nat.{ℕ, zero, suc, _+_, _≤_, _<_}
+use Prim.Native.Nat.{ℕ, zero, suc, _≤_, _<_}
 use native.Mathlib.Omega.{arith}
 use borrow.Author.Tests.{leb-true, le-leb, lt-leb}
-use lib.ListN.{length, take, drop}
-use lib.Seq.{take-at, take-length}
+use lib.ListN.{length, take}
+use lib.Seq.{take-length}
 use lib.Dec.{leb}
 use Rattle.math.proofs.Bools.{pick-yes, pick-no}
 use Rattle.lists.specs.Lists.{put}
 use Rattle.lists.proofs.Put.{put-nil, length-put}
 use Rattle.text.specs.Question.{Sizes, Numbers, Reading, refusedBy, asks, reading}
-use Rattle.text.specs.Printable.{Written}
-use Rattle.text.specs.Form.{form, refusalOf, checkedBy, acceptedBy, accepted, countFor, outputFor, rewrittenBy, outputBy, Rewrites, Within}
+use Rattle.text.specs.Form.{form, refusalOf, checkedBy, acceptedBy, accepted, countFor, outputFor, rewrittenBy, outputBy}
+use Rattle.text.specs.Form.{onPaperOf, onPaperFor, Rewrites, Within}
 use Rattle.text.specs.declared.rewrite.Rewritten.{Rewritten}
 use Rattle.text.specs.declared.rewrite.Rewritten.the-variants.{Bytes, Refused}
-
--- ---- bytes that were written to the front
-
-front : (l w : List ℕ) → take (length w) (put l 0 w) ≡ w
-unfolding put
-front l w = take-at w (drop (0 + length w) l) (length w) refl
-
--- they are what stands there
-pub written-front : {l w m : List ℕ} {r : ℕ} → Written l 0 w m r → take r m ≡ w
-written-front {l} {w} v =
-    let z : 0 + length w ≡ length w = omega arith in
-    (λ i. take ((v .end ∙ z) i) (v .memory i)) ∙ front l w
+use Rattle.text.proofs.print.Writing.{front}
 
 -- ---- all of a text, or nothing
 
@@ -72,12 +61,27 @@ module _ (w l : List ℕ) (k : ℕ) (K : k ≡ cond (leb (length w) (length l)) 
 
 -- ---- what is given for a text
 
+-- on paper it is what the paper gives
+on-paper : (n : ℕ) (a : Reading) → onPaperOf (rewrittenBy n a) ≡ onPaperFor n a
+unfolding rewrittenBy countFor onPaperFor
+on-paper n (refusedBy r) = refl
+on-paper n (asks rev s q) = by (length (form rev s q)) (leb (length (form rev s q)) n)
+  where
+    by : (w : ℕ) (b : Bool) → onPaperOf (cond b (Bytes w) (Refused 15))
+        ≡ cond b (record { refused = 0; written = w }) (record { refused = 15; written = 0 })
+    by w true = refl
+    by w false = refl
+
+-- so what is given and what is left are all that is to be shown
+rewrites : (a : Reading) (l m : List ℕ) (r : Rewritten) → r ≡ rewrittenBy (length l) a → m ≡ outputBy l a → Rewrites a l m r
+rewrites a l m r R M = record { result = R; paper = ap onPaperOf R ∙ on-paper (length l) a; memory = M }
+
 -- it is refused when it is read
 pub rewrites-refused : (text l : List ℕ) (n : ℕ) → reading text ≡ refusedBy n → Rewrites (accepted text) l l (Refused n)
 unfolding accepted acceptedBy rewrittenBy outputBy
 rewrites-refused text l n e =
     let a = ap acceptedBy e in
-    record { result = sym (ap (rewrittenBy (length l)) a); memory = sym (ap (outputBy l) a) }
+    rewrites (accepted text) l l (Refused n) (sym (ap (rewrittenBy (length l)) a)) (sym (ap (outputBy l) a))
 
 -- it comes to a question
 pub rewrites-asked : (text l m : List ℕ) (rev : ℕ) (s : Sizes) (q : Numbers) (r : Rewritten) → reading text ≡ asks rev s q
@@ -94,10 +98,10 @@ module _ (rev : ℕ) (s : Sizes) (q : Numbers) (l : List ℕ) (n : ℕ) (N : n �
       by : (k : ℕ) → refusalOf rev s q ≡ k → (k ≡ 0 → ⊥) → Rewrites (checkedBy rev s q (refusalOf rev s q)) l l (Refused k)
       by zero e h = absurd (h refl)
       by (suc k) e h =
-          unfold checkedBy rewrittenBy outputBy in record {
-            result = sym (ap (λ (x : ℕ). rewrittenBy (length l) (checkedBy rev s q x)) e);
-            memory = sym (ap (λ (x : ℕ). outputBy l (checkedBy rev s q x)) e);
-          }
+          unfold checkedBy rewrittenBy outputBy in
+          rewrites (checkedBy rev s q (refusalOf rev s q)) l l (Refused (suc k))
+          (sym (ap (λ (x : ℕ). rewrittenBy (length l) (checkedBy rev s q x)) e))
+          (sym (ap (λ (x : ℕ). outputBy l (checkedBy rev s q x)) e))
 
   -- or whose form is given
   pub question-given : (m : List ℕ) (r : Rewritten) → n ≡ 0 → r ≡ countFor (length l) (form rev s q) → m ≡ outputFor l (form rev s q)
@@ -105,10 +109,9 @@ module _ (rev : ℕ) (s : Sizes) (q : Numbers) (l : List ℕ) (n : ℕ) (N : n �
   unfolding acceptedBy checkedBy rewrittenBy outputBy
   question-given m r z R M =
       let e : refusalOf rev s q ≡ 0 = sym N ∙ z in
-      record {
-        result = R ∙ sym (ap (λ (x : ℕ). rewrittenBy (length l) (checkedBy rev s q x)) e);
-        memory = M ∙ sym (ap (λ (x : ℕ). outputBy l (checkedBy rev s q x)) e);
-      }
+      rewrites (acceptedBy (asks rev s q)) l m r
+      (R ∙ sym (ap (λ (x : ℕ). rewrittenBy (length l) (checkedBy rev s q x)) e))
+      (M ∙ sym (ap (λ (x : ℕ). outputBy l (checkedBy rev s q x)) e))
 
 -- ---- a count that is given is one of bytes of the output
 

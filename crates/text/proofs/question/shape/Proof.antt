@@ -116,7 +116,7 @@ add-line : tie.Need-add-line
 add-line c = search needs
 
 -- The start, from where the line of the box is to be read.
-abbrev start : tie.After-line-arg2 → tie.Start
+abbrev start : tie.After-line-arg4 → tie.Start
 start c = begin (knots-at (before-points (points-at (c .before .before .before))))
 
 mul-line-2 : tie.Need-mul-line-2

@@ -1,7 +1,7 @@
--- `answered` equals its definition: the text is refused, or the search answers.
-use mathlib.Core.Path.{subst}
+-- `answered` keeps what it promises: the text is refused, or the search answers.
+use mathlib.Core.Path.{refl, subst}
 use Rattle.text.specs.Cursor.{TextRead}
-use Rattle.text.proofs.respond.Cases.{answered-refused, answered-asked}
+use Rattle.text.proofs.respond.Cases.{answers-read}
 use native.Mathlib.Omega.{arith}
 use borrow.Author.Needs.{needs}
 use Rattle.text.proofs.respond.answered.Statement.{statement}
@@ -36,15 +36,14 @@ returns : tie.Need-returns
 returns c =
     let n = c .before in
     let r = n .before .before .before in
-    (answered-refused _ _ (subst (TextRead _ _) (n .n .given .1) (r .read .ensures)), tt)
+    answers-read _ _ _ (subst (TextRead _ _) (n .n .given .1) (r .read .ensures)) refl
 
 returns-2 : tie.Need-returns-2
 returns-2 c =
     let rev = c .before .before .before in
     let r = rev .before .before .before in
     let q = subst (TextRead _ _) (rev .rev .given .1) (r .read .ensures) in
-    let f = c .ask-lines in
-    (answered-asked _ _ _ _ (f .result) (q .says) (f .ensures .0), f .ensures .1)
+    answers-read _ _ (c .ask-lines .result) (q .says) (c .ask-lines .ensures)
 
 pub answered-spec : {M : Type 1} → statement M
 answered-spec =

@@ -2,11 +2,10 @@
 use Prim.Native.Nat.{ℕ, _+_, _-_, _*_, _≤_}
 use native.Mathlib.Omega.{arith}
 use Rattle.lists.specs.Lists.{part}
-use Rattle.model.specs.Call.{curveOf}
 use Rattle.text.specs.Question.{sizesOf}
 use Rattle.text.proofs.question.Others.{few-numbers}
 use Rattle.text.proofs.reading.Back.{parts-lent}
-use Rattle.text.proofs.respond.Lent.{lines-same, printable}
+use Rattle.text.proofs.respond.Lent.{lines-answer}
 use borrow.Author.Needs.{needs}
 use Rattle.text.proofs.respond.ask_lines.Statement.{statement}
 use Rattle.text.proofs.respond.ask_lines.Tie as tie
@@ -99,12 +98,9 @@ returns c =
     let ks = part l 1 (1 + K - 1) in
     let ps = part l (1 + K) (1 + K + P - (1 + K)) in
     let bs = part l (1 + K + P) (1 + K + P + 2 * g .dim - (1 + K + P)) in
-    let parts = parts-lent (g .dim) (g .degree) (g .count) l in (
-      lines-same (asked .curve-could-contain .result) (g .rev) (sizesOf (g .dim) (g .degree) (g .count)) (g .nodes) l work ks ps bs
-          (parts .knots) (parts .points) (parts .box) (at-area .area .ensures) (asked .curve-could-contain .ensures .result),
-      printable (curveOf (g .dim) (g .degree) (g .count) ks ps) (asked .curve-could-contain .result)
-          (asked .curve-could-contain .ensures .within),
-    )
+    let parts = parts-lent (g .dim) (g .degree) (g .count) l in
+    lines-answer (asked .curve-could-contain .result) (g .rev) (sizesOf (g .dim) (g .degree) (g .count)) (g .nodes) l work _ ks ps bs
+    (parts .knots) (parts .points) (parts .box) (at-area .area .ensures) (asked .curve-could-contain .ensures)
 
 pub ask-lines-spec : {M : Type 1} → statement M
 ask-lines-spec =

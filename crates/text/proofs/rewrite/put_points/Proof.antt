@@ -13,11 +13,11 @@ use Rattle.text.proofs.rewrite.put_points.Statement.{statement}
 use Rattle.text.proofs.rewrite.put_points.Tie as tie
 
 abbrev Inv-loop : tie.InvT-loop
-Inv-loop out₀ at xs from n k point i₀ p₀ out i p =
+Inv-loop out₀ at xs from n k i₀ p₀ point out i p =
     (i ≤ k) × (length out ≡ length out₀) × (p ≡ at + (6 + 17 * n) * i) × Lines point xs from n k out₀ at (6 + 17 * n) i out
 
 abbrev μ-loop : tie.MeasureT-loop
-μ-loop out₀ at xs from n k point i₀ p₀ out i p = k - i
+μ-loop out₀ at xs from n k i₀ p₀ point out i p = k - i
 
 -- The start, from the head of the loop.
 abbrev begin : tie.At-loop Inv-loop μ-loop → tie.Start Inv-loop μ-loop

@@ -5,7 +5,8 @@ use Rattle.text.specs.Question.{Sizes, sizesOf, Numbers}
 use Rattle.text.specs.Cursor.{numbersIn}
 use Rattle.text.specs.Form.{countFor, outputFor}
 use Rattle.text.proofs.rewrite.Accepted.{all-numbers}
-use Rattle.text.proofs.rewrite.Cases.{written-front, question-refused, question-given}
+use Rattle.text.proofs.print.Writing.{written-front}
+use Rattle.text.proofs.rewrite.Cases.{question-refused, question-given}
 use native.Mathlib.Omega.{arith}
 use borrow.Author.Needs.{needs}
 use Rattle.text.proofs.rewrite.rewrite_lines.Statement.{statement}
@@ -33,8 +34,8 @@ returns c =
     let k = start (c .before) in
     question-refused (k .args .rev) (sizes k) (asked k) (k .args .out .now) _ (c .before .lines-refusal .ensures) (c .if1 .taken)
 
-sheet-requires : tie.Need-sheet-requires
-sheet-requires c κs = search needs
+blank-form-requires : tie.Need-blank-form-requires
+blank-form-requires c κs = search needs
 
 slice-aggregate-put-form : tie.Need-slice-aggregate-put-form
 slice-aggregate-put-form c = search needs
@@ -78,7 +79,7 @@ rewrite-lines-spec =
     (tie.spec
     lines-refusal-requires
     returns
-    sheet-requires
+    blank-form-requires
     slice-aggregate-put-form
     put-form-requires
     array-share-prefix-text
