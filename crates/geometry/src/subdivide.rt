@@ -81,7 +81,7 @@ fn cuts_of(o: Outcome) -> usize
         Outcome::Reported(_) => 0,
         Outcome::Restricted(n) => n,
         Outcome::Halved => 0,
-        Outcome::BadWeight => 0,
+        Outcome::BadWeight => 0, // its piece is not queued
     }
 }
 
