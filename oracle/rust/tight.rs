@@ -1,7 +1,8 @@
 //! Revision 2's arithmetic in exact whole numbers. A finite double is a whole number times a power of two; so are a sum and a product of two,
 //! and of a quotient the first 64 or more binary digits and whether a rest is left. From these the doubles on either side are read off.
 //! No operation of f64 rounds here: there are bits, signs and comparisons, and an infinity is a limit.
-//! A result that is a NaN has any bits, and a zero any sign.
+//! A result that is a NaN has any bits, and a product that is zero any sign. A sum or a quotient that is zero has the definition's sign: a divisor that is
+//! out of order, or has a NaN, may have a zero for one bound and yet not hold zero, and the quotient shows that sign.
 
 /// The bounds of an interval, or the doubles on either side of an exact number: the greatest at most it, and the least at least it.
 pub type Bounds = [f64; 2];
@@ -9,6 +10,10 @@ pub type Bounds = [f64; 2];
 const NAN: Bounds = [f64::NAN; 2];
 const GREATEST: u64 = 0x7fef_ffff_ffff_ffff;
 const INFINITE: u64 = 0x7ff0_0000_0000_0000;
+
+fn zero(negative: bool) -> f64 {
+    if negative { -0.0 } else { 0.0 }
+}
 
 // ---- exact numbers
 
@@ -24,7 +29,7 @@ impl Exact {
     /// The doubles on either side of it.
     fn bounds(&self) -> Bounds {
         if self.m == 0 {
-            return [0.0; 2];
+            return [zero(self.negative); 2];
         }
         // The unit in which doubles of this size are whole numbers below 2^53; the bits of such a double go up by 1 with the number.
         let digits = 128 - self.m.leading_zeros() as i32;
@@ -84,6 +89,11 @@ pub fn sum(a: f64, b: f64) -> Bounds {
         // Less a rest is one unit less, and a rest again.
         Exact { negative, m: m - n - u128::from(rest), rest, e }
     };
+    if exact.m == 0 {
+        // Below it is the zero that rounding to the nearest gives, and above its mirror image.
+        let signs = [a, b].map(f64::is_sign_negative);
+        return [zero(signs == [true; 2]), zero(signs != [false; 2])];
+    }
     exact.bounds()
 }
 
@@ -113,7 +123,7 @@ pub fn quotient(a: f64, b: f64) -> Bounds {
         return [if negative { f64::NEG_INFINITY } else { f64::INFINITY }; 2];
     }
     if b.is_infinite() {
-        return [0.0; 2];
+        return [zero(negative); 2];
     }
     divided(negative, size(a), size(b)).bounds()
 }

@@ -36,6 +36,7 @@ def rust_of(text, crate):
     text = clauses_out(text)
     text = re.sub(r"\bcrate::", "crate::" + crate + "::", text)
     text = re.sub(r"^([ \t]*)use (" + "|".join(CRATES) + r")::", r"\1use crate::\2::", text, flags=re.M)
+    text = re.sub(r"(?<![\w:])(" + "|".join(CRATES) + r")::(?=\w+::)", r"crate::\1::", text)
     text = re.sub(r"^(pub )?(struct|enum)\b", r"#[derive(Clone, Copy)]\n\1\2", text, flags=re.M)
     return text
 

@@ -1,5 +1,6 @@
 //! Hands the same texts to `respond` of crates/text, which gives what the program gripcheck prints, and to the scope and the Rust, and compares the
-//! outputs byte for byte. With `--store FOLDER` it writes questions and expected answers to files instead.
+//! outputs byte for byte. With `--program FILE` it hands them to that program as well. With `--store FOLDER` it writes questions and expected answers to
+//! files instead.
 #[path = "../rust/answers.rs"]
 mod answers;
 #[allow(dead_code)]
@@ -12,6 +13,9 @@ mod refusals;
 mod texts;
 use answers::{Answer, hush, refused};
 use random::Rng;
+use std::io::{ErrorKind, Write};
+use std::process::{Command, Stdio};
+use std::sync::OnceLock;
 use texts::{DAMAGE, LENT, Named, asked, most_nodes, replace_small, revision, sizes, some_text};
 
 unsafe extern "C" {
@@ -20,6 +24,10 @@ unsafe extern "C" {
 
 /// The bytes that an answer must have room for.
 const ROOM: usize = 192;
+/// The bytes that the program reads at most.
+const READ: usize = 65_537;
+/// The program gripcheck, where it is asked too.
+static PROGRAM: OnceLock<String> = OnceLock::new();
 
 // ---- what is expected
 
@@ -56,6 +64,23 @@ fn ask_port(r: &mut Rng, text: &[u8], room: usize) -> (Vec<u8>, bool) {
         return (Vec::new(), false);
     }
     (out[..n].to_vec(), out[n..] == before[n..])
+}
+/// What the program prints for a text on its standard input; and what it says on standard error, and how it ends, if that is not nothing and not 0.
+/// Of a text that is longer than what it reads the rest may find no reader.
+fn ask_program(program: &str, text: &[u8]) -> Vec<u8> {
+    let mut process = Command::new(program);
+    let mut process = process.stdin(Stdio::piped()).stdout(Stdio::piped()).stderr(Stdio::piped()).spawn().expect("the program can be started");
+    let fed = process.stdin.take().expect("a pipe").write_all(text);
+    let output = process.wait_with_output().expect("the program's output can be read");
+    let mut said = [output.stdout, output.stderr].concat();
+    if !output.status.success() {
+        said.extend(format!("{}\n", output.status).bytes());
+    }
+    match fed {
+        Err(e) if e.kind() != ErrorKind::BrokenPipe || text.len() <= READ => said.extend(format!("the text was not read: {e}\n").bytes()),
+        _ => {}
+    }
+    said
 }
 
 // ---- the comparison
@@ -94,7 +119,7 @@ fn table_of(text: &[u8], theirs: &Result<Expected, String>) -> usize {
     let refused = theirs.as_ref().is_ok_and(|e| e.word == "refused-12" || e.word == "refused-16");
     revision(text).filter(|_| !refused).map_or(2, |(rev, _)| rev - 1)
 }
-/// Asks both. No answer, as where an assertion of the Rust's debug build fires, is a difference.
+/// Asks all. No answer, as where an assertion of the Rust's debug build fires, is a difference.
 fn same(r: &mut Rng, text: &[u8], theirs: &Result<Expected, String>) -> bool {
     let room = ROOM + if r.one_in(2) { 0 } else { r.below(100) };
     let (ours, mut left) = ask_port(r, text, room);
@@ -103,11 +128,14 @@ fn same(r: &mut Rng, text: &[u8], theirs: &Result<Expected, String>) -> bool {
         let (none, kept) = ask_port(r, text, short);
         left &= none.is_empty() && kept;
     }
-    let right = theirs.as_ref().is_ok_and(|e| e.lines.as_bytes() == ours);
+    let program = PROGRAM.get().map(|program| ask_program(program, text));
+    let right = theirs.as_ref().is_ok_and(|e| e.lines.as_bytes() == ours && program.as_ref().is_none_or(|said| e.lines.as_bytes() == said));
     if !right || !left {
-        let theirs = theirs.as_ref().map_or_else(|said| format!("no answer: {said}"), |e| e.lines.clone());
-        let said = if left { "left" } else { "not left" };
-        DIFFERENCE.with_borrow_mut(|d| *d = format!("expected\n{theirs}the port\n{}the bytes behind are {said}", String::from_utf8_lossy(&ours)));
+        let theirs = theirs.as_ref().map_or_else(|said| format!("no answer: {said}\n"), |e| e.lines.clone());
+        let behind = if left { "left" } else { "not left" };
+        let program = program.map_or(String::new(), |said| format!("\nthe program\n{}", String::from_utf8_lossy(&said)));
+        let ours = String::from_utf8_lossy(&ours);
+        DIFFERENCE.with_borrow_mut(|d| *d = format!("expected\n{theirs}the port\n{ours}the bytes behind are {behind}{program}"));
     }
     right && left
 }
@@ -154,7 +182,7 @@ fn compare(r: &mut Rng, total: u64) -> bool {
         println!("{way:<18} {texts:>10} {refused:>10} {other:>10}");
     }
     let differ: u64 = rows.iter().flatten().map(|row| row.differ).sum();
-    println!("{total} compared, {differ} differ");
+    println!("{total} compared{}, {differ} differ", if PROGRAM.get().is_some() { ", and what the program printed" } else { "" });
     differ == 0
 }
 
@@ -274,7 +302,11 @@ fn store(r: &mut Rng, folder: &str) -> std::io::Result<bool> {
 
 fn main() {
     let mut words: Vec<String> = std::env::args().skip(1).collect();
-    let folder = (words.first().is_some_and(|w| w == "--store")).then(|| words.drain(..2).nth(1).expect("--store FOLDER"));
+    let mut option = |name: &str| words.first().is_some_and(|w| w == name).then(|| words.drain(..2).nth(1).expect("a word behind the option"));
+    if let Some(program) = option("--program") {
+        PROGRAM.set(program).expect("one program");
+    }
+    let folder = option("--store");
     let numbers: Vec<u64> = words.iter().map(|w| w.parse().expect("TEXTS [SEED]")).collect();
     let (total, seed) = (numbers.first().copied().unwrap_or(300_000), numbers.get(1).copied().unwrap_or(1));
     hush();
