@@ -1,9 +1,7 @@
 // The text on standard input, for the programs.
-ghost use mathlib.Core.Path.{_≡_};
-ghost use Prim.Native.Nat.{_+_, _≤_, min};
+ghost use Prim.Native.Nat.{_+_, _≤_};
 ghost use lib.ListN.{length};
 ghost use Rattle.io.specs.Counts.{Counts};
-ghost use Rattle.lists.specs.Lists.{put};
 ghost use Rattle.input.specs.Filled.{Filled};
 
 // What was read: so many bytes at the front of a slice, and whether a read failed.
@@ -12,30 +10,11 @@ pub struct Input {
     pub failed: bool,
 }
 
-// Room for one read.
-fn chunk() -> [u8; 4096]
-    ensures { λ r. ⌜ 4096 ≡ length r ⌝ }
-{
-    [0; 4096]
-}
-
 // The lesser of two.
 fn lesser(a: usize, b: usize) -> usize
     ensures { λ r. ⌜ (r ≤ a) × (r ≤ b) ⌝ }
 {
     if a < b { a } else { b }
-}
-
-// The bytes of `from`, written to buf from `at` on.
-fn copy(buf: &mut [u8], at: usize, from: &[u8])
-    requires { ⌜ at + length (now from) ≤ length (now buf) ⌝ }
-    ensures { λ _. ⌜ now (buf .exit) ≡ put (now (buf .entry)) at (now (from .entry)) ⌝ }
-{
-    let mut i = 0;
-    while i < from.len() {
-        buf[at + i] = from[i];
-        i += 1;
-    }
 }
 
 // One read from standard input into `room`, of which what was read is copied to buf behind its first `done` bytes. (Of what a
@@ -46,7 +25,7 @@ fn read_through(room: &mut [u8], buf: &mut [u8], done: usize) -> Input
 {
     let got = libc::read(libc::STDIN_FILENO, room);
     let n = io::count(got, room);
-    copy(buf, done, &room[..n]);
+    bytes::copy(&room[..n], &mut buf[done..]);
     Input {
         bytes: done + n,
         failed: got < 0,
@@ -58,9 +37,9 @@ fn read_more(buf: &mut [u8], done: usize) -> Input
     requires { ⌜ done ≤ length (now buf) ⌝ }
     ensures { λ r. ⌜ Filled (now (buf .entry)) (now (buf .exit)) done (r .bytes) ⌝ }
 {
-    let mut chunk = chunk();
+    let mut room = io::buffer();
     let most = lesser(4096, buf.len() - done);
-    read_through(&mut chunk[..most], buf, done)
+    read_through(&mut room[..most], buf, done)
 }
 
 // Reads from standard input until buf is full, the input ends or a read fails. The result is how many bytes were read,

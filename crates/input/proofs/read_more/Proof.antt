@@ -8,16 +8,16 @@ use Rattle.input.proofs.read_more.Statement.{statement}
 use Rattle.input.proofs.read_more.Tie as tie
 use Rattle.input.proofs.read_more.Reads as reads
 use Rattle.input.proofs.read_more.Lts as lts
-use Rattle.input.proofs.chunk.Reads as chunk-reads
+use Rattle.io.proofs.buffer.Reads as buffer-reads
 use Rattle.input.proofs.lesser.Reads as lesser-reads
 use Rattle.input.proofs.read_through.Reads as read-through-reads
 
 -- The part is as long as it was chosen.
-fits : (c : tie.After-lesser) → length (take (c .lesser .result) (c .before .chunk .result)) ≡ c .lesser .result
-fits c = length-take-le _ _ (omega (arith, c .lesser .ensures .0, c .before .chunk .ensures))
+fits : (c : tie.After-lesser) → length (take (c .lesser .result) (c .before .buffer .result)) ≡ c .lesser .result
+fits c = length-take-le _ _ (omega (arith, c .lesser .ensures .0, c .before .buffer .ensures))
 
-chunk-requires : tie.Need-chunk-requires
-chunk-requires c κs = search needs
+buffer-requires : tie.Need-buffer-requires
+buffer-requires c κs = search needs
 
 sub-lesser : tie.Need-sub-lesser
 sub-lesser c = search needs
@@ -25,8 +25,8 @@ sub-lesser c = search needs
 lesser-requires : tie.Need-lesser-requires
 lesser-requires c κs = search needs
 
-array-borrow-prefix-chunk : tie.Need-array-borrow-prefix-chunk
-array-borrow-prefix-chunk c = search needs
+array-borrow-prefix-room : tie.Need-array-borrow-prefix-room
+array-borrow-prefix-room c = search needs
 
 slice-aggregate-read-through : tie.Need-slice-aggregate-read-through
 slice-aggregate-read-through c = sym (fits (c .before))
@@ -45,10 +45,10 @@ pub read-more-spec : {M : Type 1} → statement M
 read-more-spec =
     tie.close
     (tie.spec
-    chunk-requires
+    buffer-requires
     sub-lesser
     lesser-requires
-    array-borrow-prefix-chunk
+    array-borrow-prefix-room
     slice-aggregate-read-through
     read-through-requires
     same-length
