@@ -1,14 +1,15 @@
-/* The search of libpuhlwazo.a, for C and C++ on x86-64: does a taught path pass through a box, and between which two parameters?
+/* The search of libpuhlwazo, for C and C++ on x86-64: does a taught path pass through a box, and between which two parameters?
  *
- * docs/LINKING.md leads through it. The library calls nothing but memcpy and memset, takes no memory of its own and keeps nothing between two calls: several
- * threads may call it at once, each with its own work area and answer. A call takes less than 5 KB of stack, the first one a few more where the dynamic linker
- * binds memset in it (some 6 KB in all were seen; the linker's share depends on the processor).
+ * It needs C99 or C++11, or newer. docs/LINKING.md leads through it. The library calls nothing but memcpy and memset, takes no memory of its own and keeps
+ * nothing between two calls: several threads may call it at once, each with its own work area and answer. A call takes less than 5 KB of stack, the first one
+ * a few more where the dynamic linker binds memset in it (some 6 KB in all were seen; the linker's share depends on the processor).
  *
  * What the pointers must be, in every call:
- *   - each points to as many numbers as the length behind it says (counts to PUHLWAZO_COUNTS, bounds to 2), and is aligned for them; none is NULL, also where
- *     a length is 0;
- *   - work, counts and bounds overlap neither each other nor anything that is only read;
+ *   - each points to as many numbers as the length behind it says (counts to PUHLWAZO_COUNTS, bounds to 2), and is aligned for them, to 8 bytes; none is NULL,
+ *     also where a length is 0;
+ *   - work, counts and bounds overlap neither each other nor anything that is only read; what is only read may overlap;
  *   - nothing else writes to any of it during the call.
+ * Of a call with other pointers nothing is promised, neither its answer nor what it writes nor that it ends; it does not look for this, since it cannot.
  *
  * What the floating-point environment of the calling thread must be: rounding to nearest, subnormal numbers kept (neither flush-to-zero nor
  * denormals-are-zero), all exceptions masked. A program starts so, unless gcc or clang links it with -ffast-math, -Ofast or -funsafe-math-optimizations:
@@ -22,7 +23,7 @@
 #define PUHLWAZO_H
 
 #if !defined(__x86_64__) && !defined(_M_X64)
-#error "libpuhlwazo.a is for x86-64"
+#error "libpuhlwazo is for x86-64"
 #endif
 
 #include <stddef.h>
@@ -64,14 +65,14 @@ enum {
  * points      2 * (dim + 1) * count numbers: for each point lo and hi of each coordinate, then lo and hi of its weight; the coordinates are multiplied by the
  *             weight
  * point_box   2 * dim numbers: lo and hi of the box on each axis
- * resolution  a piece of the path is not halved where its size, or its part of the domain, is no larger. Cutting a piece down to what the box leaves of it does
- *             not look at the resolution: with any of them a piece can still be cut
+ * resolution  a piece of the path is not halved where its size, or its part of the domain, is no larger. Cutting a piece down to the part that may still meet
+ *             the box does not look at the resolution: with any of them a piece can still be cut
  * nodes       at most so many pieces are visited: at most 4,096
  * work        lent memory: at least puhlwazo_work_words(dim, degree, count, nodes) numbers, with any contents. A refusal by 16 or by 1 to 10 leaves it as it
  *             was; any other call leaves 0 in its first puhlwazo_work_words(..) numbers, and the rest as it was
  * counts      gets [0] the kind of the answer; [1] visited: how many pieces were; [2] pending: how many were left (0 unless spent); [3] cuts: how often an end
- *             was cut off, 1 or 2 for each piece that was cut down to what the box leaves of it and queued, also where it still waits at the end; [4] depth:
- *             how often the piece that was halved most had been halved, of those that were visited. It is below visited, unless both are 0.
+ *             was cut off, 1 or 2 for each piece that was cut down to the part that may still meet the box and queued, also where it still waits at the end;
+ *             [4] depth: how often the piece that was halved most had been halved, of those that were visited. It is below visited, unless both are 0.
  *             [1] to [4] are 0 after a refusal by 16 or by 1 to 10, and where the box misses at once
  * bounds      gets lo and hi: both finite, in the domain, and lo at most hi (0 and 0 unless enclosed)
  *
