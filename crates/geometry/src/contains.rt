@@ -213,11 +213,11 @@ fn search_lent(
 // Whether the curve passes through the box, and between which two parameters.
 //
 // `rev` names the revision of the arithmetic: 1 is the Rust's, 2 the tightest bounds of IEEE 1788. Any other number is refused by 16.
-// The curve has `count` control points, of `dim` coordinates and a weight, and `degree`. `points` holds lo and hi of each coordinate and, last, of the
-// weight, one point behind the other; each coordinate is multiplied by the weight. `knots` are count + degree + 1 numbers. `point_box` holds lo and hi of
-// the box on each axis. A piece is not halved where its size, or its part of the domain, is no larger than `resolution`; cutting it down to the part that may
-// still meet the box (its hat) does not look at that. At most `nodes` pieces are visited. `work` is lent memory, of at least `stated_words` numbers. What it
-// holds at the start changes nothing.
+// The curve has `count` control points, of `dim` coordinates and a weight, and `degree`. `points` holds lo and hi of each coordinate and,
+// last, of the weight, one point behind the other; each coordinate is multiplied by the weight. `knots` are count + degree + 1 numbers.
+// `point_box` holds lo and hi of the box on each axis. A piece is not halved where its size, or its part of the domain, is no larger than
+// `resolution`; cutting it down to the part that may still meet the box (its hat) does not look at that. At most `nodes` pieces are
+// visited. `work` is lent memory, of at least `stated_words` numbers. What it holds at the start changes nothing.
 //
 // `Nothing` says that no parameter is an exact hit, `Enclosed` that every exact hit lies between lo and hi. A parameter t is a rational number on the axis of
 // the knots, from the knot numbered `degree` to the knot numbered `count`, counted from 0, both included.
