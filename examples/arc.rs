@@ -1,5 +1,8 @@
-//! The question of arc.txt, asked from Rust: prints the same seven lines as bin/gripcheck examples/arc.txt. A first argument is the revision of the
-//! arithmetic, as behind 'rev=' in a text; without one it is 1.
+//! The question of arc.txt, asked from Rust: prints the same seven lines as bin/gripcheck examples/arc.txt.
+//!
+//! Usage: arc [REVISION [NODES [cart]]]
+//! REVISION is that of the arithmetic, as behind 'rev=' in a text; without it it is 1. NODES is 64 if not given. With the word cart the training cart is
+//! asked, which takes 48 nodes at most and has a work area of its own.
 
 mod puhlwazo {
     //! A safe face of the library: slices become pointers and lengths, and the numbers of an answer one enum.
@@ -25,6 +28,22 @@ mod puhlwazo {
             nodes: usize,
             work: *mut f64,
             work_length: usize,
+            counts: *mut [u64; COUNTS],
+            bounds: *mut [f64; 2],
+        ) -> u64;
+        fn puhlwazo_cart_could_contain(
+            rev: usize,
+            dim: usize,
+            degree: usize,
+            count: usize,
+            knots: *const f64,
+            knots_length: usize,
+            points: *const f64,
+            points_length: usize,
+            point_box: *const f64,
+            point_box_length: usize,
+            resolution: f64,
+            nodes: usize,
             counts: *mut [u64; COUNTS],
             bounds: *mut [f64; 2],
         ) -> u64;
@@ -100,6 +119,36 @@ mod puhlwazo {
                 &mut bounds,
             )
         };
+        found(refusal, counts, bounds)
+    }
+
+    /// The same on the training cart, which takes degree to 3, count to 8 and nodes to 48, and has a work area of its own, on the stack.
+    pub fn cart_could_contain(rev: usize, curve: &Curve, point_box: &[f64], resolution: f64, nodes: usize) -> Found {
+        let (mut counts, mut bounds) = ([0; COUNTS], [0.0; 2]);
+        // SAFETY: as above.
+        let refusal = unsafe {
+            puhlwazo_cart_could_contain(
+                rev,
+                curve.dim,
+                curve.degree,
+                curve.count,
+                curve.knots.as_ptr(),
+                curve.knots.len(),
+                curve.points.as_ptr(),
+                curve.points.len(),
+                point_box.as_ptr(),
+                point_box.len(),
+                resolution,
+                nodes,
+                &mut counts,
+                &mut bounds,
+            )
+        };
+        found(refusal, counts, bounds)
+    }
+
+    /// The answer of these numbers.
+    fn found(refusal: u64, counts: [u64; COUNTS], bounds: [f64; 2]) -> Found {
         let [kind, visited, pending, cuts, depth] = counts;
         let counts = Counts { visited, cuts, depth };
         match kind {
@@ -111,7 +160,7 @@ mod puhlwazo {
     }
 }
 
-use puhlwazo::{Curve, Found, curve_could_contain, environment_ok, work_words};
+use puhlwazo::{Curve, Found, cart_could_contain, curve_could_contain, environment_ok, work_words};
 
 fn main() {
     if !environment_ok() {
@@ -129,16 +178,22 @@ fn main() {
             4.0, 4.0, 0.0, 0.0, 1.0, 1.0, // (4, 0)
         ],
     };
-    let rev = std::env::args().nth(1).map_or(1, |word| word.parse().unwrap_or(0));
-    let nodes = 64;
-    let mut work = vec![0.0; work_words(&curve, nodes)];
-    let (result, counts, pending, bounds) =
-        match curve_could_contain(rev, &curve, &[1.9, 2.1, 1.9, 2.1], 0.001, nodes, &mut work) {
-            Found::Nothing(counts) => ("none".to_string(), counts, 0, None),
-            Found::Enclosed(lo, hi, counts) => ("enclosed".to_string(), counts, 0, Some((lo, hi))),
-            Found::Spent(pending, counts) => ("spent".to_string(), counts, pending, None),
-            Found::Refused(number, counts) => (format!("refused-{number}"), counts, 0, None),
-        };
+    let point_box = [1.9, 2.1, 1.9, 2.1];
+    let words: Vec<String> = std::env::args().collect();
+    let number = |at: usize, default: usize| words.get(at).map_or(default, |word| word.parse().unwrap_or(0));
+    let (rev, nodes) = (number(1, 1), number(2, 64));
+    let answer = if words.get(3).is_some_and(|word| word == "cart") {
+        cart_could_contain(rev, &curve, &point_box, 0.001, nodes)
+    } else {
+        let mut work = vec![0.0; work_words(&curve, nodes)];
+        curve_could_contain(rev, &curve, &point_box, 0.001, nodes, &mut work)
+    };
+    let (result, counts, pending, bounds) = match answer {
+        Found::Nothing(counts) => ("none".to_string(), counts, 0, None),
+        Found::Enclosed(lo, hi, counts) => ("enclosed".to_string(), counts, 0, Some((lo, hi))),
+        Found::Spent(pending, counts) => ("spent".to_string(), counts, pending, None),
+        Found::Refused(number, counts) => (format!("refused-{number}"), counts, 0, None),
+    };
     println!("result={result}\nvisited={}\ncuts={}\ndepth={}\npending={pending}", counts.visited, counts.cuts, counts.depth);
     match bounds {
         Some((lo, hi)) => println!("lo={:016x}\nhi={:016x}", lo.to_bits(), hi.to_bits()),

@@ -2,7 +2,8 @@
  *
  * It needs C99 or C++11, or newer. docs/LINKING.md leads through it. The library calls nothing but memcpy and memset, takes no memory of its own and keeps
  * nothing between two calls: several threads may call it at once, each with its own work area and answer. A call takes less than 5 KB of stack, the first one
- * a few more where the dynamic linker binds memset in it (some 6 KB in all were seen; the linker's share depends on the processor).
+ * a few more where the dynamic linker binds memset in it (some 6 KB in all were seen; the linker's share depends on the processor). The one exception is
+ * puhlwazo_cart_could_contain, which has its work area there: it takes some 70 KB, whatever it answers; give its thread 80 or more.
  *
  * What the pointers must be, in every call:
  *   - each points to as many numbers as the length behind it says (counts to PUHLWAZO_COUNTS, bounds to 2), and is aligned for them, to 8 bytes; none is NULL,
@@ -18,7 +19,7 @@
  * in every thread, before the first question.
  *
  * Nothing more is asked: with any numbers and any lengths a call comes to an end with an answer. What is promised of it stands above the function of the
- * same name in crates/puhlwazo/src/lib.rt, and is proved. */
+ * same name in crates/puhlwazo/src, and is proved. */
 #ifndef PUHLWAZO_H
 #define PUHLWAZO_H
 
@@ -34,8 +35,8 @@
 extern "C" {
 #endif
 
-/* Counted up when a declaration below changes its meaning or its form. */
-#define PUHLWAZO_VERSION 4
+/* Counted up when a declaration below is added, or changes its meaning or its form. */
+#define PUHLWAZO_VERSION 5
 
 /* How many numbers a call writes to `counts`. They may become more in a later version, behind the ones that are there: give the array this length. */
 #define PUHLWAZO_COUNTS 5
@@ -99,6 +100,21 @@ uint64_t puhlwazo_curve_could_contain(
     const double *point_box, size_t point_box_length,
     double resolution, size_t nodes,
     double *work, size_t work_length,
+    uint64_t counts[PUHLWAZO_COUNTS], double bounds[2]);
+
+/* The same search on the training cart, whose arm is short. It has a work area of its own, so that none is lent; all other arguments are those above.
+ *
+ * Where degree is above 3, count above 8 or nodes above 48, and nowhere else, it gives
+ *   14  the call is beyond a limit of the cart
+ * before 16 and every other number; the kind is PUHLWAZO_REFUSED then, and counts[1] to [4] are 0. Any other call has the number, counts and bounds that
+ * puhlwazo_curve_could_contain gives for the same arguments and a work area that is long enough: so never 10. */
+uint64_t puhlwazo_cart_could_contain(
+    size_t rev,
+    size_t dim, size_t degree, size_t count,
+    const double *knots, size_t knots_length,
+    const double *points, size_t points_length,
+    const double *point_box, size_t point_box_length,
+    double resolution, size_t nodes,
     uint64_t counts[PUHLWAZO_COUNTS], double bounds[2]);
 
 /* How many numbers of work area a call with these sizes needs, in either revision; 0 exactly for sizes that are refused by 1, 2, 3 or 9, whatever else is

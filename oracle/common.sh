@@ -92,6 +92,19 @@ build_port() {
     port=(-L "native=$1/target/staticlib" -l "static=$2")
 }
 
+# compile_port ARCHIVE CRATE BELOW..: the C library of a crate of the copy, compiled and not proved: rattle-cases, by which `rt try` compiles, does that,
+# and takes every crate below as source. `port` has the words to link it then.
+compile_port() {
+    local kit own below sources
+    kit=$(dirname "$(dirname "$(rt doc)")")
+    own=$kit/on/$(uname -m)
+    sources=(--lib "std=$kit/libs/std/src/lib.rt")
+    for below in "${@:3}"; do sources+=(--lib "$below=$copy/crates/$below/src/lib.rt"); done
+    logged "$work/staticlib.log" "$own/bin/rattle-cases" --toolchain "$own/toolchain" --staticlib "$1" "$copy/crates/$2/src/lib.rt" --crate-name "$2" \
+        "${sources[@]}"
+    port=(-L "native=$(dirname "$1")" -l "static=$2")
+}
+
 # ---- both
 
 # link SOURCE PROGRAM WORD..: a program over the Rust's libraries, those of revision 2, which it calls second_math and second_geometry, and the port's,

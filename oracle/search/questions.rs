@@ -210,7 +210,12 @@ pub fn question(r: &mut Rng) -> Question {
         2 => r.below(32 - degree),
         _ => r.below(8),
     };
-    let (dim, count) = (2 + r.below(2), degree + 1 + more);
+    sized(r, degree, degree + 1 + more, some_nodes)
+}
+
+/// The same of this degree and count, with such nodes.
+pub fn sized(r: &mut Rng, degree: usize, count: usize, some_nodes: fn(&mut Rng) -> usize) -> Question {
+    let dim = 2 + r.below(2);
     let (knots, points) = (some_knots(r, degree, count), some_points(r, dim, count));
     let (resolution, nodes) = (some_resolution(r), some_nodes(r));
     let mut q = Question { rev: 1, dim, degree, count, knots, points, cell: Vec::new(), resolution, nodes, room: 0 };

@@ -112,6 +112,13 @@ interval c k i kd ic =
 side : (c : Call) (k : ℕ) → k < c .curve .dim → getD (boxOf c) k absent ≡ scalarAt (c .box) k
 side c k h = getD-tab (c .curve .dim) (λ k. scalarAt (c .box) k) k absent h
 
+-- ---- an answer that is right, whatever is asked of its reports, is refused only by 11
+pub only-weights : (In : Scalar → Type 0) (r : Found) → Right In r → OnlyWeights r
+only-weights In (Nothing v k e) h = tt
+only-weights In (Enclosed lo hi v k e) h = tt
+only-weights In (Spent m v k e) h = tt
+only-weights In (Refused m v k e) h = h
+
 -- ---- an accepted call
 module _ (c : Call) (d : Doubles c) (acc : Accepted c) where
   abbrev p : ℕ
@@ -308,12 +315,6 @@ module _ (c : Call) (d : Doubles c) (acc : Accepted c) where
     ok-piece : (s : Piece) → Ok (c .curve .dim) (c .curve .degree) (c .curve .count) (value (start (c .curve .degree) (asPiece (c .curve)))) (value (end (asPiece (c .curve)))) s → PieceOf c s
     ok-piece s k = record { long = omega (arith, k .knots .long); knots = good-counted p (length (s .points)) (values (s .knots)) (k .knots .good); small = k .small; weights = k .weights }
 
-    only-weights : (r : Found) → Right (Inner (value (start (c .curve .degree) (asPiece (c .curve)))) (value (end (asPiece (c .curve))))) r → OnlyWeights r
-    only-weights (Nothing v k e) h = tt
-    only-weights (Enclosed lo hi v k e) h = tt
-    only-weights (Spent m v k e) h = tt
-    only-weights (Refused m v k e) h = h
-
     pieces : 1 ≤ c .curve .degree → (k : ℕ) → PiecesKept c (advance (visit ar (question c)) (c .nodes) k (begun (asPiece (c .curve))))
     pieces one k =
         go (advance (visit ar q) (c .nodes) k (begun (asPiece (c .curve))))
@@ -324,7 +325,7 @@ module _ (c : Call) (d : Doubles c) (acc : Accepted c) where
 
         go : (z : Step) → Stands (visit ar q) (c .nodes) (Inner a b) Good (inner-union a b) (visit-fine ar E q n a b) z → PiecesKept c z
         go (going s) h = every-imp (λ w. Good (w .piece)) (λ w. PieceOf c (w .piece)) (λ w k. ok-piece (w .piece) k) (s .queue) (h .pieces)
-        go (over r) h = only-weights r h
+        go (over r) h = only-weights _ r h
 
 -- ---- whatever the arithmetic and the curve, bounds are given out plain
 plain-bounds : (r : Found) → Right (λ _. Unit {0}) r → BoundsPositiveZero r
@@ -340,7 +341,7 @@ any-fine (restricted m s) = tt
 any-fine (halved l r) = (tt, tt)
 any-fine badWeight = tt
 
-plain-search : (ar : Arithmetic) (q : Question) (s : Piece) → Right (λ _. Unit {0}) (couldContain ar q s)
+pub plain-search : (ar : Arithmetic) (q : Question) (s : Piece) → Right (λ _. Unit {0}) (couldContain ar q s)
 unfolding couldContain
 plain-search ar q s = pick (Right (λ _. Unit {0})) (couldMeet ar (q .dim) (q .degree) (s .points) (q .box)) _ (Nothing 0 0 0)
     (λ _. answers (visit ar q) (q .nodes) (λ _. Unit {0}) (λ _. Unit {0}) (λ _ _ _ _. tt) (λ r _. any-fine (visit ar q r)) (advance (visit ar q) (q .nodes) (q .nodes) (begun s))

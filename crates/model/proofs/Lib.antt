@@ -12,6 +12,7 @@ pub mod Cuts
 pub mod Counts
 pub mod Proper
 pub mod Enclosure
+pub mod Refusals
 pub mod Weights
 pub mod Debug
 pub mod Witness

@@ -1,12 +1,10 @@
--- What the library gives out for an answer of the search, in numbers alone, and what it promises of them. Definitions only.
+-- What the library gives out for an answer, in numbers alone, and what it promises of them. Definitions only.
 use Prim.Native.Nat.{ℕ, zero, suc}
 use mathlib.Core.Path.{_≡_}
 use mathlib.Core.List.{List, [], _∷_}
 use lib.ListN.{getD}
 use lib.Ieee.{Float, nan}
 use Rattle.math.specs.Scalars.{zeroF}
-use Rattle.model.specs.Call.{Call, answerTo}
-use Rattle.model.specs.Promise.{Answers}
 use Rattle.model.specs.declared.contains.Found.{Found}
 use Rattle.model.specs.declared.contains.Found.the-variants.{Nothing, Enclosed, Spent, Refused}
 
@@ -48,11 +46,11 @@ readBack number counts bounds = ofKind (getD counts 0 0) number (getD counts 1 0
 
 -- ---- the promises
 
--- The call c, which found `before` in its work area and left `after`, has given out these numbers.
-pub record HandsOut (c : Call) (before after : List Float) (number : ℕ) (counts : List ℕ) (bounds : List Float) : Type 0 where
-  -- Each word is that of the definition, those included that mean nothing for this kind of answer.
-  pub of-number : number ≡ numberOf (answerTo c)
-  pub of-counts : counts ≡ countsOf (answerTo c)
-  pub of-bounds : bounds ≡ boundsOf (answerTo c)
-  -- The answer that a caller reads off them keeps every promise of the search, and so does the work area.
-  pub answers : Answers c before after (readBack number counts bounds)
+-- These numbers are given out for the answer r, of which `Keeps` is promised.
+pub record HandsOut (r : Found) (Keeps : Found → Type 0) (number : ℕ) (counts : List ℕ) (bounds : List Float) : Type 0 where
+  -- Each word is that of the answer, those included that mean nothing for its kind.
+  pub of-number : number ≡ numberOf r
+  pub of-counts : counts ≡ countsOf r
+  pub of-bounds : bounds ≡ boundsOf r
+  -- The answer that a caller reads off them keeps what is promised.
+  pub answers : Keeps (readBack number counts bounds)

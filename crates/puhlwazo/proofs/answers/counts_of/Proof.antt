@@ -2,10 +2,10 @@
 use mathlib.Core.Path.{sym, ap}
 use Rattle.puhlwazo.specs.Answers.{countsOf}
 use borrow.Author.Needs.{needs}
-use Rattle.puhlwazo.proofs.counts_of.Statement.{statement}
-use Rattle.puhlwazo.proofs.counts_of.Tie as tie
-use Rattle.puhlwazo.proofs.counts_of.Reads as reads
-use Rattle.puhlwazo.proofs.counts_of.Lts as lts
+use Rattle.puhlwazo.proofs.answers.counts_of.Statement.{statement}
+use Rattle.puhlwazo.proofs.answers.counts_of.Tie as tie
+use Rattle.puhlwazo.proofs.answers.counts_of.Reads as reads
+use Rattle.puhlwazo.proofs.answers.counts_of.Lts as lts
 
 enum-known-f : tie.Need-enum-known-f
 enum-known-f c = search needs

@@ -3,10 +3,10 @@ use mathlib.Core.Path.{sym, ap}
 use lib.Ieee.{ofBits}
 use Rattle.puhlwazo.specs.Answers.{boundsOf}
 use borrow.Author.Needs.{needs}
-use Rattle.puhlwazo.proofs.bounds_of.Statement.{statement}
-use Rattle.puhlwazo.proofs.bounds_of.Tie as tie
-use Rattle.puhlwazo.proofs.bounds_of.Reads as reads
-use Rattle.puhlwazo.proofs.bounds_of.Lts as lts
+use Rattle.puhlwazo.proofs.answers.bounds_of.Statement.{statement}
+use Rattle.puhlwazo.proofs.answers.bounds_of.Tie as tie
+use Rattle.puhlwazo.proofs.answers.bounds_of.Reads as reads
+use Rattle.puhlwazo.proofs.answers.bounds_of.Lts as lts
 
 enum-told : tie.Need-enum-told
 enum-told c = search needs

@@ -1,0 +1,3 @@
+-- What the cart's contract rests on, and cases.
+pub mod Laws
+pub mod Table

@@ -1,0 +1,2 @@
+-- What the training cart answers.
+pub mod Cart

@@ -1,0 +1,2 @@
+-- What both searches of the library hand out.
+pub mod Laws
