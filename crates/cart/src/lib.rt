@@ -3,7 +3,6 @@
 use geometry::contains::curve_could_contain;
 use model::contains::Found;
 ghost use mathlib.Core.Path.{_≡_};
-ghost use lib.ListN.{length};
 ghost use Rattle.model.specs.Call.{lent};
 ghost use Rattle.cart.specs.Cart.{isBeyond, ownWords, CartAnswers};
 
