@@ -1,5 +1,6 @@
 //! Asks the cart and the frame of the C library the same questions, around the cart's three limits, in both revisions and in others: beyond a limit the cart
-//! must say 14, with nothing counted, and else every word of the frame's answer, with a work area that is just long enough or a little longer.
+//! must say 14, with nothing counted, and else every word of the frame's answer, with a work area that is just long enough or a little longer; or with a
+//! shorter one, where the frame does not say 10.
 //! What the frame refuses is held to the words of the scope besides.
 #[path = "../search/questions.rs"]
 #[allow(dead_code)]
@@ -73,9 +74,13 @@ fn ask_cart(q: &Question) -> Answer {
         )
     })
 }
-/// The frame is lent as many numbers as it says that it needs, or a few more, full of garbage.
-fn ask_frame(r: &mut Rng, q: &mut Question) -> Answer {
-    q.room = unsafe { puhlwazo_work_words(q.dim, q.degree, q.count, q.nodes) } + r.below(6);
+/// How many numbers the frame says that it needs.
+fn needed(q: &Question) -> usize {
+    unsafe { puhlwazo_work_words(q.dim, q.degree, q.count, q.nodes) }
+}
+/// The frame is lent so many numbers, full of garbage.
+fn ask_frame(r: &mut Rng, q: &mut Question, room: usize) -> Answer {
+    q.room = room;
     let mut work = vec![f64::from_bits(r.next()); q.room];
     asked(|counts, bounds| unsafe {
         puhlwazo_curve_could_contain(
@@ -106,9 +111,14 @@ struct Row {
 fn compare(r: &mut Rng, q: &mut Question, rows: &mut BTreeMap<String, Row>) {
     let over = beyond(q);
     let (right, sound) = if over.is_empty() {
-        let (frame, left) = ask_frame(r, q);
+        let words = needed(q);
+        let short = (words > 0 && r.one_in(4)).then(|| { let room = r.below(words); ask_frame(r, q, room) });
+        let room = words + r.below(6);
+        let (frame, left) = ask_frame(r, q, room);
         let number = refusal(q);
-        (frame, left && if number == 0 { frame[0] == 0 || frame[0] == 11 } else { frame == refused(number) })
+        let sound = if number == 0 { frame[0] == 0 || frame[0] == 11 } else { frame == refused(number) };
+        let same = short.is_none_or(|(answer, left)| left && (answer == if number == 0 { refused(10) } else { frame }));
+        (frame, left && sound && same)
     } else {
         (refused(14), true)
     };

@@ -11,9 +11,9 @@ use lib.Ieee.{Float}
 use borrow.Author.Tests.{lt-ltb, le-ltb}
 use Rattle.math.proofs.Bools.{yes, no, compare-le, pick-yes, pick-no}
 use Rattle.model.specs.Layout.{slotWords, areaWords}
-use Rattle.model.specs.Call.{Call, arithmeticOf}
+use Rattle.model.specs.Call.{Call, arithmeticOf, answerTo}
 use Rattle.model.specs.Paper.{refused, paper}
-use Rattle.model.specs.Refusals.{Enough, OfQuestion}
+use Rattle.model.specs.Refusals.{Enough, withWords, OfQuestion}
 use Rattle.model.specs.Promise.{Answers}
 use Rattle.model.specs.declared.contains.Found.{Found}
 use Rattle.model.specs.declared.contains.Found.the-variants.{Refused}
@@ -78,6 +78,7 @@ cart-refused c e = record {
   fourteen = λ _. refl;
   exactly = λ _. yes _ e;
   frame = λ h. absurd (h (yes _ e));
+  or-ten = λ h. absurd (h (yes _ e));
   room = λ h. other 14 10 (omega arith) (one-number h);
   paper = ap paper here;
   encloses = λ _ h. absurd h;
@@ -105,6 +106,7 @@ module _ (c : Call) {before after : List Float} (r : Found) (e : isBeyond (c .cu
     fourteen = λ h. absurd (no _ e h);
     exactly = λ h. absurd (unrefused 14 long (omega arith) (omega arith) (λ z. omega (arith, z)) h);
     frame = λ _ words enough. A .result ∙ sym (refusals (arithmeticOf c) .areas c words long enough);
+    or-ten = λ _ words. either words (refusals (arithmeticOf c) .or-ten c words long);
     room = unrefused 10 long (omega arith) (omega arith) (λ z. omega (arith, z));
     paper = ap paper here;
     encloses = A .encloses;
@@ -119,3 +121,8 @@ module _ (c : Call) {before after : List Float} (r : Found) (e : isBeyond (c .cu
 
       long : Enough c (c .workLen)
       long = subst (Enough c) (sym w) (own-enough c e)
+
+      either : (words : ℕ) → (answerTo (withWords c words) ≡ answerTo c) ⊎ (answerTo (withWords c words) ≡ Refused 10 0 0 0)
+          → (r ≡ answerTo (withWords c words)) ⊎ (answerTo (withWords c words) ≡ Refused 10 0 0 0)
+      either words (inl h) = inl (A .result ∙ sym h)
+      either words (inr h) = inr h

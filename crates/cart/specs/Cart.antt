@@ -2,6 +2,7 @@
 use Prim.Native.Nat.{ℕ}
 use mathlib.Core.Path.{_≡_}
 use mathlib.Core.Bool.{Bool, cond, _||_}
+use mathlib.Core.Logic.{_⊎_}
 use lib.Dec.{T, ltb}
 use Rattle.model.specs.Call.{Call, answerTo}
 use Rattle.model.specs.Paper.{refused, paper}
@@ -35,8 +36,10 @@ pub record CartAnswers (c : Call) (r : Found) : Type 0 where
   pub fourteen : Beyond c → r ≡ Refused 14 0 0 0
   -- "Exactly": nothing else brings 14.
   pub exactly : paper r .result ≡ refused 14 → Beyond c
-  -- "Any other has the frame's result": that of the frame with any work area that is long enough.
+  -- "Any other has the frame's result": that of the frame with any work area that is long enough;
   pub frame : (Beyond c → ⊥) → (words : ℕ) → Enough c words → r ≡ answerTo (withWords c words)
+  -- "refusals included": with whatever work area, that of the frame, unless this is 10.
+  pub or-ten : (Beyond c → ⊥) → (words : ℕ) → (r ≡ answerTo (withWords c words)) ⊎ (answerTo (withWords c words) ≡ Refused 10 0 0 0)
   -- The cart's numbers are always enough: 10 never comes.
   pub room : paper r .result ≡ refused 10 → ⊥
   -- The word, the number and the values that the scope gives for it are those of the definition, too.

@@ -23,11 +23,11 @@ fn is_beyond(degree: usize, count: usize, nodes: usize) -> bool
 //
 // Exactly a call with a degree above 3, a count above 8 or nodes above 48 is refused by 14, before 16 and every other
 // number, with nothing counted. Any other has the answer of `curve_could_contain` with any work area that is long
-// enough: so never 10.
+// enough, and with any other too, unless that is 10: so never 10.
 //
 // Nothing is asked of the caller, and nothing is lent to be written. Each promise is a field of `CartAnswers`
-// (crates/cart/specs/Cart.antt), under a sentence: result, fourteen, exactly, frame, room, paper, encloses, within,
-// zeros, order, debug.
+// (crates/cart/specs/Cart.antt), under a sentence: result, fourteen, exactly, frame, or-ten, room, paper, encloses,
+// within, zeros, order, debug.
 pub fn cart_could_contain(
     rev: usize,
     dim: usize,

@@ -22,7 +22,7 @@ use Rattle.model.specs.Enclosure.{OnlyWeights}
 use Rattle.model.specs.Refusals.{questionOf, Enough, withWords, OfQuestion, Refusals, Rooms}
 use Rattle.model.specs.declared.contains.Found.{Found}
 use Rattle.model.specs.declared.contains.Found.the-variants.{Nothing, Enclosed, Spent, Refused}
-use Rattle.model.proofs.Checks.{pass, none-left, else-left, else-taken, question-passes, question-sizes, small-sizes, stated-words}
+use Rattle.model.proofs.Checks.{pass, fail, none-left, else-left, else-taken, question-passes, question-sizes, small-sizes, stated-words}
 use Rattle.model.proofs.Enclosure.{only-weights, plain-search}
 
 -- ---- the numbers of a question
@@ -100,13 +100,29 @@ one-number e = ap numberIn e
 
 module _ (ar : Arithmetic) where
   -- the answer looks at the area only by the refusal
-  same-answer : (c : Call) (words : ℕ) → Enough c (c .workLen) → Enough c words → searched ar (withWords c words) ≡ searched ar c
+  same-searched : (c : Call) (words m : ℕ) → refusal (withWords c words) ≡ m → refusal c ≡ m → searched ar (withWords c words) ≡ searched ar c
   unfolding searched searchedBy
-  same-answer c words long long′ = ap (searchedBy ar (withWords c words)) (same-refusal (withWords c words) long′) ∙ by (questionOf c) ∙ sym (ap (searchedBy ar c) (same-refusal c long))
+  same-searched c words m h k = ap (searchedBy ar (withWords c words)) h ∙ by m ∙ sym (ap (searchedBy ar c) k)
     where
       by : (m : ℕ) → searchedBy ar (withWords c words) m ≡ searchedBy ar c m
       by zero = refl
       by (suc m) = refl
+
+  same-answer : (c : Call) (words : ℕ) → Enough c (c .workLen) → Enough c words → searched ar (withWords c words) ≡ searched ar c
+  same-answer c words long long′ = same-searched c words (questionOf c) (same-refusal (withWords c words) long′) (same-refusal c long)
+
+  -- where the question passes, only the area is left to refuse by
+  same-or-ten : (c : Call) (words : ℕ) → Enough c (c .workLen) → (searched ar (withWords c words) ≡ searched ar c) ⊎ (searched ar (withWords c words) ≡ Refused 10 0 0 0)
+  unfolding refusal
+  same-or-ten c words long = by (questionOf c) refl
+    where
+      left : questionOf c ≡ 0 → (b : Bool) → areaFits (withWords c words) ≡ b → (searched ar (withWords c words) ≡ searched ar c) ⊎ (searched ar (withWords c words) ≡ Refused 10 0 0 0)
+      left e true f = inl (same-searched c words 0 (else-left _ _ e ∙ pass (withWords c words) 10 areaFits [] f ∙ none-left (withWords c words) 11) (same-refusal c long ∙ e))
+      left e false f = inr (unfold searched searchedBy in ap (searchedBy ar (withWords c words)) (else-left _ _ e ∙ fail (withWords c words) 10 areaFits [] f))
+
+      by : (m : ℕ) → questionOf c ≡ m → (searched ar (withWords c words) ≡ searched ar c) ⊎ (searched ar (withWords c words) ≡ Refused 10 0 0 0)
+      by zero e = left e (areaFits (withWords c words)) refl
+      by (suc m) e = inl (same-searched c words (questionOf c) (else-taken _ _ (λ z. omega (arith, sym e ∙ z))) (same-refusal c long))
 
   search-number : (q : Question) (s : Piece) → OnlyWeights (couldContain ar q s)
   search-number q s = only-weights (λ _. Unit {0}) (couldContain ar q s) (plain-search ar q s)
@@ -131,7 +147,7 @@ module _ (ar : Arithmetic) where
 
 -- WHO REFUSES BY WHICH NUMBER
 pub refusals : (ar : Arithmetic) → Refusals ar
-refusals ar = record { search = search-number ar; question = question-number; long = same-refusal; numbers = answer-number ar; areas = same-answer ar }
+refusals ar = record { search = search-number ar; question = question-number; long = same-refusal; numbers = answer-number ar; areas = same-answer ar; or-ten = same-or-ten ar }
 
 -- ---- for how many sizes an area is long enough
 

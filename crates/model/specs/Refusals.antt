@@ -11,6 +11,7 @@ use Rattle.model.specs.Call.{Call, questionRefusal, refusal, statedWords
 use Rattle.model.specs.Paper.{refused, paper}
 use Rattle.model.specs.Enclosure.{OnlyWeights}
 use Rattle.model.specs.Nodes.{withNodes}
+use Rattle.model.specs.declared.contains.Found.the-variants.{Refused}
 
 -- The number by which the question of a call is refused, whatever is lent to search it, or 0.
 abbrev pub questionOf : Call → ℕ
@@ -38,8 +39,10 @@ pub record Refusals (ar : Arithmetic) : Type 0 where
   pub long : (c : Call) → Enough c (c .workLen) → refusal c ≡ questionOf c
   -- So the answer to such a call is refused by 16, 1 to 9 or 11, if at all,
   pub numbers : (c : Call) (n : ℕ) → Enough c (c .workLen) → paper (searched ar c) .result ≡ refused n → OfQuestion n ⊎ (n ≡ 11)
-  -- and is the same with any other work area that is long enough.
+  -- and is the same with any other work area that is long enough;
   pub areas : (c : Call) (words : ℕ) → Enough c (c .workLen) → Enough c words → searched ar (withWords c words) ≡ searched ar c
+  -- with one that is not it is the same, too, or it is 10.
+  pub or-ten : (c : Call) (words : ℕ) → Enough c (c .workLen) → (searched ar (withWords c words) ≡ searched ar c) ⊎ (searched ar (withWords c words) ≡ Refused 10 0 0 0)
 
 -- An area that is long enough in space, for this degree, count and nodes, is so for every call with no more of them, whatever its dim is.
 pub record Rooms : Type 0 where
