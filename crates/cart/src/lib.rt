@@ -1,5 +1,7 @@
 // The search on the training cart, whose arm is short (request E4): within three limits, on a work area of its own.
 // It goes by the contract of the search alone.
+#![tactic(auto)]
+
 ghost use Rattle.std.specs.Prelude.{◌≡◌};
 ghost use Rattle.model.specs.Call.{lent};
 ghost use Rattle.cart.specs.Cart.{is_beyond, own_words, CartAnswers};

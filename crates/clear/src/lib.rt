@@ -1,4 +1,6 @@
 // A caller of the search, which goes by its contract alone: is the path clear of the box?
+#![tactic(auto)]
+
 ghost use Rattle.std.specs.Prelude.{length};
 ghost use Rattle.model.specs.Call.{lent};
 ghost use Rattle.clear.specs.Clear.{Clears};

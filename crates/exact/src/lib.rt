@@ -1,1 +1,2 @@
 // Mathematics over the fractions, with no code: specs/ has the definitions, proofs/ their laws.
+#![tactic(auto)]

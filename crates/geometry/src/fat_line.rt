@@ -72,7 +72,7 @@ fn abscissa(w: &[f64], number: Divisor, second: bool) -> Scalar
 }
 
 // Whether there are abscissae: degree 0 has none.
-#[derive(Drop)]
+#[derive(Clone, Copy)]
 pub enum Greville {
     Some,
     None,
@@ -271,7 +271,7 @@ pub(crate) fn fat_line_zeros(xi: &[f64], dx: &[f64], d: &[f64], count: usize, se
 // ---- sizes: plain doubles, for choices that need not be exact
 
 // The place of a point as plain doubles: as many of the three as there are coordinates, the others 0.
-#[derive(Drop)]
+#[derive(Clone, Copy)]
 struct Position {
     x: f64,
     y: f64,
@@ -349,7 +349,7 @@ pub(crate) fn extent(points: &[f64], dim: usize, count: usize) -> f64
 }
 
 // The squares of the distances from each point to the next: their sum, and the greatest.
-#[derive(Drop)]
+#[derive(Clone, Copy)]
 struct Squares {
     total: f64,
     top: f64,

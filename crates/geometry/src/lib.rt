@@ -1,4 +1,5 @@
 // Where a spline passes through a box: what the search needs of geop-core-geometry, in modules named after its files.
+#![tactic(auto)]
 
 mod aabb;
 pub mod call;

@@ -8,7 +8,7 @@ ghost use Rattle.model.specs.Layout.{points_of};
 ghost use Rattle.geometry.specs.Slots.{word, point_words, count_at, knots_from, place_of, numbers, piece_at, placed, Sized, Inside, Held, Apart};
 
 // What the pieces of a call have in common: the dimension, the degree, and the number of points of the whole curve.
-#[derive(Drop)]
+#[derive(Clone, Copy)]
 pub struct Shape {
     pub dim: usize,
     pub degree: usize,

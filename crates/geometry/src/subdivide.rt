@@ -9,7 +9,7 @@ use math::scalars::Scalar;
 use model::subdivide::Counts;
 
 // What a visit made of its piece. What it hands on stands in the slots behind the pieces that wait.
-#[derive(Drop)]
+#[derive(Clone, Copy)]
 pub enum Outcome {
     // It holds nothing.
     Dropped,
@@ -24,7 +24,7 @@ pub enum Outcome {
 }
 
 // The union of what was reported so far.
-#[derive(Drop)]
+#[derive(Clone, Copy)]
 pub struct Reports {
     // 0 where nothing was, else 1. (A bool would leave bytes unused, which are copied one by one.)
     pub any: usize,
@@ -33,7 +33,7 @@ pub struct Reports {
 }
 
 // Where a search stands: the slot of the first piece that waits, how many are pending, what was counted, and what was reported.
-#[derive(Drop)]
+#[derive(Clone, Copy)]
 pub struct Search {
     pub head: usize,
     pub pending: usize,

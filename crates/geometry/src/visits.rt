@@ -25,7 +25,7 @@ use math::scalars::Scalar;
 use model::fat_line::Hat;
 
 // A weight, beside its product with a factor.
-#[derive(Drop)]
+#[derive(Clone, Copy)]
 struct Weighed {
     weight: Scalar,
     product: Scalar,
@@ -144,7 +144,7 @@ pub(crate) fn clip(
 // ---- the plan of a visit
 
 // What a visit is to make of its piece.
-#[derive(Drop)]
+#[derive(Clone, Copy)]
 pub enum Plan {
     // It holds nothing.
     Skip,

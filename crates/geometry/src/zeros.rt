@@ -10,7 +10,7 @@ use math::scalars::{Divided, Scalar};
 use model::fat_line::Hat;
 
 // The chord of a control polygon, and its band: the union of what the points taken in so far lie off it, or of their values where there is no chord.
-#[derive(Drop)]
+#[derive(Clone, Copy)]
 struct Line {
     // Whether it is revision 2.
     second: bool,

@@ -1,5 +1,7 @@
 // Reads a question from standard input and prints the answer in seven lines.
 // Where the question cannot be read, nothing is answered; this, and an answer that cannot be written, is said on standard error.
+#![tactic(auto)]
+
 use input::read_input;
 use text::respond::respond;
 

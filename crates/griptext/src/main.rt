@@ -1,6 +1,8 @@
 // Reads a text from standard input and prints its one form.
 // Of a text that is refused nothing is printed, and the number is said on standard error; so is a text that cannot be
 // read, or a form that cannot be written.
+#![tactic(auto)]
+
 ghost use Rattle.text.specs.Form.{Within};
 
 use input::read_input;

@@ -10,14 +10,14 @@ use crate::floats::{greater, lesser, max, min, next_down, next_up};
 use crate::scalars::Scalar;
 
 // Bounds that are not widened yet.
-#[derive(Drop)]
+#[derive(Clone, Copy)]
 pub struct Bounds {
     pub lo: f64,
     pub hi: f64,
 }
 
 // A divisor, with its widened reciprocal.
-#[derive(Drop)]
+#[derive(Clone, Copy)]
 pub struct Divisor {
     pub value: Scalar,
     pub inverse: Scalar,

@@ -4,7 +4,7 @@ ghost use Rattle.std.specs.Prelude.{◌≡◌, ◌+◌, ◌*◌, ◌^◌, ◌≤
 ghost use Rattle.math.specs.Digits.{digits_of, shift_of, size_of, side_of, is_past, is_near};
 
 // A number of more than 64 digits: k * 2^52 + h.
-#[derive(Drop)]
+#[derive(Clone, Copy)]
 struct Split {
     k: u64,
     h: u64,

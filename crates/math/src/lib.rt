@@ -1,4 +1,5 @@
 // The arithmetic of the search: intervals of f64 that are rounded outward, bounds rounded toward their own side, and the square root.
+#![tactic(auto)]
 
 pub mod bounds;
 pub mod digits;

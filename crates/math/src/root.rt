@@ -9,7 +9,7 @@ ghost use Rattle.math.specs.Root.{sqrt_f, root_of};
 ghost use Rattle.math.specs.Scale.{Normal, Even};
 
 // A whole root and its remainder: q * q + rem is the number, and rem is too small for q + 1.
-#[derive(Drop)]
+#[derive(Clone, Copy)]
 struct Root {
     q: u64,
     rem: u64,
@@ -42,7 +42,7 @@ fn by_digits(m: u64) -> Root
 }
 
 // A number of more than 64 digits: k * 2^52 + h.
-#[derive(Drop)]
+#[derive(Clone, Copy)]
 struct Wide {
     k: u64,
     h: u64,
@@ -147,7 +147,7 @@ fn whole_root(m: u64) -> Root
 }
 
 // The number m * 2^a.
-#[derive(Drop)]
+#[derive(Clone, Copy)]
 struct Scaled {
     m: u64,
     a: u64,

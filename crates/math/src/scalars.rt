@@ -17,14 +17,14 @@ use crate::directed::{low_of, over, quotient_down, quotient_up, sum_down, sum_up
 use crate::floats::{down, greater, lesser, max, min, next_down, next_up, up};
 
 // An interval from lo to hi.
-#[derive(Drop)]
+#[derive(Clone, Copy)]
 pub struct Scalar {
     pub lo: f64,
     pub hi: f64,
 }
 
 // A fraction of a way, with what `between` needs of it.
-#[derive(Drop)]
+#[derive(Clone, Copy)]
 pub struct Fraction {
     // The fraction itself.
     pub alpha: Scalar,
@@ -33,7 +33,7 @@ pub struct Fraction {
 }
 
 // What a division gives: an interval, or nothing, where the divisor holds zero.
-#[derive(Drop)]
+#[derive(Clone, Copy)]
 pub enum Divided {
     Value(Scalar),
     Failed,

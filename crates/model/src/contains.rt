@@ -2,7 +2,7 @@
 
 // The answer to a call. Last in every case is what the search counted: visited, the pieces that were visited; cuts, how often an end was cut off of a piece that was
 // cut down to its hat and handed on; and depth, how often the piece visited that was halved most had been halved.
-#[derive(Drop)]
+#[derive(Clone, Copy)]
 pub enum Found {
     // Every piece was visited, and none was reported: visited, cuts, depth.
     Nothing(usize, usize, usize),

@@ -2,7 +2,7 @@
 use math::scalars::Scalar;
 
 // Where the zeros of a spline can lie: over an interval of its parameter, or nowhere.
-#[derive(Drop)]
+#[derive(Clone, Copy)]
 pub enum Hat {
     Over(Scalar),
     Missing,

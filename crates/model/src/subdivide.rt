@@ -1,7 +1,7 @@
 // solvers/subdivide.rs: the counts of a search.
 
 // What a search has counted so far.
-#[derive(Drop)]
+#[derive(Clone, Copy)]
 pub struct Counts {
     // The pieces that were visited.
     pub visited: usize,

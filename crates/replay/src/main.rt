@@ -1,4 +1,6 @@
 // Answers the questions in the files whose names are its arguments: texts one behind the other, a byte 0 behind each. It prints the answers in that order.
+#![tactic(auto)]
+
 ghost use Rattle.std.specs.Prelude.{◌≤◌, length};
 
 use text::respond::respond;

@@ -12,7 +12,7 @@ use text::respond::answered;
 
 // How many questions there were, how many of them came to what, and the sum of hi minus lo over those that are enclosed: a
 // whole number of units of 2^-1074, the lowest byte first.
-#[derive(Drop)]
+#[derive(Clone, Copy)]
 pub struct Sheet {
     pub questions: usize,
     pub none: usize,
@@ -37,7 +37,7 @@ pub fn blank() -> Sheet
 }
 
 // An answer, and the sheet after it.
-#[derive(Drop)]
+#[derive(Clone, Copy)]
 pub struct Answered {
     pub sheet: Sheet,
     pub found: Found,

@@ -1,7 +1,7 @@
 // What was read from a text, with the place at which the rest of the text begins.
 
 // A word or a line.
-#[derive(Drop)]
+#[derive(Clone, Copy)]
 pub enum Place {
     // The text does not go on so.
     Bad,
@@ -10,7 +10,7 @@ pub enum Place {
 }
 
 // A small number.
-#[derive(Drop)]
+#[derive(Clone, Copy)]
 pub enum Small {
     NoNumber,
     // The number, and where the rest begins.
@@ -18,7 +18,7 @@ pub enum Small {
 }
 
 // The three lines of the sizes.
-#[derive(Drop)]
+#[derive(Clone, Copy)]
 pub enum Head {
     NoHead,
     // dim, degree, count, and where the rest begins.
@@ -26,7 +26,7 @@ pub enum Head {
 }
 
 // A whole text.
-#[derive(Drop)]
+#[derive(Clone, Copy)]
 pub enum Asked {
     // The number by which it is refused.
     No(u64),

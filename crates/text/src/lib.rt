@@ -1,4 +1,5 @@
 // The text of a question, of its answer, and its one form; and what others write their lines by.
+#![tactic(auto)]
 
 pub mod cursor;
 mod numerals;

@@ -18,7 +18,7 @@ use geometry::call::question_refusal;
 use geometry::contains::positive_zero;
 
 // What the writer gives.
-#[derive(Drop)]
+#[derive(Clone, Copy)]
 pub enum Rewritten {
     // The output begins with the text, of so many bytes.
     Bytes(usize),
