@@ -7,7 +7,7 @@ use mathlib.Core.List.{List, [], ◌∷◌}
 use Prim.Native.Nat.{ℕ, zero, suc, ◌+◌, ◌≤◌, ◌<◌, max}
 use native.Mathlib.Decide.{dec_lt}
 use native.Mathlib.Omega.{arith}
-use borrow.Author.Tests.{not_true, not-false, lt-ltb, le-ltb, le-leb, lt-leb}
+use borrow.Author.Tests.{not-true, not-false, lt-ltb, le-ltb, le-leb, lt-leb}
 use lib.Dec.{T, not_T, leb, ltb, ltb→lt, lt→ltb}
 use lib.ListN.{length, get_or}
 use lib.Ieee.{Float, nan, inf, fin, lt, le, eq}
@@ -226,7 +226,7 @@ all_miss p l i d h e = go (all p l) (λ q. all_get_or p l i d q h)
 module _ (e i x y : Bool) where
   -- The test of a knot against one passed: the two are not equal, at an end or inside.
   once : cond e (not x) (cond i (not y) true) ≡ true → (e ≡ true → x ≡ false) × (e ≡ false → i ≡ true → y ≡ false)
-  once h = (λ f. not_true x (pick_yes e _ _ f ∙ h), λ f g. not_true y (pick_yes i _ _ g ∙ pick_no e _ _ f ∙ h))
+  once h = (λ f. not-true x (pick_yes e _ _ f ∙ h), λ f g. not-true y (pick_yes i _ _ g ∙ pick_no e _ _ f ∙ h))
 
   -- The test of a count passes where the count is within the bound, at an end or inside.
   kept : (e ≡ true → x ≡ true) → (e ≡ false → i ≡ true → y ≡ true) → cond e x (cond i y true) ≡ true

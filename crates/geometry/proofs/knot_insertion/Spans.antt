@@ -5,7 +5,7 @@ use mathlib.Core.List.{List}
 use Prim.Native.Nat.{ℕ, suc, ◌+◌, ◌-◌, ◌≤◌, ◌<◌}
 use native.Mathlib.Omega.{arith}
 use native.Mathlib.Numerals.{add-one}
-use borrow.Author.Tests.{not_true, not-false, eq-eqb, ne_eqb}
+use borrow.Author.Tests.{not-true, not-false, eq-eqb, ne_eqb}
 use lib.Dec.{eqb}
 use lib.ListN.{length, take, drop, get_or, length-drop}
 use lib.Seq.{take_all}
@@ -92,7 +92,7 @@ module _ (ks : List Float) (t : Float) (i : ℕ) where
 
   -- a knot that is not t
   pub all_off : i < length ks → not (eq (get_or ks i nan) t) ≡ true → false ≡ all (λ u. eq u t) (drop i ks)
-  all_off h e = rw (all_turn (λ u. eq u t) ks i nan h, not_true (eq (get_or ks i nan) t) e)
+  all_off h e = rw (all_turn (λ u. eq u t) ks i nan h, not-true (eq (get_or ks i nan) t) e)
 
   -- one that is
   pub all_on : i < length ks → not (eq (get_or ks i nan) t) ≡ false → all (λ u. eq u t) (drop (i + 1) ks) ≡ all (λ u. eq u t) (drop i ks)
@@ -114,7 +114,7 @@ module _ (p n : ℕ) (ks : List Float) where
     pub bezier_not : (b : Bool) → b ≡ all (λ u. eq u (get_or ks 0 nan)) (take (p + 1) ks) → not b ≡ true → false ≡ is_bezier p n ks
     unfolding is_bezier
     bezier_not b e h =
-        let z : all (λ u. eq u (get_or ks 0 nan)) (take (suc p) ks) ≡ false = ap (λ (m : ℕ). all (λ u. eq u (get_or ks 0 nan)) (take m ks)) (sym (add-one p)) ∙ sym e ∙ not_true b h in
+        let z : all (λ u. eq u (get_or ks 0 nan)) (take (suc p) ks) ≡ false = ap (λ (m : ℕ). all (λ u. eq u (get_or ks 0 nan)) (take m ks)) (sym (add-one p)) ∙ sym e ∙ not-true b h in
         rw (full, z)
 
     -- they do not: it turns on the others

@@ -60,10 +60,10 @@ module _ (ar : Arithmetic) (E : Encloses ar) where
     where
       delta : Holds (via_delta ar a b t) (lerp α x y)
       delta = subst (λ (q : ℚ). Holds (via_delta ar a b t) q) (delta-form α x y)
-          (E.add-Holds a (ar.mul t (ar.sub b a)) x (α *ℚ (y -ℚ x)) A (E.mul-Holds t (ar.sub b a) α (y -ℚ x) w.delta T' (E.sub-Holds b a y x B A)))
+          (E.add_holds a (ar.mul t (ar.sub b a)) x (α *ℚ (y -ℚ x)) A (E.mul_holds t (ar.sub b a) α (y -ℚ x) w.delta T' (E.sub_holds b a y x B A)))
 
       weights : Holds (via_weights ar a b t) (lerp α x y)
       weights = unfold lerp in
-          E.add-Holds (ar.mul (ar.sub ONE t) a) (ar.mul t b) ((1ℚ -ℚ α) *ℚ x) (α *ℚ y)
-          (E.mul-Holds (ar.sub ONE t) a (1ℚ -ℚ α) x w.first (E.sub-Holds ONE t 1ℚ α one_holds T') A)
-          (E.mul-Holds t b α y w.second T' B)
+          E.add_holds (ar.mul (ar.sub ONE t) a) (ar.mul t b) ((1ℚ -ℚ α) *ℚ x) (α *ℚ y)
+          (E.mul_holds (ar.sub ONE t) a (1ℚ -ℚ α) x w.first (E.sub_holds ONE t 1ℚ α one_holds T') A)
+          (E.mul_holds t b α y w.second T' B)

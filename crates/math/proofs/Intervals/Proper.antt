@@ -19,9 +19,9 @@ use Rattle.math.proofs.Intervals.Instance.{geop_encloses}
 -- ---- what every arithmetic that encloses has, and the Rust's with it
 pub in_order_lem : (ar : Arithmetic) (E : Encloses ar) → InOrder ar E.exempt
 in_order_lem ar E = record {
-  add_proper = λ a b A B. let x = proper_holds a A in let y = proper_holds b B in holds_proper _ _ (E.add-Holds a b x.0 y.0 x.1 y.1);
-  sub_proper = λ a b A B. let x = proper_holds a A in let y = proper_holds b B in holds_proper _ _ (E.sub-Holds a b x.0 y.0 x.1 y.1);
-  mul_proper = λ a b A B n. let x = proper_holds a A in let y = proper_holds b B in holds_proper _ _ (E.mul-Holds a b x.0 y.0 n x.1 y.1);
+  add_proper = λ a b A B. let x = proper_holds a A in let y = proper_holds b B in holds_proper _ _ (E.add_holds a b x.0 y.0 x.1 y.1);
+  sub_proper = λ a b A B. let x = proper_holds a A in let y = proper_holds b B in holds_proper _ _ (E.sub_holds a b x.0 y.0 x.1 y.1);
+  mul_proper = λ a b A B n. let x = proper_holds a A in let y = proper_holds b B in holds_proper _ _ (E.mul_holds a b x.0 y.0 n x.1 y.1);
   div_proper = λ a b c A B e. let x = proper_holds a A in let y = proper_holds b B in holds_proper _ _ (E.div_holds a b c x.0 y.0 e x.1 y.1);
   ratio_proper = holds_proper _ _ E.ratio_holds;
 }

@@ -148,11 +148,11 @@ product_low (fin true (suc m) e) (inf false) h k l n = absurd (lt→not_le (valu
 product_low (fin s m e) (fin t n d) h k l _ = rounds_ge (mul binary64 (fin s m e) (fin t n d)) (value (fin s m e) *ℚ value (fin t n d)) (mul-rounds s m e t n d) true 1 (pos 102) (unfold fits in tt)
     (bound (value (fin s m e)) (value (fin t n d)) (subst (λ (z : ℚ). z ≤ℚ value (fin s m e)) (value_zero false (pos 0)) (le→value false 0 (pos 0) s m e h)) (le→value s m e false 1 (pos 102) k) (le→value true 1 (pos 0) t n d l))
   where
-    minus_one : value minus_one ≡ -ℚ 1ℚ
-    minus_one = unfold value in ap (λ (z : ℚ). -ℚ z) ÷_one
+    minus_one_is : value minus_one ≡ -ℚ 1ℚ
+    minus_one_is = unfold value in ap (λ (z : ℚ). -ℚ z) ÷_one
 
     bound : (a b : ℚ) → 0ℚ ≤ℚ a → a ≤ℚ value (big 102) → value minus_one ≤ℚ b → value (small 102) ≤ℚ a *ℚ b
-    bound a b p q r = le_by {z = (value (big 102) -ℚ a) +ℚ (a -ℚ 0ℚ) *ℚ (b -ℚ value minus_one)} (search cone depth 9) (eq (value (big 102)) (value (small 102)) (value minus_one) a b (small_is 102) minus_one)
+    bound a b p q r = le_by {z = (value (big 102) -ℚ a) +ℚ (a -ℚ 0ℚ) *ℚ (b -ℚ value minus_one)} (search cone depth 9) (eq (value (big 102)) (value (small 102)) (value minus_one) a b (small_is 102) minus_one_is)
       where
         eq : (g l o a b : ℚ) → l ≡ -ℚ g → o ≡ -ℚ 1ℚ → a *ℚ b -ℚ l ≡ (g -ℚ a) +ℚ (a -ℚ 0ℚ) *ℚ (b -ℚ o)
         eq g l o a b e f = by_eq ℚring (-ℚ 1ℚ) e (by_eq ℚring a f (by_rep ℚring (g ∷ l ∷ o ∷ a ∷ b ∷ []) (search read depth 12) (search read depth 12) tt))

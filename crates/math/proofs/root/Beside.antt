@@ -1,6 +1,6 @@
 -- The neighbours of a double above zero, by its bit pattern b: `next_up` and `next_down` are the patterns b + 1 and b - 1. It leans on what Doubles/ shows of patterns.
 use mathlib.Core.Path.{◌≡◌, refl, sym, ap, ◌∙◌, subst}
-use Prim.Native.Nat.{ℕ, zero, suc, ◌+◌, ◌-◌, ◌*◌, ◌^◌, ◌<◌, zero_le}
+use Prim.Native.Nat.{ℕ, zero, suc, ◌+◌, ◌-◌, ◌*◌, ◌^◌, ◌<◌, zero-le}
 use native.Mathlib.Nat.{le_of_lt, lt_of_lt_of_le, lt_of_le_of_lt, lt_irrefl, mul-pos, zero-mul}
 use mathlib.Core.Bool.{Bool, true, false, not, true≢false}
 use lib.IntN.{ℤ}
@@ -24,7 +24,7 @@ module _ (b : ℕ) (B : 0 < b) (H : b < top-bits binary64) where
   shape (inf s) v = absurd v
   shape (fin true m e) v = absurd (true≢false v.0)
   shape (fin false zero e) v =
-      absurd (lt_irrefl 0 (subst (λ (z : ℕ). 0 < z) (sym v.1 ∙ ap (λ (z : ℕ). z * 2 ^ low binary64) (zero-mul (up e)) ∙ zero-mul (2 ^ low binary64)) (mul-pos (lt_of_le_of_lt zero_le (rises binary64 0 b B)) (down_pos e))))
+      absurd (lt_irrefl 0 (subst (λ (z : ℕ). 0 < z) (sym v.1 ∙ ap (λ (z : ℕ). z * 2 ^ low binary64) (zero-mul (up e)) ∙ zero-mul (2 ^ low binary64)) (mul-pos (lt_of_le_of_lt zero-le (rises binary64 0 b B)) (down_pos e))))
   shape (fin false (suc m) e) v = (m, e, refl)
 
   found : Positive (of_bits binary64 b)

@@ -2,7 +2,7 @@
 -- double to it, with no tie (`sqrt-nearest`); that it is a double of the format is `root-fits`.
 -- They come from Near.antt's inequalities of whole numbers. The statements are in specs/RootLaws.antt.
 use mathlib.Core.Path.{◌≡◌, sym, ap, ◌∙◌, subst}
-use Prim.Native.Nat.{ℕ, suc, ◌+◌, ◌-◌, ◌*◌, ◌^◌, ◌≤◌, ◌<◌, zero_le}
+use Prim.Native.Nat.{ℕ, suc, ◌+◌, ◌-◌, ◌*◌, ◌^◌, ◌≤◌, ◌<◌, zero-le}
 use native.Mathlib.Nat.{le_trans, le_of_eq, lt_of_lt_of_le, lt_of_le_of_lt, lt_trans, not-le_of_lt, one-mul, mul_assoc, mul-pos, mul-le-mul, mul-le-mul_right, mul-lt-mul_of_pos_right, eq_of_mul-eq-mul_right}
 use native.Mathlib.Omega.{arith}
 use mathlib.Core.Bool.{true, false, true≢false}
@@ -127,7 +127,7 @@ nearest x r k = record {
 
 -- ---- the root of a double above zero is known
 size-pos : (b : ℕ) → 0 < b → 1 ≤ size_of binary64 b
-size-pos b h = lt_of_le_of_lt zero_le (rises binary64 0 b h)
+size-pos b h = lt_of_le_of_lt zero-le (rises binary64 0 b h)
 
 known : (m : ℕ) (e : ℤ) → T (fits binary64 (fin false (suc m) e)) → Known (fin false (suc m) e) (sqrt_f (fin false (suc m) e))
 known m e F =

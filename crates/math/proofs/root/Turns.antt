@@ -1,7 +1,7 @@
 -- The loop of `by_digits`: before the turn i, q is the whole root of the first i pairs of binary digits of m * 2 ^ 52, `rem` is what is left of them, and `left` holds the pairs
 -- to come. It leans on the arithmetic of whole numbers alone.
 use mathlib.Core.Path.{◌≡◌, refl, sym, ap, ◌∙◌, subst}
-use Prim.Native.Nat.{ℕ, ◌+◌, ◌-◌, ◌*◌, ◌/◌, ◌%◌, ◌^◌, ◌≤◌, ◌<◌, zero_le}
+use Prim.Native.Nat.{ℕ, ◌+◌, ◌-◌, ◌*◌, ◌/◌, ◌%◌, ◌^◌, ◌≤◌, ◌<◌, zero-le}
 use native.Mathlib.Nat.{mul_assoc, mul-one, pow-suc, lt_of_lt_of_le, div-add-mod', zero-lt-suc}
 use native.Mathlib.Numerals.{add-one}
 use native.Mathlib.Omega.{arith}
@@ -16,7 +16,7 @@ pub record Turn (m q rem left i : ℕ) : Type 0 where
   pub sum : m * 4 ^ i ≡ (q * q + rem) * 2 ^ 54 + left
 
 pub start : (m : ℕ) → m < 2 ^ 54 → Turn m 0 0 m 0
-start m h = record { count = zero_le; rest = h; tail = zero_le; head = zero-lt-suc 0; sum = mul-one m ∙ plain m }
+start m h = record { count = zero-le; rest = h; tail = zero-le; head = zero-lt-suc 0; sum = mul-one m ∙ plain m }
   where
     plain : (m : ℕ) → m ≡ (0 * 0 + 0) * 2 ^ 54 + m
     plain m = omega arith

@@ -1,6 +1,6 @@
 -- The whole root of a number: `root` gives one, and there is only one. It leans on the arithmetic of whole numbers alone.
 use mathlib.Core.Path.{◌≡◌, sym, subst}
-use Prim.Native.Nat.{ℕ, zero, suc, ◌*◌, ◌/◌, ◌^◌, ◌≤◌, ◌<◌, zero_le}
+use Prim.Native.Nat.{ℕ, zero, suc, ◌*◌, ◌/◌, ◌^◌, ◌≤◌, ◌<◌, zero-le}
 use native.Mathlib.Nat.{le_trans, lt_of_lt_of_le, le_antisymm, le_of_suc-le-suc, lt_of_not-le, not-le_of_lt, mul-le-mul, pow-suc, div-lt_iff_lt-mul, pow-le-pow_left, zero-lt-suc}
 use native.Mathlib.Omega.{arith}
 use mathlib.Core.Bool.{Bool, true, false, not, cond}
@@ -26,7 +26,7 @@ quarter_high r n h = omega arith
 
 root_in-whole : (d n : ℕ) → n < 4 ^ d → Whole (root_in d n) n
 unfolding root_in
-root_in-whole zero n h = subst (λ (x : ℕ). Whole 0 x) (sym (none n h)) (record { low = zero_le; high = zero-lt-suc 0 })
+root_in-whole zero n h = subst (λ (x : ℕ). Whole 0 x) (sym (none n h)) (record { low = zero-le; high = zero-lt-suc 0 })
   where
     none : (n : ℕ) → n < 1 → n ≡ 0
     none n h = omega arith

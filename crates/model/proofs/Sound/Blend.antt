@@ -69,8 +69,8 @@ module _ (ar : Arithmetic) (E : Encloses ar) where
     pub fraction_holds : Holds f (ratio (value t) (value a) (value b))
     unfolding ratio
     fraction_holds =
-        E.div_holds (ar.sub (sharp t) (sharp a)) (ar.sub (sharp b) (sharp a)) f _ _ e (E.sub-Holds _ _ _ _ (sharp_known t kt) (sharp_known a ka))
-        (E.sub-Holds _ _ _ _ (sharp_known b kb) (sharp_known a ka))
+        E.div_holds (ar.sub (sharp t) (sharp a)) (ar.sub (sharp b) (sharp a)) f _ _ e (E.sub_holds _ _ _ _ (sharp_known t kt) (sharp_known a ka))
+        (E.sub_holds _ _ _ _ (sharp_known b kb) (sharp_known a ka))
 
     pub between_holds : (A B : Vector) (k : ℕ) (X Y : ℚ) → Holds (coordinate A k) X → Holds (coordinate B k) Y
         → Holds (coordinate (interpolate_v ar A B f) k) (lerp (ratio (value t) (value a) (value b)) X Y)

@@ -2,7 +2,7 @@
 use mathlib.Core.Path.{◌≡◌}
 use Prim.Native.Nat.{◌≤◌, ◌-◌}
 use native.Mathlib.Omega.{arith}
-use borrow.Author.Tests.{not_true, not-false}
+use borrow.Author.Tests.{not-true, not-false}
 use Rattle.lists.specs.Lists.{tab}
 use Rattle.math.specs.Revision.{arithmetic}
 use Rattle.model.specs.Layout.{scalar_at}
@@ -39,7 +39,7 @@ returns c =
     let l = s.before.before.before in
     let a = l.before.before.before.args in
     overlap-stop a.dim (axis_at_lem (arithmetic a.second) a.dim a.count a.points.now) (scalar_at a.point-box.now) l.loop.k l.loop.invariant.1 (omega arith)
-    _ _ _ s.before.axis-box.ensures s.scalar-at.ensures c.before.could-be-equal.ensures (not_true _ c.if1.true)
+    _ _ _ s.before.axis-box.ensures s.scalar-at.ensures c.before.could-be-equal.ensures (not-true _ c.if1.true)
 
 add-k : tie.Need-overflow-add-k invariant-loop decreases-loop
 add-k c = omega arith

@@ -3,7 +3,7 @@ use mathlib.Core.Logic.{⊎_elim}
 use native.Mathlib.Omega.{arith}
 use lib.ListN.{length}
 use borrow.Author.Rules.{rules}
-use borrow.Author.Tests.{eqb-true, not_true, not-false}
+use borrow.Author.Tests.{eqb-true, not-true, not-false}
 use Rattle.math.specs.Revision.{arithmetic}
 use Rattle.geometry.proofs.nurb_curve.Points.{point_in}
 use Rattle.geometry.proofs.aabb.Box.{door_miss, door_degree, door_count, door_segment}
@@ -16,7 +16,7 @@ aabb-could-overlap-requires c κs = search rules
 returns : tie.Need-returns
 returns c =
     let a = c.before.before.before.before.args in
-    door_miss (arithmetic a.second) a.dim a.degree a.count a.points.now _ _ c.before.aabb-could-overlap.ensures (not_true _ c.if1.true)
+    door_miss (arithmetic a.second) a.dim a.degree a.count a.points.now _ _ c.before.aabb-could-overlap.ensures (not-true _ c.if1.true)
 
 meets-requires : tie.Need-meets-requires
 meets-requires c κs =

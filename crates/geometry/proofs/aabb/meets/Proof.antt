@@ -6,7 +6,7 @@ use native.Mathlib.Omega.{arith}
 use lib.ListN.{drop}
 use lib.Ieee.{of_bits}
 use borrow.Author.Rules.{rules}
-use borrow.Author.Tests.{not_true, not-false}
+use borrow.Author.Tests.{not-true, not-false}
 use Rattle.math.specs.Scalars.{ZERO, ONE, union_s}
 use Rattle.math.specs.Revision.{arithmetic}
 use Rattle.math.specs.declared.scalars.Scalar.{Scalar}
@@ -67,7 +67,7 @@ returns c =
     let k = from-loop at-loop in
     let a = k.args in
     segment_stop (arithmetic a.second) a.dim (point_at (suc a.dim) a.points.now 0) (point_at (suc a.dim) a.points.now 1) a.point-box.now at-loop.loop.range at-loop.loop.k _ at-loop.loop.invariant.1 (omega arith)
-    _ _ _ at-scalar-at.scalar-at.ensures at_place.place.ensures at-place2.place2.ensures _ at-along.along.ensures _ at_part.part.given.1 _ at-could-be-equal.could-be-equal.ensures (not_true _ c.if1.true)
+    _ _ _ at-scalar-at.scalar-at.ensures at_place.place.ensures at-place2.place2.ensures _ at-along.along.ensures _ at_part.part.given.1 _ at-could-be-equal.could-be-equal.ensures (not-true _ c.if1.true)
 
 intersect-requires : tie.Need-intersect-requires invariant-loop decreases-loop
 intersect-requires c κs = tt

@@ -8,7 +8,7 @@ use Rattle.lists.specs.Lists.{all}
 use Rattle.model.specs.Call.{ordered}
 use Rattle.model.specs.Layout.{scalars_of}
 use Rattle.geometry.proofs.Lists.Walks.{all_keep, all_stop, all_end}
-use borrow.Author.Tests.{not_true, not-false}
+use borrow.Author.Tests.{not-true, not-false}
 use Rattle.lists.proofs.Tab.{length-tab, get_or-tab}
 use Rattle.math.specs.Scalars.{absent}
 use Rattle.model.specs.Layout.{scalar_at}
@@ -50,7 +50,7 @@ returns c =
     let at-loop = c.before.before.before.before in
     let k = at-loop.before in
     let a = k.args in
-    all_stop ordered (scalars_of a.n a.l.now) at-loop.loop.i _ at-loop.loop.invariant.1 absent (omega (arith, length-tab a.n (λ j. scalar_at a.l.now j))) (ap ordered (get_or-tab a.n (λ j. scalar_at a.l.now j) at-loop.loop.i absent (omega arith)) ∙ not_true _ c.if1.true)
+    all_stop ordered (scalars_of a.n a.l.now) at-loop.loop.i _ at-loop.loop.invariant.1 absent (omega (arith, length-tab a.n (λ j. scalar_at a.l.now j))) (ap ordered (get_or-tab a.n (λ j. scalar_at a.l.now j) at-loop.loop.i absent (omega arith)) ∙ not-true _ c.if1.true)
 
 add-i : tie.Need-overflow-add-i invariant-loop decreases-loop
 add-i c = omega arith

@@ -10,7 +10,7 @@ use Rattle.lists.specs.Lists.{all}
 use Rattle.model.specs.Call.{usable}
 use Rattle.geometry.proofs.Lists.Walks.{all_keep, all_stop, all_end, KnownTo, known_on}
 use Rattle.math.proofs.Bools.{yes}
-use borrow.Author.Tests.{not_true, not-false}
+use borrow.Author.Tests.{not-true, not-false}
 use Rattle.geometry.proofs.call.all_usable.Statement.{statement}
 use Rattle.geometry.proofs.call.all_usable.Tie as tie
 
@@ -41,7 +41,7 @@ returns c =
     let at-loop = to-loop at-usable in
     let k = at-loop.before.before in
     let a = k.args in (
-      all_stop usable a.l.now at-loop.loop.i _ at-loop.loop.inv.1 nan (omega arith) (sym at-usable.usable.ensures.0 ∙ not_true _ c.if1.true),
+      all_stop usable a.l.now at-loop.loop.i _ at-loop.loop.inv.1 nan (omega arith) (sym at-usable.usable.ensures.0 ∙ not-true _ c.if1.true),
       λ e. absurd (yes false e),
     )
 

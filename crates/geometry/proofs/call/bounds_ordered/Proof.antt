@@ -1,7 +1,7 @@
 -- `bounds_ordered` equals its definition.
 use borrow.Author.Rules.{rules}
 use Rattle.geometry.proofs.call.Checks.{and-stop, and-go}
-use borrow.Author.Tests.{not_true, not-false}
+use borrow.Author.Tests.{not-true, not-false}
 use Rattle.model.specs.Layout.{scalars_of}
 use Rattle.model.specs.Call.{ordered}
 use Rattle.lists.specs.Lists.{all}
@@ -35,7 +35,7 @@ returns c =
     let at-all-ordered = c.before in
     let k = at-all-ordered.before.before.before in
     let g = k.args in
-    and-stop (all ordered (scalars_of (suc g.dim * g.count) g.points.now)) _ (sym (at-all-ordered.all_ordered.ensures ∙ same g.dim g.count g.points.now) ∙ not_true _ c.if1.true)
+    and-stop (all ordered (scalars_of (suc g.dim * g.count) g.points.now)) _ (sym (at-all-ordered.all_ordered.ensures ∙ same g.dim g.count g.points.now) ∙ not-true _ c.if1.true)
 
 all-ordered-requires-2 : tie.Need-all-ordered-requires-2
 all-ordered-requires-2 c κs = search rules

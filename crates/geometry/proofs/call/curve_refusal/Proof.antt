@@ -6,7 +6,7 @@ use mathlib.Core.List.{List, [], ◌∷◌}
 use mathlib.Core.Bool.{Bool}
 use Prim.Native.Nat.{ℕ, suc, ◌+◌, ◌*◌, ◌≤◌}
 use native.Mathlib.Omega.{arith}
-use borrow.Author.Tests.{not_true, not-false}
+use borrow.Author.Tests.{not-true, not-false}
 use lib.ListN.{length}
 use Rattle.model.specs.Call.{Curve, curve_of, lengths_fit, numbers_usable, bounds_ordered, weights_fit, knots_fit, first_failed, curve_refusal}
 use Rattle.model.proofs.Checks.{none_left, pass, fail, else_left, else_taken, SmallSizes, small-sizes}
@@ -102,14 +102,14 @@ lengths-fit-requires c κs = let z = small c in (z.dim, z.degree, z.count, omega
 
 returns-2 : tie.Need-returns-2
 unfolding lengths_fit
-returns-2 c = let k = from-lengths c.before in given k 4 (λ z. omega (arith, z)) (sym (past3 c.before.before ∙ fail (curve k) 4 (lengths k) _ (sym c.before.lengths-fit.ensures ∙ not_true _ c.if2.true)))
+returns-2 c = let k = from-lengths c.before in given k 4 (λ z. omega (arith, z)) (sym (past3 c.before.before ∙ fail (curve k) 4 (lengths k) _ (sym c.before.lengths-fit.ensures ∙ not-true _ c.if2.true)))
 
 numbers-usable-requires : tie.Need-numbers-usable-requires
 numbers-usable-requires c κs = search rules
 
 returns-3 : tie.Need-returns-3
 unfolding numbers_usable
-returns-3 c = let k = from-numbers c.before in given k 5 (λ z. omega (arith, z)) (sym (past4 c.before.before ∙ fail (curve k) 5 (numbers k) _ (sym c.before.numbers-usable.ensures.0 ∙ not_true _ c.if3.true)))
+returns-3 c = let k = from-numbers c.before in given k 5 (λ z. omega (arith, z)) (sym (past4 c.before.before ∙ fail (curve k) 5 (numbers k) _ (sym c.before.numbers-usable.ensures.0 ∙ not-true _ c.if3.true)))
 
 bounds-ordered-requires : tie.Need-bounds-ordered-requires
 bounds-ordered-requires c κs =
@@ -120,7 +120,7 @@ bounds-ordered-requires c κs =
 
 returns-4 : tie.Need-returns-4
 unfolding bounds_ordered
-returns-4 c = let k = from-bounds c.before in given k 6 (λ z. omega (arith, z)) (sym (past5 c.before.before ∙ fail (curve k) 6 (bounds k) _ (sym c.before.bounds-ordered.ensures ∙ not_true _ c.if4.true)))
+returns-4 c = let k = from-bounds c.before in given k 6 (λ z. omega (arith, z)) (sym (past5 c.before.before ∙ fail (curve k) 6 (bounds k) _ (sym c.before.bounds-ordered.ensures ∙ not-true _ c.if4.true)))
 
 weights-positive-requires : tie.Need-weights-positive-requires
 weights-positive-requires c κs =
@@ -130,7 +130,7 @@ weights-positive-requires c κs =
 
 returns-5 : tie.Need-returns-5
 unfolding weights_fit
-returns-5 c = given (from-weights c.before) 7 (λ z. omega (arith, z)) (sym (past6 c.before.before ∙ fail _ 7 weights_fit _ (sym c.before.weights-positive.ensures ∙ not_true _ c.if5.true)))
+returns-5 c = given (from-weights c.before) 7 (λ z. omega (arith, z)) (sym (past6 c.before.before ∙ fail _ 7 weights_fit _ (sym c.before.weights-positive.ensures ∙ not-true _ c.if5.true)))
 
 knots-valid-requires : tie.Need-knots-valid-requires
 knots-valid-requires c κs =
@@ -141,7 +141,7 @@ knots-valid-requires c κs =
 
 returns-6 : tie.Need-returns-6
 unfolding knots_fit
-returns-6 c = given (from-weights c.before.before.before) 8 (λ z. omega (arith, z)) (sym (past7 c.before.before ∙ fail _ 8 knots_fit _ (sym c.before.knots-valid.ensures ∙ not_true _ c.if6.true)))
+returns-6 c = given (from-weights c.before.before.before) 8 (λ z. omega (arith, z)) (sym (past7 c.before.before ∙ fail _ 8 knots_fit _ (sym c.before.knots-valid.ensures ∙ not-true _ c.if6.true)))
 
 returns-7 : tie.Need-returns-7
 unfolding knots_fit

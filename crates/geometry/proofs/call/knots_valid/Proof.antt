@@ -1,7 +1,7 @@
 -- `knots_valid` equals its definition.
 use borrow.Author.Rules.{rules}
 use Rattle.geometry.proofs.call.Checks.{knots_fall, domain-empty, knots-rest}
-use borrow.Author.Tests.{not_true, not-false}
+use borrow.Author.Tests.{not-true, not-false}
 use mathlib.Core.Path.{sym, ◌∙◌}
 use native.Mathlib.Omega.{arith}
 use Rattle.geometry.proofs.call.knots_valid.Statement.{statement}
@@ -34,13 +34,13 @@ returns c =
     let at-rising = c.before in
     let k = from-rising at-rising in
     let g = k.args in
-    knots_fall g.degree g.count g.knots.now (sym at-rising.rising.ensures ∙ not_true _ c.if1.true)
+    knots_fall g.degree g.count g.knots.now (sym at-rising.rising.ensures ∙ not-true _ c.if1.true)
 
 returns-2 : tie.Need-returns-2
 returns-2 c =
     let k = from-rising c.before.before in
     let g = k.args in
-    domain-empty g.degree g.count g.knots.now (not_true _ c.if2.true)
+    domain-empty g.degree g.count g.knots.now (not-true _ c.if2.true)
 
 multiplicities-ok-requires : tie.Need-multiplicities-ok-requires
 multiplicities-ok-requires c κs =

@@ -3,7 +3,7 @@ use mathlib.Core.Path.{◌≡◌, sym, ◌∙◌}
 use mathlib.Core.Bool.{true}
 use Prim.Native.Nat.{ℕ, ◌-◌, ◌≤◌, ◌<◌}
 use native.Mathlib.Omega.{arith}
-use borrow.Author.Tests.{not_true, not-false}
+use borrow.Author.Tests.{not-true, not-false}
 use lib.ListN.{length}
 use Rattle.geometry.specs.Multiplicity.{multiplicity_ok_at}
 use Rattle.geometry.proofs.call.Multiplicity.{runs-miss, runs_all, each_on}
@@ -26,7 +26,7 @@ returns : tie.Need-returns invariant-loop decreases-loop
 returns c =
     let l = c.before.before.before in
     let g = l.before.before.args in
-    sym (runs-miss g.degree g.a g.b g.knots.now l.before.before.requires.1 l.loop.i (omega arith) (sym c.before.multiplicity-ok.ensures ∙ not_true _ c.if1.true))
+    sym (runs-miss g.degree g.a g.b g.knots.now l.before.before.requires.1 l.loop.i (omega arith) (sym c.before.multiplicity-ok.ensures ∙ not-true _ c.if1.true))
 
 add-i : tie.Need-overflow-add-i invariant-loop decreases-loop
 add-i c = omega arith

@@ -5,7 +5,7 @@ use Rattle.model.specs.Call.{usable}
 use Rattle.math.specs.Scalars.{zero_f}
 use Rattle.lists.specs.Lists.{all}
 use lib.Ieee.{le, of_bits}
-use borrow.Author.Tests.{not_true, not-false}
+use borrow.Author.Tests.{not-true, not-false}
 use mathlib.Core.Path.{sym, ◌∙◌}
 use mathlib.Core.Bool.{false}
 use Rattle.math.proofs.Bools.{yes}
@@ -25,7 +25,7 @@ returns c =
     let at-all-usable = c.before in
     let k = from-all-usable at-all-usable in
     let g = k.args in
-    (five_1 (all usable g.knots.now) (all usable g.points.now) (all usable g.point-box.now) (usable g.resolution) (le zero_f g.resolution) (sym at-all-usable.all_usable.ensures.0 ∙ not_true _ c.if1.true), λ e. absurd (yes false e))
+    (five_1 (all usable g.knots.now) (all usable g.points.now) (all usable g.point-box.now) (usable g.resolution) (le zero_f g.resolution) (sym at-all-usable.all_usable.ensures.0 ∙ not-true _ c.if1.true), λ e. absurd (yes false e))
 
 all-usable-requires-2 : tie.Need-all-usable-requires-2
 all-usable-requires-2 c κs = search rules
@@ -35,7 +35,7 @@ returns-2 c =
     let at-all-usable2 = c.before in
     let k = from-all-usable at-all-usable2.before.before in
     let g = k.args in
-    (five_2 (all usable g.knots.now) (all usable g.points.now) (all usable g.point-box.now) (usable g.resolution) (le zero_f g.resolution) (sym at-all-usable2.all-usable2.ensures.0 ∙ not_true _ c.if2.true), λ e. absurd (yes false e))
+    (five_2 (all usable g.knots.now) (all usable g.points.now) (all usable g.point-box.now) (usable g.resolution) (le zero_f g.resolution) (sym at-all-usable2.all-usable2.ensures.0 ∙ not-true _ c.if2.true), λ e. absurd (yes false e))
 
 all-usable-requires-3 : tie.Need-all-usable-requires-3
 all-usable-requires-3 c κs = search rules
@@ -45,7 +45,7 @@ returns-3 c =
     let at-all-usable3 = c.before in
     let k = from-all-usable at-all-usable3.before.before.before.before in
     let g = k.args in
-    (five_3 (all usable g.knots.now) (all usable g.points.now) (all usable g.point-box.now) (usable g.resolution) (le zero_f g.resolution) (sym at-all-usable3.all-usable3.ensures.0 ∙ not_true _ c.if3.true), λ e. absurd (yes false e))
+    (five_3 (all usable g.knots.now) (all usable g.points.now) (all usable g.point-box.now) (usable g.resolution) (le zero_f g.resolution) (sym at-all-usable3.all-usable3.ensures.0 ∙ not-true _ c.if3.true), λ e. absurd (yes false e))
 
 usable-requires : tie.Need-usable-requires
 usable-requires c κs = search rules
@@ -55,7 +55,7 @@ returns-4 c =
     let at-usable = c.before in
     let k = from-all-usable at-usable.before.before.before.before.before.before in
     let g = k.args in
-    (five_4 (all usable g.knots.now) (all usable g.points.now) (all usable g.point-box.now) (usable g.resolution) (le zero_f g.resolution) (sym at-usable.usable.ensures.0 ∙ not_true _ c.if4.true), λ e. absurd (yes false e))
+    (five_4 (all usable g.knots.now) (all usable g.points.now) (all usable g.point-box.now) (usable g.resolution) (le zero_f g.resolution) (sym at-usable.usable.ensures.0 ∙ not-true _ c.if4.true), λ e. absurd (yes false e))
 
 returns-5 : tie.Need-returns-5
 unfolding of_bits

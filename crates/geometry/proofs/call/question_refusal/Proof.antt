@@ -4,7 +4,7 @@ use mathlib.Core.Path.{◌≡◌, sym, ◌∙◌}
 use mathlib.Core.List.{[], ◌∷◌}
 use Prim.Native.Nat.{ℕ}
 use native.Mathlib.Omega.{arith}
-use borrow.Author.Tests.{not_true, not-false}
+use borrow.Author.Tests.{not-true, not-false}
 use Rattle.model.specs.Call.{curve_of, nodes_fit, first_failed, question_refusal}
 use Rattle.model.proofs.Checks.{none_left, pass, fail, else_left, else_taken}
 use Rattle.geometry.specs.Call.{QuestionRefused}
@@ -63,7 +63,7 @@ nodes-fit-requires c κs = search rules
 returns-3 : tie.Need-returns-3
 returns-3 c =
     let curve = c.before.before in
-    given (from-curve curve.before) 9 (λ z. omega (arith, z)) (sym (past8 curve ∙ fail _ 9 nodes_fit _ (sym c.before.nodes-fit.ensures ∙ not_true _ c.if3.true)))
+    given (from-curve curve.before) 9 (λ z. omega (arith, z)) (sym (past8 curve ∙ fail _ 9 nodes_fit _ (sym c.before.nodes-fit.ensures ∙ not-true _ c.if3.true)))
 
 returns-4 : tie.Need-returns-4
 returns-4 c =

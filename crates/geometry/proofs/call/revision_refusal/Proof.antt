@@ -1,7 +1,7 @@
 -- `revision_refusal` equals its definition: 16 where the check fails.
 use borrow.Author.Rules.{rules}
 use mathlib.Core.Path.{sym, ◌∙◌}
-use borrow.Author.Tests.{not_true, not-false}
+use borrow.Author.Tests.{not-true, not-false}
 use Rattle.model.specs.Call.{revision_fits, revision_refusal}
 use Rattle.model.proofs.Checks.{none_left, pass, fail}
 use Rattle.geometry.proofs.call.revision_refusal.Statement.{statement}
@@ -12,7 +12,7 @@ revision-fits-requires c κs = search rules
 
 returns : tie.Need-returns
 unfolding revision_refusal
-returns c = sym (fail _ 16 revision_fits _ (sym c.before.revision-fits.ensures ∙ not_true _ c.if1.true))
+returns c = sym (fail _ 16 revision_fits _ (sym c.before.revision-fits.ensures ∙ not-true _ c.if1.true))
 
 returns-2 : tie.Need-returns-2
 unfolding revision_refusal

@@ -6,7 +6,7 @@ use lib.ListN.{length, drop, get_or}
 use lib.Ieee.{nan}
 use Rattle.lists.specs.Lists.{all}
 use Rattle.model.specs.Call.{rising}
-use borrow.Author.Tests.{not_true, not-false}
+use borrow.Author.Tests.{not-true, not-false}
 use Rattle.geometry.proofs.call.Checks.{rising-keep, rising-stop, rising_end}
 use Rattle.geometry.proofs.call.rising.Statement.{statement}
 use Rattle.geometry.proofs.call.rising.Tie as tie
@@ -40,7 +40,7 @@ returns c =
     let at-loop = c.before.before.before.before in
     let k = at-loop.before in
     let a = k.args in
-    rising-stop a.knots.now at-loop.loop.i _ at-loop.loop.invariant.0 at-loop.loop.invariant.1 (omega arith) (not_true _ c.if1.true)
+    rising-stop a.knots.now at-loop.loop.i _ at-loop.loop.invariant.0 at-loop.loop.invariant.1 (omega arith) (not-true _ c.if1.true)
 
 add-i : tie.Need-overflow-add-i invariant-loop decreases-loop
 add-i c = omega arith

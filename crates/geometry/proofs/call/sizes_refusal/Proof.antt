@@ -2,7 +2,7 @@
 use borrow.Author.Rules.{rules}
 use mathlib.Core.Path.{◌≡◌, refl, sym, ◌∙◌}
 use mathlib.Core.List.{[], ◌∷◌}
-use borrow.Author.Tests.{not_true, not-false, le-leb, lt-leb}
+use borrow.Author.Tests.{not-true, not-false, le-leb, lt-leb}
 use Rattle.model.specs.Call.{Curve, curve_of, dim_fits, degree_fits, count_fits, first_failed, sizes_refusal}
 use Rattle.model.proofs.Checks.{none_left, pass, fail}
 use Rattle.geometry.proofs.call.sizes_refusal.Statement.{statement}
@@ -29,7 +29,7 @@ dim-fits-requires c κs = search rules
 
 returns : tie.Need-returns
 unfolding sizes_refusal dim_fits
-returns c = sym (fail _ 1 dim_fits _ (sym c.before.dim-fits.ensures ∙ not_true _ c.if1.true))
+returns c = sym (fail _ 1 dim_fits _ (sym c.before.dim-fits.ensures ∙ not-true _ c.if1.true))
 
 returns-2 : tie.Need-returns-2
 unfolding degree_fits
@@ -40,7 +40,7 @@ count-fits-requires c κs = search rules
 
 returns-3 : tie.Need-returns-3
 unfolding count_fits
-returns-3 c = sym (past2 c.before.before ∙ fail _ 3 count_fits _ (sym c.before.count-fits.ensures ∙ not_true _ c.if3.true))
+returns-3 c = sym (past2 c.before.before ∙ fail _ 3 count_fits _ (sym c.before.count-fits.ensures ∙ not-true _ c.if3.true))
 
 returns-4 : tie.Need-returns-4
 unfolding count_fits

@@ -4,7 +4,7 @@ use mathlib.Core.Path.{◌≡◌, sym, ap, ◌∙◌}
 use mathlib.Core.Bool.{true}
 use Prim.Native.Nat.{ℕ, ◌+◌, ◌*◌}
 use native.Mathlib.Omega.{arith}
-use borrow.Author.Tests.{not_true, not-false, leb-true}
+use borrow.Author.Tests.{not-true, not-false, leb-true}
 use Rattle.model.specs.Call.{nodes_fit}
 use Rattle.model.proofs.Checks.{SmallSizes, small-sizes, stated-words, no-sizes, no-nodes}
 use Rattle.geometry.proofs.call.Checks.{area-few}
@@ -31,7 +31,7 @@ nodes-fit-requires : tie.Need-nodes-fit-requires
 nodes-fit-requires c κs = search rules
 
 returns-2 : tie.Need-returns-2
-returns-2 c = sym (no-nodes _ _ _ _ (sym c.before.nodes-fit.ensures ∙ not_true _ c.if2.true))
+returns-2 c = sym (no-nodes _ _ _ _ (sym c.before.nodes-fit.ensures ∙ not-true _ c.if2.true))
 
 add-result : tie.Need-overflow-add-result
 add-result c = let nodes = (from-nodes c).args.nodes in omega (arith, leb-true nodes 4096 (few c))

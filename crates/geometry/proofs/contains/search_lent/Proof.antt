@@ -4,7 +4,7 @@ use native.Mathlib.Omega.{arith}
 use lib.Dec.{eqb}
 use lib.ListN.{length}
 use lib.Ieee.{of_bits}
-use borrow.Author.Tests.{not_true, not-false}
+use borrow.Author.Tests.{not-true, not-false}
 use Rattle.math.proofs.Laws.{encloses}
 use Rattle.model.specs.Call.{Call, lent, arithmetic_of}
 use Rattle.model.proofs.Sound.Accepted.{Sizes, sizes}
@@ -62,7 +62,7 @@ returns c =
     let at-door = misses.before in
     let k = from-door at-door in
     let area = k.args.work.now in record {
-      result = missed (asked k) k.pre.0 area refl (arithmetic_of (asked k)) _ at-door.curve-could-meet-aabb.ensures (not_true _ misses.if1.true);
+      result = missed (asked k) k.pre.0 area refl (arithmetic_of (asked k)) _ at-door.curve-could-meet-aabb.ensures (not-true _ misses.if1.true);
       memory = area_left (asked k) k.pre.0 area refl _ at-door.before.stated-words.ensures area _ refl filled.fill.ensures;
     }
 

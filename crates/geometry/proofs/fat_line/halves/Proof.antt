@@ -2,7 +2,7 @@
 use mathlib.Core.Path.{sym, ap, ◌∙◌}
 use Prim.Native.Nat.{suc}
 use lib.Ieee.{Float, lt}
-use borrow.Author.Tests.{not_true, not-false}
+use borrow.Author.Tests.{not-true, not-false}
 use Rattle.math.specs.Picks.{max_f}
 use Rattle.math.specs.Scalars.{sharp, width_s}
 use Rattle.math.specs.declared.scalars.Scalar.{Scalar}
@@ -26,7 +26,7 @@ returns c =
     let a = w.before.before.before.args in
     let s = extent a.dim (points_of (suc a.dim) a.count a.points.now) in
     third_failed (lt (max_f a.carried a.resolution) s) (lt a.carried s) _
-    (ap (λ (v : Scalar). lt a.resolution v.lo) (sym (w.width.ensures ∙ ap (λ (v : Scalar). sharp (width_s v)) w.before.domain.ensures)) ∙ not_true _ c.if1.true)
+    (ap (λ (v : Scalar). lt a.resolution v.lo) (sym (w.width.ensures ∙ ap (λ (v : Scalar). sharp (width_s v)) w.before.domain.ensures)) ∙ not-true _ c.if1.true)
 
 returns-2 : tie.Need-returns-2
 unfolding halves

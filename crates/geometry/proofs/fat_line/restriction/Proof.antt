@@ -1,7 +1,7 @@
 -- `restriction` equals its definition: three tests, each made where those before it passed.
 use mathlib.Core.Path.{sym, ◌∙◌}
 use lib.Ieee.{lt}
-use borrow.Author.Tests.{not_true, not-false}
+use borrow.Author.Tests.{not-true, not-false}
 use Rattle.model.specs.FatLine.{restricts}
 use Rattle.geometry.proofs.fat_line.Sizes.{first_failed_lem, second_failed, both-passed}
 use borrow.Author.Rules.{rules}
@@ -10,7 +10,7 @@ use Rattle.geometry.proofs.fat_line.restriction.Tie as tie
 
 returns : tie.Need-returns
 unfolding restricts
-returns c = let a = c.before.args in first_failed_lem (lt a.carried a.size) _ _ (not_true _ c.if1.true)
+returns c = let a = c.before.args in first_failed_lem (lt a.carried a.size) _ _ (not-true _ c.if1.true)
 
 narrow-requires : tie.Need-narrow-requires
 narrow-requires c κs = search rules
@@ -20,7 +20,7 @@ unfolding restricts
 returns-2 c =
     let n = c.before in
     let a = n.before.before.args in
-    second_failed (lt a.carried a.size) _ _ (not-false _ n.before.if1.false) (sym n.narrow.ensures ∙ not_true _ c.if2.true)
+    second_failed (lt a.carried a.size) _ _ (not-false _ n.before.if1.false) (sym n.narrow.ensures ∙ not-true _ c.if2.true)
 
 reaches-in-requires : tie.Need-reaches-in-requires
 reaches-in-requires c κs = search rules

@@ -2,7 +2,7 @@
 use mathlib.Core.Path.{sym, ◌∙◌}
 use Prim.Native.Nat.{suc}
 use lib.Ieee.{lt}
-use borrow.Author.Tests.{not_true, not-false}
+use borrow.Author.Tests.{not-true, not-false}
 use Rattle.math.specs.Scalars.{sharp, width_s}
 use Rattle.math.specs.Revision.{arithmetic}
 use Rattle.model.specs.Layout.{points_of}
@@ -21,7 +21,7 @@ unfolding restricts
 returns c =
     let a = c.before.before.before.args in
     third_failed (lt a.carried (extent a.dim (points_of (suc a.dim) a.count a.points.now))) (lt (width_s a.hat) ((arithmetic a.second).mul (sharp (width_s (domain a.a a.b))) (arithmetic a.second).four_fifths).lo) _
-    (sym c.before.reaches-in.ensures ∙ not_true _ c.if1.true)
+    (sym c.before.reaches-in.ensures ∙ not-true _ c.if1.true)
 
 narrow-requires : tie.Need-narrow-requires
 narrow-requires c κs = search rules
@@ -30,7 +30,7 @@ returns-2 : tie.Need-returns-2
 unfolding restricts
 returns-2 c =
     let a = c.before.before.before.before.before.args in
-    middle_failed (lt a.carried (extent a.dim (points_of (suc a.dim) a.count a.points.now))) _ _ (sym c.before.narrow.ensures ∙ not_true _ c.if2.true)
+    middle_failed (lt a.carried (extent a.dim (points_of (suc a.dim) a.count a.points.now))) _ _ (sym c.before.narrow.ensures ∙ not-true _ c.if2.true)
 
 exceeds-requires : tie.Need-exceeds-requires
 exceeds-requires c κs = search rules

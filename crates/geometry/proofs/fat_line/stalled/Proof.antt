@@ -1,7 +1,7 @@
 -- `stalled` equals its definition: three tests, each made where those before it passed.
 use mathlib.Core.Path.{sym, ap, ◌∙◌}
 use lib.Ieee.{Float, lt}
-use borrow.Author.Tests.{not_true, not-false}
+use borrow.Author.Tests.{not-true, not-false}
 use Rattle.math.specs.Scalars.{sharp, width_s}
 use Rattle.math.specs.declared.scalars.Scalar.{Scalar}
 use Rattle.model.specs.FatLine.{halves}
@@ -15,14 +15,14 @@ max-requires c κs = search rules
 
 returns : tie.Need-returns
 unfolding halves
-returns c = let a = c.before.before.args in first_failed_lem _ _ _ (ap (λ (v : Float). lt v a.size) (sym c.before.max.ensures) ∙ not_true _ c.if1.true)
+returns c = let a = c.before.before.args in first_failed_lem _ _ _ (ap (λ (v : Float). lt v a.size) (sym c.before.max.ensures) ∙ not-true _ c.if1.true)
 
 returns-2 : tie.Need-returns-2
 unfolding halves
 returns-2 c =
     let m = c.before.before in
     let a = m.before.args in
-    second_failed _ _ _ (ap (λ (v : Float). lt v a.size) (sym m.max.ensures) ∙ not-false _ c.before.if1.false) (not_true _ c.if2.true)
+    second_failed _ _ _ (ap (λ (v : Float). lt v a.size) (sym m.max.ensures) ∙ not-false _ c.before.if1.false) (not-true _ c.if2.true)
 
 domain-requires : tie.Need-domain-requires
 domain-requires c κs = search rules

@@ -1,6 +1,6 @@
 -- `insert_to_full_multiplicity` equals its definition: the triangle or the insertions, as the two tests say.
 use mathlib.Core.Path.{sym, ◌∙◌}
-use borrow.Author.Tests.{not_true, not-false}
+use borrow.Author.Tests.{not-true, not-false}
 use Rattle.math.specs.Revision.{arithmetic}
 use Rattle.geometry.proofs.knot_insertion.Cuts.{full_bezier, full_failed, full_boehm, single-held, full_from, bezier_cut_lem}
 use borrow.Author.Rules.{rules}
@@ -29,7 +29,7 @@ returns c =
     let at-is-bezier-in = taken1.before in
     let k = from-is-bezier-in at-is-bezier-in in
     let g = k.args in
-    full_from (arithmetic g.second) g.s g.work.now _ g.base _ g.t _ (full_boehm g.s.degree g.t _ (arithmetic g.second) (sym at-is-bezier-in.is-bezier-in.ensures ∙ not_true _ taken1.if1.true)) at-boehm-cut.boehm_cut_lem.ensures
+    full_from (arithmetic g.second) g.s g.work.now _ g.base _ g.t _ (full_boehm g.s.degree g.t _ (arithmetic g.second) (sym at-is-bezier-in.is-bezier-in.ensures ∙ not-true _ taken1.if1.true)) at-boehm-cut.boehm_cut_lem.ensures
 
 along-in-requires : tie.Need-along-in-requires
 along-in-requires c κs = search rules

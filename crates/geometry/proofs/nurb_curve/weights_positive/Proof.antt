@@ -4,7 +4,7 @@ use Prim.Native.Nat.{suc, ◌≤◌, ◌-◌}
 use native.Mathlib.Omega.{arith}
 use lib.ListN.{length}
 use lib.Ieee.{of_bits}
-use borrow.Author.Tests.{not_true, not-false}
+use borrow.Author.Tests.{not-true, not-false}
 use Rattle.model.specs.Layout.{points_of}
 use Rattle.model.specs.NurbCurve.{weights_positive}
 use Rattle.geometry.proofs.nurb_curve.Points.{point_in, weights_from, weights-start, weights-keep, weights-stop, weights_end}
@@ -31,7 +31,7 @@ unfolding of_bits
 returns c =
     let l = c.before.before.before.before in
     let a = l.before.before.args in
-    weights-stop a.dim a.count a.points.now l.loop.i _ l.loop.invariant.1 (omega arith) c.before.before.coordinate.ensures (not_true _ c.if1.true)
+    weights-stop a.dim a.count a.points.now l.loop.i _ l.loop.invariant.1 (omega arith) c.before.before.coordinate.ensures (not-true _ c.if1.true)
 
 add-i : tie.Need-overflow-add-i invariant-loop decreases-loop
 add-i c = omega arith

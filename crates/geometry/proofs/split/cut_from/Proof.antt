@@ -1,7 +1,7 @@
 -- `cut_from` equals its definition: nothing where t does not lie inside, and else the cut of which what is right is kept.
 use mathlib.Core.Path.{refl, sym, ◌∙◌}
 use mathlib.Core.Logic.{inr}
-use borrow.Author.Tests.{not_true, not-false}
+use borrow.Author.Tests.{not-true, not-false}
 use Rattle.math.specs.Revision.{arithmetic}
 use Rattle.geometry.proofs.split.Splits.{whole-count, cut-held, cut-upto, from_kept, from_none}
 use borrow.Author.Rules.{rules}
@@ -23,7 +23,7 @@ returns : tie.Need-returns
 returns c =
     let at-is-inside = c.before in
     let k = from-is-inside at-is-inside in
-    let g = k.args in from_none (arithmetic g.second) g.s g.work.now g.base g.t (sym at-is-inside.is-inside.ensures ∙ not_true _ c.if1.true)
+    let g = k.args in from_none (arithmetic g.second) g.s g.work.now g.base g.t (sym at-is-inside.is-inside.ensures ∙ not-true _ c.if1.true)
 
 insert-to-full-multiplicity-requires : tie.Need-insert-to-full-multiplicity-requires
 insert-to-full-multiplicity-requires c κs =

@@ -1,6 +1,6 @@
 -- `cut_up_to` equals its definition: nothing where t does not lie inside, and else the cut of which what is left is kept.
 use mathlib.Core.Path.{refl, sym, ◌∙◌}
-use borrow.Author.Tests.{not_true, not-false}
+use borrow.Author.Tests.{not-true, not-false}
 use Rattle.math.specs.Revision.{arithmetic}
 use Rattle.geometry.proofs.split.Splits.{whole-count, cut-held, cut-upto, upto_kept, upto_none}
 use borrow.Author.Rules.{rules}
@@ -22,7 +22,7 @@ returns : tie.Need-returns
 returns c =
     let at-is-inside = c.before in
     let k = from-is-inside at-is-inside in
-    let g = k.args in upto_none (arithmetic g.second) g.s g.work.now g.base g.t (sym at-is-inside.is-inside.ensures ∙ not_true _ c.if1.true)
+    let g = k.args in upto_none (arithmetic g.second) g.s g.work.now g.base g.t (sym at-is-inside.is-inside.ensures ∙ not-true _ c.if1.true)
 
 insert-to-full-multiplicity-requires : tie.Need-insert-to-full-multiplicity-requires
 insert-to-full-multiplicity-requires c κs =

@@ -1,7 +1,7 @@
 -- `split` equals its definition: no cut where t does not lie inside, and else a copy, the cut in it, and its two parts in their slots.
 use mathlib.Core.Path.{sym, ◌∙◌}
 use mathlib.Core.Logic.{inl}
-use borrow.Author.Tests.{not_true, not-false}
+use borrow.Author.Tests.{not-true, not-false}
 use Rattle.math.specs.Revision.{arithmetic}
 use Rattle.geometry.proofs.split.Splits.{split_none, split_done, whole-count, held₁, whole₁, held₂, upto₂, inside₂, held₃, upto₃}
 use borrow.Author.Rules.{rules}
@@ -34,7 +34,7 @@ returns c =
     let at-is-inside = c.before in
     let k = from-is-inside at-is-inside in
     let g = k.args in
-    split_none (arithmetic g.second) g.s g.work.now g.src g.left g.right g.t k.pre.0.0 k.pre.0.1 k.pre.0.2 k.pre.0.3 k.pre.1.0 k.pre.1.1 k.pre.1.2 (sym at-is-inside.is-inside.ensures ∙ not_true _ c.if1.true)
+    split_none (arithmetic g.second) g.s g.work.now g.src g.left g.right g.t k.pre.0.0 k.pre.0.1 k.pre.0.2 k.pre.0.3 k.pre.1.0 k.pre.1.1 k.pre.1.2 (sym at-is-inside.is-inside.ensures ∙ not-true _ c.if1.true)
 
 copy-right-requires : tie.Need-copy-right-requires
 copy-right-requires c κs = let k = from-is-inside c.before.before in ((k.pre.0.0, k.pre.0.2, omega arith), inl k.pre.1.0)

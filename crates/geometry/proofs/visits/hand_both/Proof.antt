@@ -1,6 +1,6 @@
 -- `hand_both` equals its definition: the halves are handed on, if there are any and their weights are above zero.
 use borrow.Author.Rules.{rules}
-use borrow.Author.Tests.{not_true, not-false}
+use borrow.Author.Tests.{not-true, not-false}
 use Rattle.math.specs.Revision.{arithmetic}
 use Rattle.geometry.proofs.visits.Handed.{both_none, both-held, both-bad_first, both-bad_second, both_done}
 use Rattle.geometry.proofs.visits.hand_both.Statement.{statement}
@@ -29,7 +29,7 @@ returns c =
     let k = from-split-mid at-split-mid in
     let g = k.args in
     let halves = at-split-mid.split-mid in
-    both_none (arithmetic g.second) g.s g.work.now _ g.a g.b g.hat _ _ halves.ensures halves.auto.0 (not_true _ c.if1.true)
+    both_none (arithmetic g.second) g.s g.work.now _ g.a g.b g.hat _ _ halves.ensures halves.auto.0 (not-true _ c.if1.true)
 
 weights-positive-in-requires : tie.Need-weights-positive-in-requires
 weights-positive-in-requires c κs =
@@ -51,7 +51,7 @@ returns-2 c =
     let k = from-split-mid at-split-mid in
     let g = k.args in
     let halves = at-split-mid.split-mid in
-    both-bad_first (arithmetic g.second) g.s g.work.now _ g.a g.b g.hat _ _ halves.ensures halves.kept.0 (not-false _ passed1.if1.left) _ at-weights-positive-in.weights-positive-in.ensures (not_true _ c.if2.true)
+    both-bad_first (arithmetic g.second) g.s g.work.now _ g.a g.b g.hat _ _ halves.ensures halves.kept.0 (not-false _ passed1.if1.left) _ at-weights-positive-in.weights-positive-in.ensures (not-true _ c.if2.true)
 
 weights-positive-in-requires-2 : tie.Need-weights-positive-in-requires-2
 weights-positive-in-requires-2 c κs =
@@ -75,7 +75,7 @@ returns-3 c =
     let k = from-split-mid at-split-mid in
     let g = k.args in
     let halves = at-split-mid.split-mid in
-    both-bad_second (arithmetic g.second) g.s g.work.now _ g.a g.b g.hat _ _ halves.ensures halves.kept.0 (not-false _ passed1.if1.left) _ at-weights-positive-in.weights-positive-in.ensures (not-false _ passed2.if2.false) _ at-weights-positive-in2.weights-positive-in2.ensures (not_true _ c.if3.true)
+    both-bad_second (arithmetic g.second) g.s g.work.now _ g.a g.b g.hat _ _ halves.ensures halves.kept.0 (not-false _ passed1.if1.left) _ at-weights-positive-in.weights-positive-in.ensures (not-false _ passed2.if2.false) _ at-weights-positive-in2.weights-positive-in2.ensures (not-true _ c.if3.true)
 
 same-length-4 : tie.Need-same-length-4
 same-length-4 c = search rules

@@ -1,6 +1,6 @@
 -- `hand_on` equals its definition: what is cut down is handed on, if its weights are above zero.
 use borrow.Author.Rules.{rules}
-use borrow.Author.Tests.{not_true, not-false}
+use borrow.Author.Tests.{not-true, not-false}
 use Rattle.math.specs.Revision.{arithmetic}
 use Rattle.geometry.proofs.visits.Handed.{handed-on, handed-bad}
 use Rattle.geometry.proofs.visits.hand_on.Statement.{statement}
@@ -19,7 +19,7 @@ returns : tie.Need-returns
 returns c = λ b.
     let g = c.before.before.before.before.before.before.before.before.args in
     let k = c.before.before.before.before.before.restrict in
-    handed-bad (arithmetic g.second) g.s g.work.now _ g.a g.hat _ _ k.ensures k.auto.0 _ c.before.weights-positive-in.ensures b (not_true _ c.if1.true)
+    handed-bad (arithmetic g.second) g.s g.work.now _ g.a g.hat _ _ k.ensures k.auto.0 _ c.before.weights-positive-in.ensures b (not-true _ c.if1.true)
 
 same-length-2 : tie.Need-same-length-2
 same-length-2 c = search rules

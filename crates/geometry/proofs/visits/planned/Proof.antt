@@ -1,5 +1,5 @@
 -- `planned` equals its definition: a box that misses skips the piece.
-use borrow.Author.Tests.{not_true, not-false}
+use borrow.Author.Tests.{not-true, not-false}
 use Rattle.math.specs.Revision.{arithmetic}
 use Rattle.model.specs.Layout.{scalars_of}
 use Rattle.geometry.proofs.visits.Plans.{plan_skip, plan_go}
@@ -13,7 +13,7 @@ aabb-could-overlap-requires c κs = search rules
 returns : tie.Need-returns
 returns c =
     let a = c.before.before.before.before.before.args in
-    plan_skip (arithmetic a.second) a.dim a.degree a.count (scalars_of a.dim a.point-box.now) a.resolution a.knots.now a.points.now _ c.before.aabb-could-overlap.ensures (not_true _ c.if1.true)
+    plan_skip (arithmetic a.second) a.dim a.degree a.count (scalars_of a.dim a.point-box.now) a.resolution a.knots.now a.points.now _ c.before.aabb-could-overlap.ensures (not-true _ c.if1.true)
 
 plan-clip-requires : tie.Need-plan-clip-requires
 plan-clip-requires c κs = search rules

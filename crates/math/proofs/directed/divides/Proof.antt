@@ -1,7 +1,7 @@
 -- `divides` equals its definition.
 use mathlib.Core.Path.{sym, ◌∙◌}
 use lib.Ieee.{of_bits}
-use borrow.Author.Tests.{not_true, not-false}
+use borrow.Author.Tests.{not-true, not-false}
 use Rattle.math.specs.RootLaws.{is_finite}
 use Rattle.math.proofs.Bools.{and_both, and_yes, and_no}
 use Rattle.math.proofs.Tight.Ratios.{nonzero_test}
@@ -13,7 +13,7 @@ both-finite-requires : tie.Need-both-finite-requires
 both-finite-requires c κs = search rules
 
 returns : tie.Need-returns
-returns c = let h = sym c.before.both-finite.ensures ∙ not_true _ c.if1.true in sym h ∙ and_no _ _ h
+returns c = let h = sym c.before.both-finite.ensures ∙ not-true _ c.if1.true in sym h ∙ and_no _ _ h
 
 returns-2 : tie.Need-returns-2
 unfolding of_bits

@@ -2,7 +2,7 @@
 use mathlib.Core.Path.{◌≡◌, refl, sym, ◌∙◌}
 use mathlib.Core.Bool.{true, ◌||◌}
 use lib.Ieee.{binary64, eq, mul}
-use borrow.Author.Tests.{not_true, not-false}
+use borrow.Author.Tests.{not-true, not-false}
 use Rattle.math.specs.RootLaws.{is_finite}
 use Rattle.math.specs.Scalars.{zero_f}
 use Rattle.math.proofs.Bools.{and_both}
@@ -16,7 +16,7 @@ both-finite-requires : tie.Need-both-finite-requires
 both-finite-requires c κs = search rules
 
 unbounded-product-requires : tie.Need-unbounded-product-requires
-unbounded-product-requires c κs = sym c.before.both-finite.ensures ∙ not_true _ c.if1.true
+unbounded-product-requires c κs = sym c.before.both-finite.ensures ∙ not-true _ c.if1.true
 
 returns : tie.Need-returns
 returns c = search rules

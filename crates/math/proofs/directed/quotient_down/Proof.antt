@@ -2,7 +2,7 @@
 use mathlib.Core.Path.{◌≡◌, refl, sym, ◌∙◌}
 use mathlib.Core.Bool.{true, not, ◌&&◌}
 use lib.Ieee.{of_bits}
-use borrow.Author.Tests.{not_true, not-false}
+use borrow.Author.Tests.{not-true, not-false}
 use Rattle.math.specs.Directed.{is_zero}
 use Rattle.math.specs.RootLaws.{is_finite}
 use Rattle.math.proofs.Tight.Flat.{flat-quotient}
@@ -16,7 +16,7 @@ divides-requires : tie.Need-divides-requires
 divides-requires c κs = search rules
 
 returns : tie.Need-returns
-returns c = let a = c.before.before.args in quotient-passed a.a a.b (sym c.before.divides.ensures ∙ not_true _ c.if1.true)
+returns c = let a = c.before.before.args in quotient-passed a.a a.b (sym c.before.divides.ensures ∙ not-true _ c.if1.true)
 
 divided : (c : tie.Else1) → (is_finite c.before.before.args.a && is_finite c.before.before.args.b && not (is_zero c.before.before.args.b)) ≡ true
 divided c = sym c.before.divides.ensures ∙ not-false _ c.if1.false

@@ -53,15 +53,15 @@ module _ (ar : Arithmetic) (E : Encloses ar) where
       d = ar.sub b a
 
       D : Holds (ar.sub b a) (B -ℚ A)
-      D = E.sub-Holds b a B A hb ha
+      D = E.sub_holds b a B A hb ha
 
       go : (s t : Divided) → ar.div (ar.sub (sharp e.lo) a) (ar.sub b a) ≡ s → ar.div (ar.sub (sharp e.hi) a) (ar.sub b a) ≡ t → Allows (along_by s t) x
       go Failed t es et = unfold along_by in tt
       go (Value s) Failed es et = unfold along_by in tt
       go (Value s) (Value t) es et = unfold along_by in
           two_ends (union_s s t) ((value e.lo -ℚ A) *ℚ invℚ (B -ℚ A)) ((value e.hi -ℚ A) *ℚ invℚ (B -ℚ A)) x
-          (union_left s t _ (E.div_holds _ d s _ _ es (E.sub-Holds (sharp e.lo) a _ A (sharp_known e.lo ke.from) ha) D))
-          (union_right s t _ (E.div_holds _ d t _ _ et (E.sub-Holds (sharp e.hi) a _ A (sharp_known e.hi ke.upto) ha) D))
+          (union_left s t _ (E.div_holds _ d s _ _ es (E.sub_holds (sharp e.lo) a _ A (sharp_known e.lo ke.from) ha) D))
+          (union_right s t _ (E.div_holds _ d t _ _ et (E.sub_holds (sharp e.hi) a _ A (sharp_known e.hi ke.upto) ha) D))
           (λ m M f g. confine A (B -ℚ A) x q (value e.lo) (value e.hi) m M (divisor ar E _ d s (B -ℚ A) es D) eq (bounded_in e q ke he) f g)
 
   -- ---- all axes

@@ -74,7 +74,7 @@ module _ (ar : Arithmetic) (E : Encloses ar) where
   sum_holds [] a x u j h k = subst (λ (z : ℚ). Holds a z) (plus_0 x) h
   sum_holds (f ∷ l) a x u j h k =
       subst (λ (z : ℚ). Holds (foldl (λ s y. ar.add s (sharp y)) (ar.add a (sharp f)) l) z) (regroup x (u j) (sum u (length l) (suc j)))
-      (sum_holds l (ar.add a (sharp f)) (x +ℚ u j) u (suc j) (E.add-Holds a (sharp f) x (u j) h (subst (λ (z : ℕ). Holds (sharp f) (u z)) first (k zero (omega arith))))
+      (sum_holds l (ar.add a (sharp f)) (x +ℚ u j) u (suc j) (E.add_holds a (sharp f) x (u j) h (subst (λ (z : ℕ). Holds (sharp f) (u z)) first (k zero (omega arith))))
       (λ m b. subst (λ (z : ℕ). Holds (sharp (get_or l m nan)) (u z)) (next m) (k (suc m) (omega arith))))
     where
       first : j + zero ≡ j

@@ -64,7 +64,7 @@ module _ (ar : Arithmetic) (E : Encloses ar) where
 
   -- a coordinate less e times the weight
   pub less_holds : (a e w : Scalar) (x q y : ℚ) → Heavy w → Holds a x → Holds e q → Holds w y → Holds (ar.sub a (ar.mul e w)) (x -ℚ q *ℚ y)
-  less_holds a e w x q y t h k l = E.sub-Holds a (ar.mul e w) x (q *ℚ y) h (E.mul-Holds e w q y (weight-clear e w t) k l)
+  less_holds a e w x q y t h k l = E.sub_holds a (ar.mul e w) x (q *ℚ y) h (E.mul_holds e w q y (weight-clear e w t) k l)
 
   -- ---- quotients
   pub place_holds : (dim k : ℕ) (q : Vector) (x y : ℚ) → Heavy (coordinate q dim) → Holds (coordinate q k) x → Holds (coordinate q dim) y → Holds (place ar dim k q) (x *ℚ invℚ y)

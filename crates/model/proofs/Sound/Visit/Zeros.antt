@@ -86,10 +86,10 @@ module _ (ar : Arithmetic) (E : Encloses ar) where
     last_d_lem = subst (λ (z : ℕ). Holds (get_or ds (z - 1) absent) (d (n - 1))) (sym ld) (hd (n - 1) (omega arith))
 
     rise_holds : Holds rise (d (n - 1) -ℚ d zero)
-    rise_holds = E.sub-Holds _ _ _ _ last_d_lem first_d
+    rise_holds = E.sub_holds _ _ _ _ last_d_lem first_d
 
     run_holds : Holds run (x (n - 1) -ℚ x zero)
-    run_holds = E.sub-Holds _ _ _ _ last_x first_x
+    run_holds = E.sub_holds _ _ _ _ last_x first_x
 
     -- ---- where the chord has a slope
     module _ (s : Scalar) (es : ar.div rise run ≡ Value s) where
@@ -108,8 +108,8 @@ module _ (ar : Arithmetic) (E : Encloses ar) where
       offset_holds : (i : ℕ) → i < n → Holds (get_or offsets i absent) (d i -ℚ (d zero +ℚ σ *ℚ (x i -ℚ x zero)))
       offset_holds i l =
           subst (λ (z : Scalar). Holds z (d i -ℚ (d zero +ℚ σ *ℚ (x i -ℚ x zero)))) (sym (get_or_zip (λ u y. offset ar s ξ₀ d₀ u y) ξs ds i absent absent absent (subst (λ (z : ℕ). i < z) (sym lξ) l) (subst (λ (z : ℕ). i < z) (sym ld) l)))
-          (E.sub-Holds _ _ _ _ (hd i l) (E.add-Holds _ _ _ _ first_d
-          (E.mul-Holds s (ar.sub (get_or ξs i absent) ξ₀) _ _ (E.slope_clear rise run s (get_or ξs i absent) ξ₀ _ _ _ _ es rise_holds run_holds (hx i l) first_x) σ_holds (E.sub-Holds _ _ _ _ (hx i l) first_x))))
+          (E.sub_holds _ _ _ _ (hd i l) (E.add_holds _ _ _ _ first_d
+          (E.mul_holds s (ar.sub (get_or ξs i absent) ξ₀) _ _ (E.slope_clear rise run s (get_or ξs i absent) ξ₀ _ _ _ _ es rise_holds run_holds (hx i l) first_x) σ_holds (E.sub_holds _ _ _ _ (hx i l) first_x))))
 
       -- any number that the band holds gives one that the crossing holds
       cross_holds : (δ t : ℚ) → Holds (unions offsets) δ → (¬ (σ ≡ 0ℚ) → t ≡ x zero -ℚ (d zero +ℚ δ) *ℚ invℚ σ) → Found (crossing ar ξ₀ (ar.div (ar.add d₀ (unions offsets)) s)) t
@@ -120,7 +120,7 @@ module _ (ar : Arithmetic) (E : Encloses ar) where
           go Failed e = entire_holds t
           go (Value q) e =
               subst (λ (z : ℚ). Holds (ar.sub ξ₀ q) z) (sym (r (divisor (ar.add d₀ (unions offsets)) s q σ e σ_holds)))
-              (E.sub-Holds ξ₀ q _ _ first_x (E.div_holds (ar.add d₀ (unions offsets)) s q _ σ e (E.add-Holds _ _ _ _ first_d h) σ_holds))
+              (E.sub_holds ξ₀ q _ _ first_x (E.div_holds (ar.add d₀ (unions offsets)) s q _ σ e (E.add_holds _ _ _ _ first_d h) σ_holds))
 
       module _ (t : ℚ) (cr : Crosses n x d t) where
         abbrev δ : ℚ
@@ -136,7 +136,7 @@ module _ (ar : Arithmetic) (E : Encloses ar) where
         sloped : Found (zeros_by ar ξs ds ξ₀ d₀ (Value s)) t
         unfolding zeros_by
         sloped = passes (could_be_equal (ar.add (union_s d₀ (last_d ds absent)) (unions offsets)) ZERO) (crossing ar ξ₀ (ar.div (ar.add d₀ (unions offsets)) s)) t
-            (could_equal _ ZERO 0ℚ (subst (λ (z : ℚ). Holds (ar.add (union_s d₀ (last_d ds absent)) (unions offsets)) z) (cancels (d zero +ℚ σ *ℚ (t -ℚ x zero))) (E.add-Holds _ _ _ _ line_holds band_holds)) zero_holds)
+            (could_equal _ ZERO 0ℚ (subst (λ (z : ℚ). Holds (ar.add (union_s d₀ (last_d ds absent)) (unions offsets)) z) (cancels (d zero +ℚ σ *ℚ (t -ℚ x zero))) (E.add_holds _ _ _ _ line_holds band_holds)) zero_holds)
             (cross_holds δ t band_holds (λ ne. solve t (x zero) (d zero) σ δ (*ℚ_inv σ ne) refl))
 
     -- THE FAT LINE

@@ -6,7 +6,7 @@ use Prim.Native.Nat.{ℕ, ◌+◌, ◌-◌, ◌≤◌}
 use Rattle.lists.specs.Lists.{part, all}
 use native.Mathlib.Omega.{arith}
 use lib.ListN.{length, drop}
-use borrow.Author.Tests.{not_true, not-false}
+use borrow.Author.Tests.{not-true, not-false}
 use Rattle.text.specs.Numerals.{is_digit, digits}
 use Rattle.text.proofs.numerals.Decimal.{digits_turn, digits-stop, digits_done, digits_known}
 use Rattle.text.proofs.numerals.digits.Statement.{statement}
@@ -45,7 +45,7 @@ returns c =
     let l = at-loop.loop in
     let a = at-loop.before.before.args in
     counted a.text.now a.at l.i l.invariant.0 l.invariant.1 l.invariant.2
-    (digits-stop a.text.now l.i (omega arith) (sym test.is_digit.ensures ∙ not_true _ c.if1.true))
+    (digits-stop a.text.now l.i (omega arith) (sym test.is_digit.ensures ∙ not-true _ c.if1.true))
 
 add-i : tie.Need-overflow-add-i invariant-loop decreases-loop
 add-i c = omega arith

@@ -1,7 +1,7 @@
 -- `small` reads what its definition reads.
 use mathlib.Core.Path.{sym, ◌∙◌}
 use native.Mathlib.Omega.{arith}
-use borrow.Author.Tests.{not_true, not-false}
+use borrow.Author.Tests.{not-true, not-false}
 use lib.ListN.{drop}
 use Rattle.text.proofs.numerals.Decimal.{small-nine, small-bad, small-got}
 use Rattle.text.proofs.numerals.small.Statement.{statement}
@@ -17,7 +17,7 @@ returns : tie.Need-returns
 returns c =
     let test = c.before in
     let count = test.before.digits in
-    small-bad _ count.result count.ensures.0 (sym test.is-small.ensures ∙ not_true _ c.if1.true)
+    small-bad _ count.result count.ensures.0 (sym test.is-small.ensures ∙ not-true _ c.if1.true)
 
 decimal-of-requires : tie.Need-decimal-of-requires
 decimal-of-requires c κs =

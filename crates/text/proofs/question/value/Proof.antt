@@ -1,5 +1,5 @@
 -- `value` reads a double and the byte behind it.
-use borrow.Author.Tests.{not_true, not-false}
+use borrow.Author.Tests.{not-true, not-false}
 use Rattle.text.proofs.question.Doubles.{value_none, value_is}
 use borrow.Author.Rules.{rules}
 use Rattle.text.proofs.question.value.Statement.{statement}
@@ -11,7 +11,7 @@ is-double-requires c κs = search rules
 returns : tie.Need-returns
 returns c =
     let a = c.before.before.before.args in
-    value_none a.text.now a.at a.b _ c.before.is-double.ensures.0 (not_true _ c.if1.true)
+    value_none a.text.now a.at a.b _ c.before.is-double.ensures.0 (not-true _ c.if1.true)
 
 add-byte : tie.Need-overflow-add-byte
 add-byte c = search rules
