@@ -1,0 +1,10 @@
+-- `digits` meets its contract.
+use native.Mathlib.Omega.{arith}
+use Rattle.math.proofs.Tight.Wholes.{digits_low, digits_high}
+use Rattle.math.proofs.digits.digits.Goals as goal
+
+pub returns-then-b-lt4503599627370496 : goal.returns-then-b-lt4503599627370496
+returns-then-b-lt4503599627370496 c = (digits_low _ c.if-b-lt4503599627370496.true, omega arith)
+
+pub returns : goal.returns
+returns c = (digits_high _ c.if-b-lt4503599627370496.false, omega arith)

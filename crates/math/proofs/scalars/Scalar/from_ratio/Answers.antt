@@ -1,0 +1,20 @@
+-- `from_ratio` equals its definition: it fails at a denominator of 0, and else gives the two neighbours of the quotient.
+use mathlib.Core.Path.{◌∙◌}
+use borrow.Author.Tests.{eq-eqb, ne_eqb}
+use Rattle.math.proofs.Bools.{pick_yes, pick_no}
+use Rattle.math.proofs.Paper.{is_ratio}
+use Rattle.math.specs.Scalars.{from_ratio}
+use Rattle.math.specs.declared.scalars.Divided.TheVariants.{Value}
+use Rattle.math.proofs.scalars.Scalar.from_ratio.Goals as goal
+
+pub returns-then-den-eq0 : goal.returns-then-den-eq0
+unfolding from_ratio
+returns-then-den-eq0 c = let g = c.args in is_ratio g.num g.den _ (pick_yes _ _ _ (eq-eqb g.den 0 c.if-den-eq0.true))
+
+pub returns : goal.returns
+unfolding from_ratio
+returns c =
+    let g = c.args in
+    is_ratio g.num g.den _
+    ((λ i. Value (record { lo = c.next_down.ensures i; hi = c.next_up.ensures i }))
+    ∙ pick_no _ _ _ (ne_eqb g.den 0 c.if-den-eq0.false))
