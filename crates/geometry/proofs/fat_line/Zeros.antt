@@ -44,9 +44,9 @@ pub sum_done : (ar : Arithmetic) (w : List Float) (s : Scalar) (j : ℕ) → len
 sum_done ar w s j h inv = sym (foldl_done (λ s u. ar.add s (sharp u)) s w j h) ∙ inv
 
 -- a degree is a double
-pub in_float : (p : ℕ) → p ≤ 7 → T (in_float binary64 (pos p))
+pub in_float_degree : (p : ℕ) → p ≤ 7 → T (in_float binary64 (pos p))
 unfolding in_float
-in_float p h = le→leb p (2 ^ 53) (omega arith)
+in_float_degree p h = le→leb p (2 ^ 53) (omega arith)
 
 -- in revision 1 the sum goes over a divisor that is at hand
 pub mean-over : (w : List Float) (r : Scalar) (d : Divisor) → d ≡ divisor_of d.value → r ≡ over_s (summed geop ZERO w) d → r ≡ mean_over geop w d.value

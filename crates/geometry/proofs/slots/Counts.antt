@@ -16,13 +16,13 @@ use Rattle.geometry.specs.declared.slots.Shape.{Shape}
 
 -- ---- the count
 
-pub in_float : (n : ℕ) → n ≤ 0x1_0000 → T (in_float binary64 (pos n))
+pub in_float_word : (n : ℕ) → n ≤ 0x1_0000 → T (in_float binary64 (pos n))
 unfolding in_float
-in_float n h = le→leb n (2 ^ 53) (omega arith)
+in_float_word n h = le→leb n (2 ^ 53) (omega arith)
 
 back : (n : ℕ) → n ≤ 0x1_0000 → T (in_unsigned binary64 64 (word n)) × (to_unsigned 64 (word n) ≡ n)
 unfolding word
-back n h = unsigned_back binary64 64 n (in_float n h) (lt_of_le_of_lt h (lit< tt))
+back n h = unsigned_back binary64 64 n (in_float_word n h) (lt_of_le_of_lt h (lit< tt))
 
 -- a word that stands for a count can be read
 pub readable : (x : Float) (n : ℕ) → x ≡ word n → n ≤ 0x1_0000 → T (in_unsigned binary64 64 x)
