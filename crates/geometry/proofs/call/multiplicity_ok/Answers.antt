@@ -1,0 +1,18 @@
+-- `multiplicity_ok` equals its definition, by the answers of its tests.
+use Rattle.geometry.proofs.call.Multiplicity.{ok_at_end, ok_at_inner, ok_at_outer}
+use Rattle.geometry.proofs.call.multiplicity_ok.Goals as goal
+
+pub returns-then-is_end : goal.returns-then-is_end
+returns-then-is_end c =
+    let g = c.args in
+    ok_at_end g.degree g.a g.b g.knots.now g.i c.is_end.result c.is_end.ensures c.repeats_at.result c.if-is_end.true c.repeats_at.ensures
+
+pub returns-then-is_inner : goal.returns-then-is_inner
+returns-then-is_inner c =
+    let g = c.args in
+    ok_at_inner g.degree g.a g.b g.knots.now g.i c.is_end.result c.is_end.ensures c.is_inner.result c.is_inner.ensures c.repeats_at-then-is_inner.result c.inner_most.result c.if-is_end.false c.if-is_inner.true c.inner_most.ensures c.repeats_at-then-is_inner.ensures
+
+pub returns : goal.returns
+returns c =
+    let g = c.args in
+    ok_at_outer g.degree g.a g.b g.knots.now g.i c.is_end.result c.is_end.ensures c.is_inner.result c.is_inner.ensures c.if-is_end.false c.if-is_inner.false

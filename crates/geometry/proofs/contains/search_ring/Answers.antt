@@ -1,0 +1,109 @@
+-- `search_ring` equals its definition: what is left to search from where it stands is what was to search from the start.
+use Prim.Native.Nat.{ℕ, ◌-◌, ◌<◌}
+use native.Mathlib.Omega.{arith}
+use lib.Ieee.{Float}
+use mathlib.Core.List.{List}
+use mathlib.Core.Bool.{Bool}
+use mathlib.Core.Path.{sym, ap, ◌∙◌}
+use Rattle.math.specs.Revision.{arithmetic}
+use Rattle.model.specs.NurbCurve.{Piece}
+use Rattle.model.specs.Contains.{visit}
+use Rattle.model.specs.declared.subdivide.Counts.{Counts}
+use Rattle.geometry.specs.State.{asked_of}
+use Rattle.geometry.specs.declared.slots.Shape.{Shape}
+use Rattle.model.proofs.Cuts.{OneOrTwo, visit-cuts}
+use Rattle.geometry.proofs.contains.Search.{cuts-few, going_start, going_none, going-spent, Ready, Comes, ready, comes}
+use Rattle.geometry.proofs.contains.search_ring.Invariants.{seeing}
+use Rattle.geometry.proofs.contains.search_ring.Goals as goal
+
+few : (second : Bool) (s : Shape) (box : List Float) (resolution : Float) (nodes : ℕ) (c : Piece) → OneOrTwo (seeing second s box resolution nodes c)
+few second s box resolution nodes = visit-cuts (arithmetic second) (asked_of s box resolution nodes)
+
+waits : (c : goal.Else-v-nodes) → 0 < c.loop-q.q.pending
+waits c = omega (arith, c.loop-q-test.true)
+
+more : (c : goal.Else-v-nodes) → c.loop-q.q.counts.visited < c.args.nodes
+more c = omega (arith, c.if-v-nodes.false, c.loop-q.invariant.within)
+
+asks : (c : goal.Else-v-nodes) → Ready (arithmetic c.args.second) c.args.nodes c.args.s c.loop-q.work c.loop-q.q
+asks c =
+    let g = c.args in
+    let l = c.loop-q in
+    ready (arithmetic g.second) g.s g.point_box.now g.resolution g.nodes g.work.now c.requires.begins l.work l.q l.invariant (waits c) (more c)
+
+gives : (c : goal.After-after_visit-q)
+    → let g = c.args in
+    let v = c.visit_next-o in
+    Comes (seeing g.second g.s g.point_box.now g.resolution g.nodes) g.nodes g.s g.work.now v.new.work v.result c.after_visit-q.result
+gives c =
+    let g = c.args in
+    let l = c.loop-q in
+    comes (arithmetic g.second) g.s g.point_box.now g.resolution g.nodes g.work.now c.requires.begins l.work l.q l.invariant (waits c.before.before.before.before.before.before) (more c.before.before.before.before.before.before)
+    _ _ _ _ c.visit_next-o.auto.work c.next_depth-d.ensures c.visit_next-o.ensures c.after_visit-q.ensures
+
+-- ---- before the loop
+pub slot_words-w-requires : goal.slot_words-w-requires
+slot_words-w-requires c = let z = c.requires.begins.ring.sized in (z.dim, (z.degree, z.count))
+
+pub overflow_add-slots : goal.overflow_add-slots
+overflow_add-slots c = omega (arith, c.requires.begins.few)
+
+pub loop-q-init : goal.loop-q-init
+loop-q-init c =
+    let g = c.args in
+    going_start (seeing g.second g.s g.point_box.now g.resolution g.nodes) (few g.second g.s g.point_box.now g.resolution g.nodes) g.nodes g.s g.work.now c.requires.begins.ring c.requires.begins.whole
+
+-- ---- no visit is left
+pub shape_of-work-then-v-nodes : goal.shape_of-work-then-v-nodes
+shape_of-work-then-v-nodes c = c.loop-q.invariant.long
+
+pub returns-then-v-nodes : goal.returns-then-v-nodes
+returns-then-v-nodes c =
+    let g = c.args in
+    let l = c.loop-q in record {
+      found = going-spent (seeing g.second g.s g.point_box.now g.resolution g.nodes) (few g.second g.s g.point_box.now g.resolution g.nodes) g.nodes g.s g.work.now l.work l.q l.invariant (omega arith) (omega arith);
+      rest = l.invariant.rest;
+    }
+
+-- ---- a visit
+pub next_depth-d-requires : goal.next_depth-d-requires
+next_depth-d-requires c = let a = asks c in record { waits = (a.waits, c.slot_words-w.ensures); head_bound = a.deep }
+
+pub visit_next-o-requires : goal.visit_next-o-requires
+visit_next-o-requires c =
+    let a = asks c.before.before in record { ring = (c.loop-q.invariant.ring, waits c.before.before, a.room); slots_bound = (omega (arith, c.requires.begins.few), c.slot_words-w.ensures, omega (arith, c.next_depth-d.ensures, a.deep)); fit = (a.fit, c.requires.dim_in_bounds) }
+
+pub after_visit-q-requires : goal.after_visit-q-requires
+after_visit-q-requires c =
+    let a = asks c.before.before.before.before.before in
+    let i = c.loop-q.invariant in record { head_lt_slots = (i.ring.start, waits c.before.before.before.before.before, omega (arith, a.room), omega (arith, c.requires.begins.few)); visited_bound = (omega (arith, i.within, c.requires.begins.few), omega (arith, a.cuts), cuts-few (arithmetic c.args.second) _ c.args.s _ _ _ _ _ _ _ c.visit_next-o.ensures) }
+
+pub has_bad_weight-requires : goal.has_bad_weight-requires
+has_bad_weight-requires c = tt
+
+pub shape_of-work-then-has_bad_weight : goal.shape_of-work-then-has_bad_weight
+shape_of-work-then-has_bad_weight c =
+    c.visit_next-o.auto.work ∙ c.loop-q.invariant.long
+
+pub returns-then-has_bad_weight : goal.returns-then-has_bad_weight
+returns-then-has_bad_weight c =
+    let r = gives c.before.before.before in
+    record { found = r.bad (sym c.has_bad_weight.ensures ∙ c.if-has_bad_weight.true); rest = r.rest }
+
+pub loop-q-smaller : goal.loop-q-smaller
+loop-q-smaller c =
+    omega (arith, ap (λ (v : Counts). v.visited) c.after_visit-q.ensures.counts, more c.before.before.before.before.before.before.before.before)
+
+pub loop-q-preserved : goal.loop-q-preserved
+loop-q-preserved c = (gives c.before.before).on (sym c.has_bad_weight.ensures ∙ c.if-has_bad_weight.false)
+
+pub shape_of-work : goal.shape_of-work
+shape_of-work c = c.loop-q.invariant.long
+
+pub returns : goal.returns
+returns c =
+    let g = c.args in
+    let l = c.loop-q in record {
+      found = going_none (seeing g.second g.s g.point_box.now g.resolution g.nodes) (few g.second g.s g.point_box.now g.resolution g.nodes) g.nodes g.s g.work.now l.work l.q l.invariant _ (omega arith) c.completed.ensures;
+      rest = l.invariant.rest;
+    }

@@ -1,0 +1,14 @@
+-- `abscissa_tight` is the sum, which the turns keep, over its divisor.
+use mathlib.Core.Path.{◌≡◌}
+use Prim.Native.Nat.{◌-◌, ◌≤◌}
+use lib.ListN.{length, drop}
+use Rattle.math.specs.Scalars.{ZERO}
+use Rattle.math.specs.Tight.{tight}
+use Rattle.geometry.specs.Abscissae.{summed}
+use Rattle.geometry.proofs.fat_line.abscissa_tight.Given as goal
+
+abbrev pub invariant-loop-j : goal.invariant-loop-j
+invariant-loop-j l = (l.j ≤ length l.w) × (summed tight l.sum (drop l.j l.w) ≡ summed tight ZERO l.w)
+
+abbrev pub decreases-loop-j : goal.decreases-loop-j
+decreases-loop-j l = length l.w - l.j

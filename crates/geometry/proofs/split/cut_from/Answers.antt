@@ -1,0 +1,31 @@
+-- `cut_from` equals its definition: nothing where t does not lie inside, and else the cut of which what is right is kept.
+-- ---- the places
+use mathlib.Core.Path.{refl, sym, ◌∙◌}
+use mathlib.Core.Logic.{inr}
+use Rattle.math.specs.Revision.{arithmetic}
+use Rattle.geometry.proofs.split.Splits.{whole-count, cut-held, cut-upto, from_kept, from_none}
+use Rattle.geometry.proofs.split.cut_from.Goals as goal
+
+pub returns-then-not-is_inside : goal.returns-then-not-is_inside
+returns-then-not-is_inside c =
+    let g = c.args in from_none (arithmetic g.second) g.s g.work.now g.base g.t (sym c.is_inside.ensures ∙ c.if-not-is_inside.true)
+
+pub insert_to_full_multiplicity-at-requires : goal.insert_to_full_multiplicity-at-requires
+insert_to_full_multiplicity-at-requires c =
+    let q = whole-count c.args.s c.args.work.now c.args.base c.requires.0 c.requires.1 in
+    (c.requires.0, q.0, q.1)
+
+pub copy_right-requires : goal.copy_right-requires
+copy_right-requires c =
+    let g = c.args in
+    let d = sym c.is_inside.ensures ∙ c.if-not-is_inside.false in
+    let i = c.insert_to_full_multiplicity-at.ensures in
+    let h = cut-held (arithmetic g.second) g.s g.work.now g.base g.t c.requires.0 c.requires.1 d _ _ i in
+    record { held = (h, h.inside, cut-upto (arithmetic g.second) g.s g.work.now g.base g.t c.requires.0 c.requires.1 d _ _ i); apart = inr refl }
+
+pub returns : goal.returns
+returns c =
+    let g = c.args in
+    let d = sym c.is_inside.ensures ∙ c.if-not-is_inside.false in
+    let i = c.insert_to_full_multiplicity-at.ensures in
+    from_kept (arithmetic g.second) g.s g.work.now g.base g.t c.requires.0 c.requires.1 d _ _ i _ _ c.copy_right.ensures refl

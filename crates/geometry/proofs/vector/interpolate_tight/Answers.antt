@@ -1,0 +1,32 @@
+-- `interpolate_tight` writes the point between two points. Invariant: its first k intervals are written.
+use mathlib.Core.Path.{◌≡◌, refl, sym, ◌∙◌}
+use Prim.Native.Nat.{◌-◌}
+use Rattle.math.specs.Tight.{tight}
+use Rattle.lists.proofs.Put.{put-nil}
+use Rattle.math.proofs.Laws.{fraction_own, between_own}
+use Rattle.model.specs.Layout.{flat}
+use Rattle.geometry.proofs.vector.Between.{after, turn, done}
+use native.Mathlib.Omega.{arith}
+use Rattle.geometry.proofs.vector.interpolate_tight.Goals as goal
+
+pub loop-k-init : goal.loop-k-init
+unfolding flat
+loop-k-init c = (omega arith, (refl, sym (put-nil c.args.words.now c.args.c)))
+
+pub loop-k-preserved : goal.loop-k-preserved
+loop-k-preserved c =
+    let l = c.loop-k in
+    let g = c.args in
+    let t = c.loop-k-test.true in
+    (omega (arith, t), (c.set_scalar.auto.words ∙ l.invariant.1.0, turn tight g.words.now g.a g.b g.c g.d c.fraction-f.result.alpha c.requires.fact.0 c.requires.fact.1 c.requires.d_in_bounds.2 l.k _ _ _ _ _ (omega (arith, t)) l.invariant.1.1 c.scalar_from-x.ensures c.scalar_from-y.ensures (c.between_tight-z.ensures ∙ between_own tight _ _ _ _ c.fraction-f.ensures) c.set_scalar.ensures))
+
+pub shape_of-words : goal.shape_of-words
+shape_of-words c = c.loop-k.invariant.1.0
+
+pub returns : goal.returns
+returns c =
+    let l = c.loop-k in
+    let g = c.args in
+    let e : l.k ≡ g.d = omega arith in
+    let at = after tight g.words.now g.a g.b g.c g.d in
+    l.invariant.1.1 ∙ (λ i. at (fraction_own tight _ _ c.fraction-f.ensures i) (e i)) ∙ done tight g.words.now g.a g.b g.c g.d g.alpha

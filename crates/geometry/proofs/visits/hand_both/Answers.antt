@@ -1,0 +1,41 @@
+-- `hand_both` equals its definition: the halves are handed on, if there are any and their weights are above zero.
+-- ---- the places
+use Rattle.math.specs.Revision.{arithmetic}
+use Rattle.geometry.proofs.visits.Handed.{both_none, both-held, both-bad_first, both-bad_second, both_done}
+use Rattle.geometry.proofs.visits.hand_both.Goals as goal
+
+pub returns-then-not-split_mid : goal.returns-then-not-split_mid
+returns-then-not-split_mid c =
+    let g = c.args in
+    let halves = c.split_mid in
+    both_none (arithmetic g.second) g.s g.work.now _ g.a g.b g.hat _ _ halves.ensures halves.auto.work c.if-not-split_mid.true
+
+pub weights_positive_in-requires : goal.weights_positive_in-requires
+weights_positive_in-requires c =
+    let g = c.args in
+    let halves = c.split_mid in
+    (both-held (arithmetic g.second) g.s g.work.now _ g.a g.b g.hat _ _ halves.ensures halves.auto.work c.if-not-split_mid.false).0
+
+pub returns-then-not-weights_positive_in : goal.returns-then-not-weights_positive_in
+returns-then-not-weights_positive_in c =
+    let g = c.args in
+    let halves = c.split_mid in
+    both-bad_first (arithmetic g.second) g.s g.work.now _ g.a g.b g.hat _ _ halves.ensures halves.auto.work c.if-not-split_mid.false _ c.weights_positive_in.ensures c.if-not-weights_positive_in.true
+
+pub weights_positive_in-requires-2 : goal.weights_positive_in-requires-2
+weights_positive_in-requires-2 c =
+    let g = c.args in
+    let halves = c.split_mid in
+    (both-held (arithmetic g.second) g.s g.work.now _ g.a g.b g.hat _ _ halves.ensures halves.auto.work c.if-not-split_mid.false).1
+
+pub returns-then-not-weights_positive_in-2 : goal.returns-then-not-weights_positive_in-2
+returns-then-not-weights_positive_in-2 c =
+    let g = c.args in
+    let halves = c.split_mid in
+    both-bad_second (arithmetic g.second) g.s g.work.now _ g.a g.b g.hat _ _ halves.ensures halves.auto.work c.if-not-split_mid.false _ c.weights_positive_in.ensures c.if-not-weights_positive_in.false _ c.weights_positive_in-2.ensures c.if-not-weights_positive_in-2.true
+
+pub returns : goal.returns
+returns c =
+    let g = c.args in
+    let halves = c.split_mid in
+    both_done (arithmetic g.second) g.s g.work.now _ g.a g.b g.hat _ _ halves.ensures halves.auto.work c.if-not-split_mid.false _ c.weights_positive_in.ensures c.if-not-weights_positive_in.false _ c.weights_positive_in-2.ensures c.if-not-weights_positive_in-2.false
