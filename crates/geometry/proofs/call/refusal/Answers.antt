@@ -12,35 +12,12 @@ use Rattle.model.proofs.Checks.{none_left, pass, fail, else_left, else_taken, qu
 use Rattle.geometry.specs.Call.{CallRefused}
 use Rattle.geometry.proofs.call.refusal.Goals as goal
 
--- The call.
-abbrev asked : goal.Start → Call
-asked k = let g = k.args in lent g.rev g.dim g.degree g.count g.knots.now g.points.now g.point-box.now g.resolution g.nodes g.work-len
-
--- Behind the question, the refusal is that of the area.
-past9 : (c : goal.Else-number-ne0) → refusal (asked c) ≡ first_failed (asked c) 10 (area_fits ∷ [])
-unfolding refusal
-past9 c = else_left _ _ (sym c.question_refusal-number.ensures.number ∙ c.if-number-ne0.false)
-
 -- A number that is given is no 0.
 given : (c : Call) (n : ℕ) → (n ≡ 0 → ⊥) → n ≡ refusal c → CallRefused c n
 given c n h e = record { number = e; doubles = λ z. absurd (h z) }
 
-pub returns-then-number-ne0 : goal.returns-then-number-ne0
-unfolding refusal
-returns-then-number-ne0 c =
-    let e = c.question_refusal-number.ensures.number in
-    given (asked c) _ c.if-number-ne0.true (e ∙ sym (else_taken _ _ (λ z. c.if-number-ne0.true (e ∙ z))))
-
 pub stated_words-requires : goal.stated_words-requires
 stated_words-requires c = search rules
-
-pub returns-then-stated_words-work_len : goal.returns-then-stated_words-work_len
-unfolding area_fits
-returns-then-stated_words-work_len c =
-    let words : c.stated_words.result ≡ stated (asked c) =
-    let e = sym c.question_refusal-number.ensures.number ∙ c.if-number-ne0.false in
-    c.stated_words.ensures ∙ stated-words _ _ _ _ (question-sizes _ _ _ _ _ e) (is_true _ (question-passes _ _ _ _ _ e).nodes-few) in
-    given (asked c) 10 (λ z. omega (arith, z)) (sym (past9 c.before.before ∙ fail _ 10 area_fits _ (lt-leb _ _ (subst (λ (w : ℕ). c.args.work_len < w) words c.if-stated_words-work_len.true))))
 
 pub returns : goal.returns
 unfolding area_fits

@@ -5,18 +5,7 @@ use Rattle.model.specs.Call.{Call, lent}
 use Rattle.geometry.proofs.contains.Lent.{refused, answered_by_lem}
 use Rattle.geometry.proofs.contains.curve_could_contain.Goals as goal
 
--- The call.
-abbrev asked : goal.Start → Call
-asked k = let g = k.args in lent g.rev g.dim g.degree g.count g.knots.now g.points.now g.point-box.now g.resolution g.nodes (length g.work.now)
-
-pub returns-then-number-ne0 : goal.returns-then-number-ne0
-returns-then-number-ne0 c = refused (asked c) c.args.work.now _ c.refusal-number.ensures.number c.if-number-ne0.true
-
 pub search_lent-requires : goal.search_lent-requires
 search_lent-requires c =
     let r = c.refusal-number.ensures in
     (sym r.number ∙ c.if-number-ne0.false, r.doubles c.if-number-ne0.false)
-
-pub returns : goal.returns
-returns c =
-    answered_by_lem (asked c) _ _ _ (c.refusal-number.ensures.doubles c.if-number-ne0.false) c.search_lent.ensures

@@ -21,8 +21,3 @@ pub depth_at-requires : goal.depth_at-requires
 depth_at-requires c =
     let a = c.args in
     record { w_nonzero = depth-room a.s _ a.w _ c.requires.waits.1 (base c) a.work.now c.requires.waits.0.held.inside; t = depth-reads a.s _ a.w _ c.requires.waits.1 (base c) a.work.now c.requires.waits.0 (omega (arith, c.requires.head_bound)) }
-
-pub returns : goal.returns
-returns c =
-    let a = c.args in
-    c.depth_at.ensures ∙ ap (count_at a.work.now) (depth_is a.s _ a.w _ c.requires.waits.1 (base c.before))

@@ -31,16 +31,6 @@ asks c =
     let l = c.loop-q in
     ready (arithmetic g.second) g.s g.point_box.now g.resolution g.nodes g.work.now c.requires.begins l.work l.q l.invariant (waits c) (more c)
 
-gives : (c : goal.After-after_visit-q)
-    → let g = c.args in
-    let v = c.visit_next-o in
-    Comes (seeing g.second g.s g.point_box.now g.resolution g.nodes) g.nodes g.s g.work.now v.new.work v.result c.after_visit-q.result
-gives c =
-    let g = c.args in
-    let l = c.loop-q in
-    comes (arithmetic g.second) g.s g.point_box.now g.resolution g.nodes g.work.now c.requires.begins l.work l.q l.invariant (waits c.before.before.before.before.before.before) (more c.before.before.before.before.before.before)
-    _ _ _ _ c.visit_next-o.auto.work c.next_depth-d.ensures c.visit_next-o.ensures c.after_visit-q.ensures
-
 -- ---- before the loop
 pub slot_words-w-requires : goal.slot_words-w-requires
 slot_words-w-requires c = let z = c.requires.begins.ring.sized in (z.dim, (z.degree, z.count))
@@ -69,33 +59,12 @@ returns-then-v-nodes c =
 pub next_depth-d-requires : goal.next_depth-d-requires
 next_depth-d-requires c = let a = asks c in record { waits = (a.waits, c.slot_words-w.ensures); head_bound = a.deep }
 
-pub visit_next-o-requires : goal.visit_next-o-requires
-visit_next-o-requires c =
-    let a = asks c.before.before in record { ring = (c.loop-q.invariant.ring, waits c.before.before, a.room); slots_bound = (omega (arith, c.requires.begins.few), c.slot_words-w.ensures, omega (arith, c.next_depth-d.ensures, a.deep)); fit = (a.fit, c.requires.dim_in_bounds) }
-
-pub after_visit-q-requires : goal.after_visit-q-requires
-after_visit-q-requires c =
-    let a = asks c.before.before.before.before.before in
-    let i = c.loop-q.invariant in record { head_lt_slots = (i.ring.start, waits c.before.before.before.before.before, omega (arith, a.room), omega (arith, c.requires.begins.few)); visited_bound = (omega (arith, i.within, c.requires.begins.few), omega (arith, a.cuts), cuts-few (arithmetic c.args.second) _ c.args.s _ _ _ _ _ _ _ c.visit_next-o.ensures) }
-
 pub has_bad_weight-requires : goal.has_bad_weight-requires
 has_bad_weight-requires c = tt
 
 pub shape_of-work-then-has_bad_weight : goal.shape_of-work-then-has_bad_weight
 shape_of-work-then-has_bad_weight c =
     c.visit_next-o.auto.work ∙ c.loop-q.invariant.long
-
-pub returns-then-has_bad_weight : goal.returns-then-has_bad_weight
-returns-then-has_bad_weight c =
-    let r = gives c.before.before.before in
-    record { found = r.bad (sym c.has_bad_weight.ensures ∙ c.if-has_bad_weight.true); rest = r.rest }
-
-pub loop-q-smaller : goal.loop-q-smaller
-loop-q-smaller c =
-    omega (arith, ap (λ (v : Counts). v.visited) c.after_visit-q.ensures.counts, more c.before.before.before.before.before.before.before.before)
-
-pub loop-q-preserved : goal.loop-q-preserved
-loop-q-preserved c = (gives c.before.before).on (sym c.has_bad_weight.ensures ∙ c.if-has_bad_weight.false)
 
 pub shape_of-work : goal.shape_of-work
 shape_of-work c = c.loop-q.invariant.long

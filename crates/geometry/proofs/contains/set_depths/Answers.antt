@@ -22,13 +22,3 @@ set_depth-requires-in-Halved-2 c =
     let a = c.args in
     let room = depth-room a.s a.b a.w a.b c.requires.2 refl a.work.now c.requires.1 in
     (room.0, omega (arith, room.1, c.set_depth-in-Halved.auto.work), omega (arith, c.requires.3))
-
-pub returns-in-Restricted : goal.returns-in-Restricted
-returns-in-Restricted c =
-    let a = c.args in
-    set_one a.s a.w a.a a.b a.d c.requires.2 a.o a.work.now _ _ c.enum_told-in-Restricted-1.given.1 c.set_depth.ensures
-
-pub returns-in-Halved : goal.returns-in-Halved
-returns-in-Halved c =
-    let a = c.args in
-    set_two a.s a.w a.a a.b a.d c.requires.2 a.o a.work.now _ _ c.enum_told-in-Halved-1.given.1 c.set_depth-in-Halved.ensures c.set_depth-in-Halved-2.ensures

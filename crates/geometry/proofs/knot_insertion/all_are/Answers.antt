@@ -10,18 +10,6 @@ use Rattle.geometry.proofs.knot_insertion.all_are.Goals as goal
 pub loop-i-init : goal.loop-i-init
 loop-i-init c = (omega arith, refl)
 
-pub returns-then-not-knots-i : goal.returns-then-not-knots-i
-returns-then-not-knots-i c =
-    let l = c.loop-i in
-    let g = c.args in
-    all_off g.knots.now g.v l.i (omega arith) c.if-not-knots-i.true ∙ l.invariant.1
-
-pub loop-i-preserved : goal.loop-i-preserved
-loop-i-preserved c =
-    let l = c.loop-i in
-    let g = c.args in
-    (omega arith, all_on g.knots.now g.v l.i (omega arith) c.if-not-knots-i.false ∙ l.invariant.1)
-
 pub returns : goal.returns
 returns c =
     let l = c.loop-i in

@@ -16,10 +16,6 @@ use Rattle.geometry.proofs.knot_insertion.Triangle.{between-fits, between_done}
 use native.Mathlib.Omega.{arith}
 use Rattle.geometry.proofs.knot_insertion.between_point.Goals as goal
 
--- the words with the point between, by an arithmetic
-abbrev written : goal.After-place_of-b → Arithmetic → List Float
-written c ar = let g = (start c).args in put g.work.now (place_of g.s g.base (suc g.j)) (flat (between_at ar g.s g.work.now g.base g.alpha g.j))
-
 pub interpolate_tight-requires : goal.interpolate_tight-requires
 interpolate_tight-requires c =
     let fits : let g = c.args in (c.place_of-a.result + 2 * (g.s.dim + 1) ≤ c.place_of-b.result) × (c.place_of-b.result + 2 * (g.s.dim + 1) ≤ length g.work.now) =
@@ -28,12 +24,6 @@ interpolate_tight-requires c =
     let f = fits in
     record { d_in_bounds = (omega (arith, f.0, f.1), omega (arith, f.0, f.1), omega (arith, f.0, f.1)); fact = (clear_of _ _ _ (λ h. omega (arith, h, f.0)), clear_of _ _ _ (λ h. omega (arith, h, f.0))) }
 
-pub returns-then-second : goal.returns-then-second
-returns-then-second c =
-    let g = c.args in
-    between_done g.s g.work.now g.base g.j g.alpha c.requires.0 c.requires.1 _ _ c.place_of-a.ensures c.place_of-b.ensures tight _ c.interpolate_tight.ensures
-    ∙ sym (ap (written c) (second_is _ c.if-second.true))
-
 pub interpolate_wide-requires : goal.interpolate_wide-requires
 interpolate_wide-requires c =
     let fits : let g = c.args in (c.place_of-a.result + 2 * (g.s.dim + 1) ≤ c.place_of-b.result) × (c.place_of-b.result + 2 * (g.s.dim + 1) ≤ length g.work.now) =
@@ -41,9 +31,3 @@ interpolate_wide-requires c =
     between-fits g.s g.work.now g.base g.j g.alpha c.requires.0 c.requires.1 _ _ c.place_of-a.ensures c.place_of-b.ensures in
     let f = fits in
     record { d_in_bounds = (omega (arith, f.0, f.1), omega (arith, f.0, f.1), omega (arith, f.0, f.1)); fact = (clear_of _ _ _ (λ h. omega (arith, h, f.0)), clear_of _ _ _ (λ h. omega (arith, h, f.0))) }
-
-pub returns : goal.returns
-returns c =
-    let g = c.args in
-    between_done g.s g.work.now g.base g.j g.alpha c.requires.0 c.requires.1 _ _ c.place_of-a.ensures c.place_of-b.ensures geop _ c.interpolate_wide.ensures
-    ∙ sym (ap (written c) (first_is _ c.if-second.false))

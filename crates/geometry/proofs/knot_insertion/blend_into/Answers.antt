@@ -16,13 +16,6 @@ use Rattle.geometry.proofs.knot_insertion.Insert.{blend_zero, blend_one, blend-m
 use native.Mathlib.Omega.{arith}
 use Rattle.geometry.proofs.knot_insertion.blend_into.Goals as goal
 
-abbrev from-passed2 : goal.Else-is_same-2 → goal.Start
-from-passed2 c = c
-
--- the words with the point between, by an arithmetic
-abbrev between : goal.Start → Arithmetic → List Float
-between k ar = let g = k.args in let old = g.work.now in put old g.b (flat (interpolate_v ar (vector_at g.d old g.a) (vector_at g.d old g.b) g.alpha))
-
 pub copy-requires : goal.copy-requires
 copy-requires c = record { w_in_bounds = (omega arith, omega arith); fact = inl (omega arith) }
 
@@ -41,23 +34,5 @@ returns-then-is_same-2 c =
 pub interpolate_tight-requires : goal.interpolate_tight-requires
 interpolate_tight-requires c = record { d_in_bounds = (omega arith, omega arith, omega arith); fact = (inl (omega arith), inr (omega arith)) }
 
-pub returns-then-second : goal.returns-then-second
-unfolding of_bits
-returns-then-second c =
-    let mid : let k = from-passed2 c in let g = k.args in between k (arithmetic g.second) ≡ put g.work.now g.b (flat (blend (arithmetic g.second) g.alpha (vector_at g.d g.work.now g.a) (vector_at g.d g.work.now g.b))) =
-    let g = (from-passed2 c).args in
-    blend-mid (arithmetic g.second) g.work.now g.a g.b g.d g.alpha (sym c.is_same.ensures ∙ c.if-is_same.false) (sym c.is_same-2.ensures ∙ c.if-is_same-2.false) in
-    let k = from-passed2 c.before.before.before.before.before in
-    c.interpolate_tight.ensures ∙ sym (ap (between k) (second_is k.args.second c.if-second.true)) ∙ mid
-
 pub interpolate_wide-requires : goal.interpolate_wide-requires
 interpolate_wide-requires c = record { d_in_bounds = (omega arith, omega arith, omega arith); fact = (inl (omega arith), inr (omega arith)) }
-
-pub returns : goal.returns
-unfolding of_bits
-returns c =
-    let mid : let k = from-passed2 c in let g = k.args in between k (arithmetic g.second) ≡ put g.work.now g.b (flat (blend (arithmetic g.second) g.alpha (vector_at g.d g.work.now g.a) (vector_at g.d g.work.now g.b))) =
-    let g = (from-passed2 c).args in
-    blend-mid (arithmetic g.second) g.work.now g.a g.b g.d g.alpha (sym c.is_same.ensures ∙ c.if-is_same.false) (sym c.is_same-2.ensures ∙ c.if-is_same-2.false) in
-    let k = from-passed2 c.before.before.before.before.before in
-    c.interpolate_wide.ensures ∙ sym (ap (between k) (first_is k.args.second c.if-second.false)) ∙ mid

@@ -10,11 +10,3 @@ returns-then-count-m c = let g = c.args in bezier_few g.degree g.count g.knots.n
 
 pub slice_bounds-all_are-end : goal.slice_bounds-all_are-end
 slice_bounds-all_are-end c = simp length-take (omega arith)
-
-pub returns-then-not-all_are : goal.returns-then-not-all_are
-returns-then-not-all_are c =
-    let g = c.args in bezier_not g.degree g.count g.knots.now (omega arith) _ c.all_are.ensures c.if-not-all_are.true
-
-pub returns : goal.returns
-returns c =
-    let g = c.args in bezier_last g.degree g.count g.knots.now (omega arith) _ _ c.all_are.ensures c.if-not-all_are.false c.all_are-2.ensures

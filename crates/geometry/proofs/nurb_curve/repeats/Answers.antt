@@ -13,8 +13,3 @@ returns-then-a-b-2 c =
       repeats-yes a.a a.b _ _ c.if-a-b.true c.if-a-b-2.true c.positive.ensures,
       λ e. repeats_one a.a a.b A.0 A.1.0 B.0 B.1.0 c.if-a-b.true c.if-a-b-2.true (sym c.positive.ensures ∙ e),
     )
-
-pub returns : goal.returns
-returns c =
-    let a = c.args in
-    (⊎_elim (λ w. repeats_second a.a a.b _ w.0.true w.3.left) (λ w. repeats_first a.a a.b _ w.left) c.if-a-b.branch, λ e. absurd (false≢true e))

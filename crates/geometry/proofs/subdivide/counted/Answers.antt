@@ -6,8 +6,3 @@ use Rattle.geometry.proofs.subdivide.counted.Goals as goal
 
 pub overflow_add-cuts : goal.overflow_add-cuts
 overflow_add-cuts c = omega (arith, c.cuts_of.ensures)
-
-pub returns : goal.returns
-returns c =
-    let v = c.args.v in
-    λ i. record { visited = add-one v.visited i; c = v.cuts + c.cuts_of.ensures i; depth = c.deeper-depth.ensures i }
