@@ -49,7 +49,7 @@ module _ {M : Type 1} {𝓤 : Ura M} {𝓛 : Logic 𝓤} {K : Type 0} {Γ : List
   behind : K → {m lp b o : ℕ} {τ : Ty} → spot_of 𝓤 H E m ≡ (ty_ptr, lp, zero) → Reads K 𝓛 Γ ty_ptr lp zero (vptr b o) → Finds K 𝓛 Γ E (place m (deref τ ∷ [])) (τ, b, o)
   behind t {b = b} {o = o} {τ = τ} e r = from t (subst (λ (sp : Spot 𝓤 H). Walks K 𝓛 Γ E sp (deref τ ∷ []) (τ, b, o)) (sym e) (hop t r (stop t)))
 
-module _ {M : Type 1} {𝓤 : Ura M} {𝓛 : Logic 𝓤} {K : Type 0} {Γ : List (Item 𝓤)} {E : Env 𝓤 𝓛.H} {C : Calls 𝓤 𝓛.H} {Λ : Loops 𝓤 𝓛.H} {q : Post 𝓤 𝓛.H} {κ : Lft} {s : Share} {rest : Body} where
+module _ {M : Type 1} {𝓤 : Ura M} {𝓛 : Logic 𝓤} {K : Type 0} {Γ : List (Item 𝓤)} {E : Env 𝓤 𝓛.H} {C : Calls 𝓤 𝓛.H} {Λ : Loops 𝓤 𝓛.H} {q : Post 𝓤 𝓛.H} {κ : Lft} {s : PosShare} {rest : Body} where
   -- Local m points to element i, and there is room for an interval in local n. The two stand in the context at p and c, behind what is had of the slice.
   open 𝓛 use {H}
 

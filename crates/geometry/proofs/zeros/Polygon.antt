@@ -101,10 +101,10 @@ module _ (rev : ℕ) (ξ d : List Scalar) where
       sym (zip_with-tab f (length d) (λ j. get_or ξ j absent) (λ j. get_or d j absent))
       ∙ (λ k. zip_with f ((ap (λ (n : ℕ). tab n (λ j. get_or ξ j absent)) (sym h) ∙ tab-whole ξ absent) k) (tab-whole d absent k))
 
-  zeros_by : length ξ ≡ length d → (q : Divided) → zeros_of ar x₀ y₀ (last_d d absent) (unions (tab (length d) (λ j. off_by ar q x₀ y₀ (get_or ξ j absent) (get_or d j absent)))) q ≡ zeros_by ar ξ d x₀ y₀ q
+  zeros_by_lem : length ξ ≡ length d → (q : Divided) → zeros_of ar x₀ y₀ (last_d d absent) (unions (tab (length d) (λ j. off_by ar q x₀ y₀ (get_or ξ j absent) (get_or d j absent)))) q ≡ zeros_by ar ξ d x₀ y₀ q
   unfolding zeros_of zeros_by off_by
-  zeros_by h Failed = ap (λ (l : List Scalar). level_zeros (unions l)) (tab-whole d absent)
-  zeros_by h (Value s) =
+  zeros_by_lem h Failed = ap (λ (l : List Scalar). level_zeros (unions l)) (tab-whole d absent)
+  zeros_by_lem h (Value s) =
       ap (λ (l : List Scalar). sloped_zeros ar s x₀ y₀ (last_d d absent) (unions l))
       (zip-off h (λ x y. offset ar s x₀ y₀ x y))
 
@@ -113,4 +113,4 @@ module _ (rev : ℕ) (ξ d : List Scalar) where
   line_done i l r h n e g =
       g
       ∙ ap (λ (k : Line). zeros_of (arithmetic k.second) k.x0 k.y0 k.last k.band k.slope) (e ∙ ap (λ (m : ℕ). line_of m) n)
-      ∙ zeros_by h slope
+      ∙ zeros_by_lem h slope

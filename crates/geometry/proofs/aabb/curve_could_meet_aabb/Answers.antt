@@ -23,3 +23,11 @@ returns-then-count-eq2 c =
     let a = c.args in
     door_segment (arithmetic a.second) a.dim a.degree a.count a.points.now _ _ c.aabb_could_overlap.ensures c.if-not-aabb_could_overlap.false
     _ (omega arith) (omega (arith, eqb-true)) c.meets.ensures
+
+pub returns : goal.returns
+returns c =
+    let a = c.args in
+    ⊎_elim
+    (λ w. door_count (arithmetic a.second) a.dim a.degree a.count a.points.now _ _ c.aabb_could_overlap.ensures c.if-not-aabb_could_overlap.false w.0.true w.1.left)
+    (λ w. door_degree (arithmetic a.second) a.dim a.degree a.count a.points.now _ _ c.aabb_could_overlap.ensures c.if-not-aabb_could_overlap.false w.left)
+    c.if-degree-eq1.branch

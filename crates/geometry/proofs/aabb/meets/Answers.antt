@@ -18,6 +18,26 @@ loop-k-init c =
     let a = c.args in
     (omega arith, ap (λ (r : Scalar). meets (arithmetic a.second) a.dim (point_at (suc a.dim) a.points.now 0) (point_at (suc a.dim) a.points.now 1) r 0 (scalars_of a.dim a.point_box.now)) c.union-range.ensures)
 
+pub returns-then-not-could_be_equal : goal.returns-then-not-could_be_equal
+returns-then-not-could_be_equal c =
+    let a = c.args in
+    segment_stop (arithmetic a.second) a.dim (point_at (suc a.dim) a.points.now 0) (point_at (suc a.dim) a.points.now 1) a.point_box.now c.loop-k.range c.loop-k.k _ c.loop-k.invariant.1 (omega arith)
+    _ _ _ c.scalar_at.ensures c.place-a.ensures c.place-b.ensures _ c.along-part.ensures _ c.in-Over.is _ c.could_be_equal.ensures c.if-not-could_be_equal.true
+
+pub loop-k-preserved : goal.loop-k-preserved
+loop-k-preserved c =
+    let a = c.args in (
+      omega arith,
+      ⊎_elim
+          (λ w.
+          segment_narrow (arithmetic a.second) a.dim (point_at (suc a.dim) a.points.now 0) (point_at (suc a.dim) a.points.now 1) a.point_box.now c.loop-k.range c.loop-k.k _ c.loop-k.invariant.1 (omega arith)
+          _ _ _ c.scalar_at.ensures c.place-a.ensures c.place-b.ensures _ c.along-part.ensures _ w.1.given.1 _ w.3.ensures _ _ (not-false _ w.4.left) w.5.ensures w.6)
+          (λ w.
+          segment_skip (arithmetic a.second) a.dim (point_at (suc a.dim) a.points.now 0) (point_at (suc a.dim) a.points.now 1) a.point_box.now c.loop-k.range c.loop-k.k _ c.loop-k.invariant.1 (omega arith)
+          _ _ _ c.scalar_at.ensures c.place-a.ensures c.place-b.ensures _ c.along-part.ensures _ w.1.given.1 w.2)
+          c.in-Over.branch,
+    )
+
 pub returns : goal.returns
 returns c =
     let a = c.args in

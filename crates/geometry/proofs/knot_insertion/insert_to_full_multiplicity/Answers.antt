@@ -16,3 +16,18 @@ split_bezier_span-requires c =
     let g = c.args in
     let one = sym c.is_bezier_in.ensures ∙ c.if-not-is_bezier_in.false in
     (c.requires.0, single-held g.s g.work.now g.base g.t c.requires.0 one, omega (arith, c.requires.1, c.requires.2))
+
+pub returns-in-Value : goal.returns-in-Value
+returns-in-Value c =
+    let g = c.args in
+    let one = sym c.is_bezier_in.ensures ∙ c.if-not-is_bezier_in.false in
+    full_from (arithmetic g.second) g.s g.work.now _ g.base _ g.t _
+    (full_bezier g.s.degree g.t _ (arithmetic g.second) _ one (sym c.along_in-along.ensures ∙ c.in-Value.is))
+    (bezier_cut_lem (arithmetic g.second) g.s g.work.now _ g.base g.t _ c.requires.0 (single-held g.s g.work.now g.base g.t c.requires.0 one) (omega (arith, c.requires.1, c.requires.2)) c.split_bezier_span.ensures)
+
+pub returns-in-Failed : goal.returns-in-Failed
+returns-in-Failed c =
+    let g = c.args in
+    full_from (arithmetic g.second) g.s g.work.now _ g.base _ g.t _
+    (full_failed g.s.degree g.t _ (arithmetic g.second) (sym c.is_bezier_in.ensures ∙ c.if-not-is_bezier_in.false) (sym c.along_in-along.ensures ∙ c.in-Failed.is))
+    c.boehm_cut-in-Failed.ensures
