@@ -1,5 +1,5 @@
 -- `curve_could_meet_aabb` equals its definition: the overlap of the boxes, and where the curve is a straight segment what `meets` says.
-use mathlib.Core.Logic.{⊎_elim}
+use borrow.Author.Tests.{ne_eqb}
 use native.Mathlib.Omega.{arith}
 use lib.ListN.{length}
 use borrow.Author.Tests.{eqb-true}
@@ -7,6 +7,7 @@ use Rattle.math.specs.Revision.{arithmetic}
 use Rattle.geometry.proofs.nurb_curve.Points.{point_in}
 use Rattle.geometry.proofs.aabb.Box.{door_miss, door_degree, door_count, door_segment}
 use Rattle.geometry.proofs.aabb.curve_could_meet_aabb.Goals as goal
+use Rattle.geometry.proofs.aabb.curve_could_meet_aabb.Goals.{else-degree-eq1-via-then-degree-eq1+else-count-eq2, else-degree-eq1-via-else-degree-eq1}
 
 pub returns-then-not-aabb_could_overlap : goal.returns-then-not-aabb_could_overlap
 returns-then-not-aabb_could_overlap c =
@@ -27,7 +28,9 @@ returns-then-count-eq2 c =
 pub returns : goal.returns
 returns c =
     let a = c.args in
-    ⊎_elim
-    (λ w. door_count (arithmetic a.second) a.dim a.degree a.count a.points.now _ _ c.aabb_could_overlap.ensures c.if-not-aabb_could_overlap.false w.0.true w.1.left)
-    (λ w. door_degree (arithmetic a.second) a.dim a.degree a.count a.points.now _ _ c.aabb_could_overlap.ensures c.if-not-aabb_could_overlap.false w.left)
-    c.if-degree-eq1.branch
+    elim c.else-degree-eq1.branch [
+      | else-degree-eq1-via-then-degree-eq1+else-count-eq2 w ↦
+          door_count (arithmetic a.second) a.dim a.degree a.count a.points.now _ _ c.aabb_could_overlap.ensures c.if-not-aabb_could_overlap.false w.if-degree-eq1.true (ne_eqb _ _ w.if-count-eq2.false)
+      | else-degree-eq1-via-else-degree-eq1 w ↦
+          door_degree (arithmetic a.second) a.dim a.degree a.count a.points.now _ _ c.aabb_could_overlap.ensures c.if-not-aabb_could_overlap.false w.if-degree-eq1.false
+    ]

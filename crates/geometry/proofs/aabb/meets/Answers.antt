@@ -1,16 +1,15 @@
 -- `meets` equals its definition. The invariant: what is left of the walk, from the range that is left, gives what the whole walk gives.
 use mathlib.Core.Path.{ap}
-use mathlib.Core.Logic.{⊎_elim}
 use Prim.Native.Nat.{suc, ◌-◌}
 use native.Mathlib.Omega.{arith}
 use lib.Ieee.{of_bits}
-use borrow.Author.Tests.{not-false}
 use Rattle.math.specs.Revision.{arithmetic}
 use Rattle.math.specs.declared.scalars.Scalar.{Scalar}
 use Rattle.model.specs.Layout.{scalars_of, point_at}
 use Rattle.model.specs.Aabb.{meets}
 use Rattle.geometry.proofs.aabb.Box.{segment_skip, segment_narrow, segment_stop, segment_end}
 use Rattle.geometry.proofs.aabb.meets.Goals as goal
+use Rattle.geometry.proofs.aabb.meets.Goals.{in-Over+else-not-could_be_equal, in_default}
 
 pub loop-k-init : goal.loop-k-init
 unfolding of_bits
@@ -28,14 +27,14 @@ pub loop-k-preserved : goal.loop-k-preserved
 loop-k-preserved c =
     let a = c.args in (
       omega arith,
-      ⊎_elim
-          (λ w.
-          segment_narrow (arithmetic a.second) a.dim (point_at (suc a.dim) a.points.now 0) (point_at (suc a.dim) a.points.now 1) a.point_box.now c.loop-k.range c.loop-k.k _ c.loop-k.invariant.1 (omega arith)
-          _ _ _ c.scalar_at.ensures c.place-a.ensures c.place-b.ensures _ c.along-part.ensures _ w.1.given.1 _ w.3.ensures _ _ (not-false _ w.4.left) w.5.ensures w.6)
-          (λ w.
-          segment_skip (arithmetic a.second) a.dim (point_at (suc a.dim) a.points.now 0) (point_at (suc a.dim) a.points.now 1) a.point_box.now c.loop-k.range c.loop-k.k _ c.loop-k.invariant.1 (omega arith)
-          _ _ _ c.scalar_at.ensures c.place-a.ensures c.place-b.ensures _ c.along-part.ensures _ w.1.given.1 w.2)
-          c.in-Over.branch,
+      elim c.match-part.branch [
+        | in-Over+else-not-could_be_equal w ↦
+            segment_narrow (arithmetic a.second) a.dim (point_at (suc a.dim) a.points.now 0) (point_at (suc a.dim) a.points.now 1) a.point_box.now c.loop-k.range c.loop-k.k _ c.loop-k.invariant.1 (omega arith)
+            _ _ _ c.scalar_at.ensures c.place-a.ensures c.place-b.ensures _ c.along-part.ensures _ w.in-Over.is _ w.could_be_equal.ensures _ _ w.if-not-could_be_equal.false w.intersect-range.ensures w.range-is
+        | in_default w ↦
+            segment_skip (arithmetic a.second) a.dim (point_at (suc a.dim) a.points.now 0) (point_at (suc a.dim) a.points.now 1) a.point_box.now c.loop-k.range c.loop-k.k _ c.loop-k.invariant.1 (omega arith)
+            _ _ _ c.scalar_at.ensures c.place-a.ensures c.place-b.ensures _ c.along-part.ensures _ w.in_default.is w.range-is
+      ],
     )
 
 pub returns : goal.returns

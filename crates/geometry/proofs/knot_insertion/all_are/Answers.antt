@@ -1,5 +1,6 @@
 -- `all_are` equals its definition. Invariant: the answer is that of the knots from i on.
-use mathlib.Core.Path.{refl, sym, ◌∙◌}
+use mathlib.Core.Path.{refl, sym, ap, ◌∙◌}
+use mathlib.Core.Bool.{not}
 use Prim.Native.Nat.{◌-◌}
 use lib.Ieee.{eq}
 use Rattle.lists.proofs.Fold.{all_done}
@@ -9,6 +10,18 @@ use Rattle.geometry.proofs.knot_insertion.all_are.Goals as goal
 
 pub loop-i-init : goal.loop-i-init
 loop-i-init c = (omega arith, refl)
+
+pub returns-then-not-knots-i : goal.returns-then-not-knots-i
+returns-then-not-knots-i c =
+    let l = c.loop-i in
+    let g = c.args in
+    all_off g.knots.now g.v l.i (omega arith) (ap not c.if-not-knots-i.true) ∙ l.invariant.1
+
+pub loop-i-preserved : goal.loop-i-preserved
+loop-i-preserved c =
+    let l = c.loop-i in
+    let g = c.args in
+    (omega arith, all_on g.knots.now g.v l.i (omega arith) (ap not c.if-not-knots-i.false) ∙ l.invariant.1)
 
 pub returns : goal.returns
 returns c =

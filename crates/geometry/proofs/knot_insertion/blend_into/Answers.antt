@@ -1,5 +1,4 @@
 -- `blend_into` equals its definition: a copy where alpha is 0, nothing where it is 1, and else the point between, in either revision.
--- ---- the places
 use mathlib.Core.Path.{◌≡◌, sym, ap, ◌∙◌}
 use mathlib.Core.List.{List}
 use mathlib.Core.Logic.{inl, inr}
@@ -9,6 +8,8 @@ use Rattle.math.specs.Scalars.{Arithmetic}
 use Rattle.math.specs.Revision.{arithmetic}
 use Rattle.math.proofs.Laws.{second_is, first_is}
 use Rattle.model.specs.Vector.{interpolate_v}
+use Rattle.math.specs.declared.scalars.Scalar.{Scalar}
+use Prim.Native.Nat.{ℕ}
 use Rattle.model.specs.Layout.{flat}
 use Rattle.model.specs.KnotInsertion.{blend}
 use Rattle.geometry.specs.Slots.{vector_at}
@@ -36,3 +37,21 @@ interpolate_tight-requires c = record { d_in_bounds = (omega arith, omega arith,
 
 pub interpolate_wide-requires : goal.interpolate_wide-requires
 interpolate_wide-requires c = record { d_in_bounds = (omega arith, omega arith, omega arith); fact = (inl (omega arith), inr (omega arith)) }
+
+-- the words with the point between, by an arithmetic
+abbrev between : List Float → ℕ → ℕ → ℕ → Scalar → Arithmetic → List Float
+between old a b d alpha ar = put old b (flat (interpolate_v ar (vector_at d old a) (vector_at d old b) alpha))
+
+pub returns-then-second : goal.returns-then-second
+unfolding of_bits
+returns-then-second c =
+    let g = c.args in
+    c.interpolate_tight.ensures ∙ sym (ap (between g.work.now g.a g.b g.d g.alpha) (second_is g.second c.if-second.true))
+    ∙ blend-mid (arithmetic g.second) g.work.now g.a g.b g.d g.alpha (sym c.is_same.ensures ∙ c.if-is_same.false) (sym c.is_same-2.ensures ∙ c.if-is_same-2.false)
+
+pub returns : goal.returns
+unfolding of_bits
+returns c =
+    let g = c.args in
+    c.interpolate_wide.ensures ∙ sym (ap (between g.work.now g.a g.b g.d g.alpha) (first_is g.second c.if-second.false))
+    ∙ blend-mid (arithmetic g.second) g.work.now g.a g.b g.d g.alpha (sym c.is_same.ensures ∙ c.if-is_same.false) (sym c.is_same-2.ensures ∙ c.if-is_same-2.false)

@@ -18,8 +18,8 @@ loop-k-init c =
     let a = c.args in
     let n = length-replicate 64 (of_bits binary64 0) in
     let p = c.requires in
-    let kept = from_first_kept (arithmetic a.second) a.xi.now _ _ a.count p.0.0 (omega (arith, n, p.0.1)) c.from_First.ensures in
-    let held = from_first_held (arithmetic a.second) a.xi.now _ _ a.count p.0.0 c.from_First.ensures in
+    let kept = from_first_kept (arithmetic a.second) a.xi.now _ _ a.count p.0.0 (omega (arith, n, p.0.1)) c.from_first.ensures in
+    let held = from_first_held (arithmetic a.second) a.xi.now _ _ a.count p.0.0 c.from_first.ensures in
     (omega arith, n, kept ∙ n, held, ap (λ hat. left (arithmetic a.second) a.dim (points_of (suc a.dim) a.count a.points.now) (scalars_of a.count a.xi.now) a.point_box.now hat 0) (c.union-hat.ensures ∙ (λ i. union_s (c.from_f64.ensures i) (c.from_f64-2.ensures i))))
 
 pub clip_axis-requires : goal.clip_axis-requires

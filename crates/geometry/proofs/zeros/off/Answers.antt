@@ -17,5 +17,5 @@ unfolding off_by
 returns c =
     let a = c.args in
     c.sub-2.ensures
-    ∙ ap (λ (v : Scalar). (arithmetic a.second).sub a.y v) (c.chord.ensures ∙ ap (chord_at (arithmetic a.second) c.slope-1.given.0.0 a.y0) c.sub.ensures)
+    ∙ ap (λ (v : Scalar). (arithmetic a.second).sub a.y v) (c.chord.ensures ∙ ap (chord_at (arithmetic a.second) c.in-Value.s a.y0) c.sub.ensures)
     ∙ sym (ap (λ (q : Divided). off_by (arithmetic a.second) q a.x0 a.y0 a.x a.y) c.in-Value.is)
