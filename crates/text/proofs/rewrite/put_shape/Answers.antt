@@ -1,0 +1,73 @@
+-- `put_shape` writes the line of the knots, the lines of the points and that of the box, one behind the other.
+-- ---- the places
+use mathlib.Core.Path.{◌≡◌, sym, subst}
+use mathlib.Core.Bool.{true}
+use mathlib.Core.List.{◌++◌}
+use Prim.Native.Nat.{ℕ, suc, ◌+◌, ◌*◌, ◌≤◌}
+use native.Mathlib.Nat.{mul-le-mul}
+use native.Mathlib.Omega.{arith}
+use Rattle.lists.specs.Lists.{part, all}
+use Rattle.text.specs.Bytes.{bytes}
+use Rattle.text.specs.Printable.{Written, is_number}
+use Rattle.text.specs.Form.{line_text, lines_text, shape_text}
+use Rattle.text.proofs.question.Others.{few_numbers}
+use Rattle.text.proofs.print.Writing.{joined}
+use Rattle.text.proofs.rewrite.put_shape.Goals as goal
+
+-- ---- the sizes
+
+-- The points have few doubles, and their lines few bytes.
+few : (c : goal.Start) → 2 * (c.args.dim + 1) * c.args.count ≤ 256
+few c = few_numbers (2 * (c.args.dim + 1)) c.args.count (omega arith) (omega arith)
+
+pub put_points-j-requires : goal.put_points-j-requires
+put_points-j-requires c =
+    let short : (6 + 17 * (2 * (c.args.dim + 1))) * c.args.count ≤ 4544 =
+    let h : 6 + 17 * (2 * (c.args.dim + 1)) ≤ 142 = omega arith in
+    let k : c.args.count ≤ 32 = omega arith in
+    mul-le-mul h k in
+    let point : 2 * (c.args.dim + 1) ≡ 2 * suc c.args.dim = omega arith in
+    let a = c.args in record {
+      k_in_bounds = (omega (arith, short, c.put_line-i.ensures.1), omega (arith, few c));
+      k_value = subst (λ (w : ℕ). all is_number (part a.lines.now (1 + (a.count + a.degree + 1)) (w * a.count)) ≡ true) (sym point)
+          c.requires.all_numbers.points;
+    }
+
+pub put_line-requires : goal.put_line-requires
+put_line-requires c =
+    let short : (6 + 17 * (2 * (c.args.dim + 1))) * c.args.count ≤ 4544 =
+    let h : 6 + 17 * (2 * (c.args.dim + 1)) ≤ 142 = omega arith in
+    let k : c.args.count ≤ 32 = omega arith in
+    mul-le-mul h k in
+    let point : 2 * (c.args.dim + 1) ≡ 2 * suc c.args.dim = omega arith in
+    let a = c.args in record {
+      n_in_bounds = (omega (arith, short, c.put_line-i.ensures.1, c.put_points-j.ensures.1), omega (arith, few c));
+      n_value = subst (λ (w : ℕ). all is_number (part a.lines.now (1 + (a.count + a.degree + 1) + w * a.count) (2 * a.dim)) ≡ true)
+          (sym point) c.requires.all_numbers.box;
+    }
+
+pub returns : goal.returns
+unfolding shape_text bytes
+returns c =
+    let short : (6 + 17 * (2 * (c.args.dim + 1))) * c.args.count ≤ 4544 =
+    let h : 6 + 17 * (2 * (c.args.dim + 1)) ≤ 142 = omega arith in
+    let k : c.args.count ≤ 32 = omega arith in
+    mul-le-mul h k in
+    let point : 2 * (c.args.dim + 1) ≡ 2 * suc c.args.dim = omega arith in
+    let a = c.args in
+    let l = a.lines.now in
+    let K : ℕ = a.count + a.degree + 1 in
+    let x = c.put_line-i.ensures in
+    let y = c.put_points-j.ensures in
+    let z = c.put_line.ensures in
+    let h : c.put_line.result ≤ a.at + 5336 = omega (arith, short, x.1, y.1, z.1) in (
+      subst
+          (λ (w : ℕ). Written a.out.now a.at
+          (line_text (bytes "knots=") (part l 1 K)
+          ++ lines_text (bytes "point=") w a.count (part l (1 + K) (w * a.count))
+          ++ line_text (bytes "box=") (part l (1 + K + w * a.count) (2 * a.dim)))
+          c.put_line.new.out c.put_line.result)
+          point
+          (joined (omega (arith, h, y.1, z.1)) (joined (omega (arith, h, x.1, y.1, z.1)) x.0 y.0) z.0),
+      h,
+    )
