@@ -238,16 +238,16 @@ abbrev Held : Read Float → Type 0
 Held bad = Unit
 Held (got x t) = T (fits binary64 x)
 
-of_bits-fits : (b : ℕ) → T (fits binary64 (double_of b))
+double_of-fits : (b : ℕ) → T (fits binary64 (double_of b))
 unfolding double_of
-of_bits-fits b = cond-fits binary64 (nan_bits binary64 b) nan (of_bits binary64 b) (nan-fits binary64) (of_bits-fits binary64 b)
+double_of-fits b = cond-fits binary64 (nan_bits binary64 b) nan (of_bits binary64 b) (nan-fits binary64) (of_bits-fits binary64 b)
 
 all_held : (t : List ℕ) → Held (double t)
 unfolding double
 all_held t = by (is_double t)
   where
     by : (b : Bool) → Held (cond b (got (double_of (hex_of (take 16 t))) (drop 16 t)) bad)
-    by true = of_bits-fits (hex_of (take 16 t))
+    by true = double_of-fits (hex_of (take 16 t))
     by false = tt
 
 -- What is read as a double is one.

@@ -83,9 +83,9 @@ one_fails : (p q : Bool) → (p ≡ true → q ≡ true) → p && not q ≡ fals
 one_fails true q h = ap not (h refl)
 one_fails false q h = refl
 
-pub nan_bits : (b : ℕ) → 9218868437227405312 < b % 9223372036854775808 → nan_bits binary64 b ≡ true
+pub nan_bits_yes : (b : ℕ) → 9218868437227405312 < b % 9223372036854775808 → nan_bits binary64 b ≡ true
 unfolding nan_bits
-nan_bits b h =
+nan_bits_yes b h =
     let e : b % 9223372036854775808 / 4503599627370496 ≡ 2047 = omega arith in
     both-pass _ _ (eq-eqb _ 2047 e) (ne_eqb (b % 4503599627370496) 0 (λ z. omega arith))
 

@@ -29,7 +29,7 @@ pub overflow_cast-v : goal.overflow_cast-v
 overflow_cast-v c = omega (arith, digit c)
 
 pub overflow_add-v : goal.overflow_add-v
-overflow_add-v c = omega (arith, digit c, few c.before.before)
+overflow_add-v c = omega (arith, digit c, known_most c.loop-i.invariant.1 15 (omega arith) (omega arith))
 
 pub loop-i-preserved : goal.loop-i-preserved
 loop-i-preserved c =

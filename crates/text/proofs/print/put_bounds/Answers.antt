@@ -2,22 +2,31 @@
 use Rattle.text.proofs.print.Writing.{written_as, dashes_written, five-joined}
 use Rattle.text.specs.Bytes.{bytes}
 use Rattle.text.specs.Respond.{bound_lines}
-use Prim.Native.Nat.{◌+◌, ◌≤◌}
+use Prim.Native.Nat.{ℕ, ◌+◌, ◌≤◌}
+use mathlib.Core.Logic.{◌⊎◌, inl, inr}
+use lib.Ieee.{Float}
+use denote.Enum.Declared.{tag_of}
+use Rattle.model.specs.contracts.contains.Found.{the_type}
+use Rattle.model.specs.declared.contains.Found.{Found}
+use Rattle.model.specs.declared.contains.Found.TheVariants.{Nothing, Enclosed, Spent, Refused}
 use Rattle.model.specs.Paper.{paper}
 use Rattle.text.specs.Printable.{Printable}
-use mathlib.Core.Path.{subst}
+use mathlib.Core.Path.{◌≡◌, refl, subst}
 use native.Mathlib.Omega.{arith}
 use Rattle.text.proofs.print.put_bounds.Goals as goal
+
+-- An answer that is not Enclosed is one of the other three.
+others : (f : Found) → ((lo hi : Float) (v k d : ℕ) → f ≡ Enclosed lo hi v k d → ⊥) → (tag_of the_type f ≡ 0) ⊎ ((tag_of the_type f ≡ 2) ⊎ (tag_of the_type f ≡ 3))
+others (Nothing v k d) h = inl refl
+others (Enclosed lo hi v k d) h = absurd (h lo hi v k d refl)
+others (Spent n v k d) h = inr (inl refl)
+others (Refused n v k d) h = inr (inr refl)
 
 pub returns-in_default : goal.returns-in_default
 unfolding bytes
 returns-in_default c =
     let w = c.put_word.ensures in
-    dashes_written c.args.f c.in-Enclosed.keys2 w (omega (arith, w.end))
-
--- From where the second bound is written: where the first one is.
-abbrev at-lo : goal.After-put_double-arg-2-1 → goal.After-put_double-arg-1
-at-lo c = c
+    dashes_written c.args.f (others c.args.f c.in_default.not-Enclosed) w (omega (arith, w.end))
 
 pub put_double-j-requires : goal.put_double-j-requires
 put_double-j-requires c =
@@ -25,8 +34,7 @@ put_double-j-requires c =
 
 pub put_double-l-requires : goal.put_double-l-requires
 put_double-l-requires c =
-    let k = known (at-lo c) in
-    (omega arith, (subst Printable k.f.given.1 k.requires.1).1)
+    (omega arith, (subst Printable c.in-Enclosed.is c.requires.1).1)
 
 pub returns : goal.returns
 unfolding bytes bound_lines

@@ -28,7 +28,7 @@ line-requires c =
 
 pub shape_of-out-in_default : goal.shape_of-out-in_default
 shape_of-out-in_default c =
-    c.line.auto.1.1.1.1.0 ∙ c.loop-i.invariant.2
+    c.line.auto.out ∙ c.loop-i.invariant.2
 
 pub returns-in_default : goal.returns-in_default
 returns-in_default c =
@@ -44,7 +44,7 @@ loop-i-preserved c =
     let t = lines_turn a.text.now a.key.now a.n a.k a.at a.to a.out.now l.i l.p l.out
     c.line.new.out _ (omega arith) c.line.ensures l.invariant.3
     _ c.in-At.is (omega arith) in
-    (omega arith, t.0, c.line.auto.1.1.1.1.0 ∙ l.invariant.2, t.1)
+    (omega arith, t.0, c.line.auto.out ∙ l.invariant.2, t.1)
 
 pub shape_of-out : goal.shape_of-out
 shape_of-out c = c.loop-i.invariant.2

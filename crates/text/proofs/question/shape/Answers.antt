@@ -10,55 +10,55 @@ use Rattle.text.proofs.question.Others.{few_numbers, shape_none, shape_one, shap
 use Rattle.text.specs.Bytes.{bytes}
 use Rattle.text.proofs.question.shape.Goals as goal
 
--- The sizes and the memory with the knots in it, from where these are read.
-abbrev these : goal.After-line → Sizes
-these c = let a = (begin c).args in sizes_of a.dim a.degree a.count
-
-abbrev memory : goal.After-line → List Float
-memory c = c.line.new.1.1.1.1.0
-
 pub returns-in_default : goal.returns-in_default
 unfolding bytes
 returns-in_default c =
+    let these : Sizes = let a = c.args in sizes_of a.dim a.degree a.count in
+    let memory : List Float = c.line.new.out in
     let a = c.args in
-    shape_none a.text.now _ (these c) a.out.now (memory c) _ c.line.ensures c.in_default.is
+    shape_none a.text.now _ these a.out.now memory _ c.line.ensures c.in_default.is
 
 pub lines-requires : goal.lines-requires
 lines-requires c =
     let few : 2 * (c.args.dim + 1) * c.args.count ≤ 256 = few_numbers (2 * (c.args.dim + 1)) c.args.count (omega arith) (omega arith) in (
       (subst (ValuesRead _ _ _ _ _ _) c.in-At.is c.line.ensures).inside,
-      omega (arith, few, c.line.kept.1.1.1.1.0),
+      omega (arith, few, c.line.auto.out),
     )
 
 pub returns-in_default-lines : goal.returns-in_default-lines
 unfolding bytes
 returns-in_default-lines c =
+    let these : Sizes = let a = c.args in sizes_of a.dim a.degree a.count in
+    let memory : List Float = c.line.new.out in
     let a = c.args in
-    shape_one a.text.now _ (these c) a.out.now (memory c) _ c.line.ensures _ _ c.in-At.is
+    shape_one a.text.now _ these a.out.now memory _ c.line.ensures _ _ c.in-At.is
     (omega arith) c.lines.new.out _ c.lines.ensures c.in_default-lines.is
 
--- The start, from where the line of the box is to be read.
-abbrev start : goal.After-line-arg-4-1 → goal.Start
-start c = c
-
 pub overflow_mul-w-2 : goal.overflow_mul-w-2
-overflow_mul-w-2 c = omega (arith, few (start c.before.before))
+overflow_mul-w-2 c =
+    let few : 2 * (c.args.dim + 1) * c.args.count ≤ 256 = few_numbers (2 * (c.args.dim + 1)) c.args.count (omega arith) (omega arith) in
+    omega (arith, few)
 
 pub overflow_add-k-5 : goal.overflow_add-k-5
-overflow_add-k-5 c = omega (arith, few (start c.before.before))
+overflow_add-k-5 c =
+    let few : 2 * (c.args.dim + 1) * c.args.count ≤ 256 = few_numbers (2 * (c.args.dim + 1)) c.args.count (omega arith) (omega arith) in
+    omega (arith, few)
 
 pub line-requires-2 : goal.line-requires-2
-line-requires-2 c = (
-  (subst (ValuesRead _ _ _ _ _ _) c.in-At-lines.is c.lines.ensures).inside,
-  omega (arith, few (start c.before.before), c.lines.kept.1.1.1.1.1.0, c.line.kept.1.1.1.1.0),
-)
+line-requires-2 c =
+    let few : 2 * (c.args.dim + 1) * c.args.count ≤ 256 = few_numbers (2 * (c.args.dim + 1)) c.args.count (omega arith) (omega arith) in (
+      (subst (ValuesRead _ _ _ _ _ _) c.in-At-lines.is c.lines.ensures).inside,
+      omega (arith, few, c.lines.auto.out, c.line.auto.out),
+    )
 
 pub returns : goal.returns
 unfolding bytes
 returns c =
+    let these : Sizes = let a = c.args in sizes_of a.dim a.degree a.count in
+    let memory : List Float = c.line.new.out in
     let few : 2 * (c.args.dim + 1) * c.args.count ≤ 256 = few_numbers (2 * (c.args.dim + 1)) c.args.count (omega arith) (omega arith) in
     let a = c.args in
-    shape_two a.text.now _ (these c) a.out.now (memory c) _ c.line.ensures _ _ c.in-At.is
+    shape_two a.text.now _ these a.out.now memory _ c.line.ensures _ _ c.in-At.is
     (omega arith) c.lines.new.out _ c.lines.ensures _ c.in-At-lines.is
     c.line-2.new.out c.line-2.result c.line-2.ensures
     (omega (arith, few, c.requires))

@@ -8,24 +8,24 @@ use Rattle.text.proofs.reading.Cases.{numbers_bad, numbers_long, numbers_more, n
 use native.Mathlib.Omega.{arith}
 use Rattle.text.proofs.reading.read_numbers.Goals as goal
 
--- The other lines, as the text has them.
-abbrev others : goal.After-numbers → Read Numbers
-others c = let g = (start c).args in numbers (sizes_of g.dim g.degree g.count) (drop g.at g.text.now)
-
 pub returns-in_default : goal.returns-in_default
 returns-in_default c =
-    numbers_bad c.args.rev _ _ (others c) _ _ _ c.numbers.ensures c.in_default.is
+    let others : Read Numbers = let g = c.args in numbers (sizes_of g.dim g.degree g.count) (drop g.at g.text.now) in
+    numbers_bad c.args.rev _ _ others _ _ _ c.numbers.ensures c.in_default.is
 
 pub returns-then-text-gt65536 : goal.returns-then-text-gt65536
 returns-then-text-gt65536 c =
-    numbers_long c.args.rev _ _ (others c) _ _ _ c.numbers.ensures _ _ c.in-Number.is c.if-text-gt65536.true
+    let others : Read Numbers = let g = c.args in numbers (sizes_of g.dim g.degree g.count) (drop g.at g.text.now) in
+    numbers_long c.args.rev _ _ others _ _ _ c.numbers.ensures _ _ c.in-Number.is c.if-text-gt65536.true
 
 pub returns-then-end-text : goal.returns-then-end-text
 returns-then-end-text c =
-    numbers_more c.args.rev _ _ (others c) _ _ _ c.numbers.ensures _ _ c.in-Number.is
+    let others : Read Numbers = let g = c.args in numbers (sizes_of g.dim g.degree g.count) (drop g.at g.text.now) in
+    numbers_more c.args.rev _ _ others _ _ _ c.numbers.ensures _ _ c.in-Number.is
     c.if-text-gt65536.false c.if-end-text.true
 
 pub returns : goal.returns
 returns c =
-    numbers_all c.args.rev _ _ (others c) _ _ _ c.numbers.ensures _ _ c.in-Number.is
+    let others : Read Numbers = let g = c.args in numbers (sizes_of g.dim g.degree g.count) (drop g.at g.text.now) in
+    numbers_all c.args.rev _ _ others _ _ _ c.numbers.ensures _ _ c.in-Number.is
     c.if-text-gt65536.false c.if-end-text.false (omega arith) (omega arith) (omega arith)

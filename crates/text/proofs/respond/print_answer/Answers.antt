@@ -15,7 +15,7 @@ write-requires c =
 pub returns-then-is_printable : goal.returns-then-is_printable
 returns-then-is_printable c =
     let w = c.write in
-    let r = prints c.args.f c.if-out-lt192.false c.is_printable.ensures c.if-is_printable.true w.auto.1.0 w.ensures.1 w.ensures.0 in
+    let r = prints c.args.f c.if-out-lt192.false c.is_printable.ensures c.if-is_printable.true w.auto.out w.ensures.1 w.ensures.0 in
     record { written = r.0; within = r.1 }
 
 pub returns : goal.returns

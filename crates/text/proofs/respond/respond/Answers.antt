@@ -7,10 +7,6 @@ use Rattle.text.proofs.respond.Lent.{answer_printable}
 use Rattle.text.proofs.respond.Cases.{responds, too_short}
 use Rattle.text.proofs.respond.respond.Goals as goal
 
--- The text, from where it is answered.
-abbrev asked : goal.After-answered → List ℕ
-asked c = c.before.before.before.before.args.text.now
-
 pub returns-then-out-lt192 : goal.returns-then-out-lt192
 returns-then-out-lt192 c = let g = c.args in
     let r = too_short g.text.now g.out.now c.if-out-lt192.true in
@@ -18,12 +14,14 @@ returns-then-out-lt192 c = let g = c.args in
 
 pub write-requires : goal.write-requires
 write-requires c =
+    let asked : List ℕ = c.args.text.now in
     let f = c.answered in
-    (omega arith, answer_printable (reading (asked c)) f.result f.ensures)
+    (omega arith, answer_printable (reading asked) f.result f.ensures)
 
 pub returns : goal.returns
 returns c =
+    let asked : List ℕ = c.args.text.now in
     let w = c.write in
-    let r = responds (asked c) c.answered.result c.answered.ensures
-    c.if-out-lt192.false w.auto.1.0 w.ensures.1 w.ensures.0 in
+    let r = responds asked c.answered.result c.answered.ensures
+    c.if-out-lt192.false w.auto.out w.ensures.1 w.ensures.0 in
     record { written = r.0; promises = r.1.0; within = r.1.1 }

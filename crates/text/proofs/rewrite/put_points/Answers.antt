@@ -21,22 +21,23 @@ loop-i-init c =
 
 pub overflow_mul-n : goal.overflow_mul-n
 overflow_mul-n c =
-    let doubles-in : let g = c.args in let i = c.loop-i.i in g.n * i + g.n ≤ g.n * g.k = let g = c.args in row_in g.n c.loop-i.i g.k (omega arith) in
+    let doubles-in = row_in c.args.n c.loop-i.i c.args.k (omega arith) in
     omega (arith, doubles-in)
 
 pub overflow_add-from : goal.overflow_add-from
 overflow_add-from c =
-    let doubles-in : let g = c.args in let i = c.loop-i.i in g.n * i + g.n ≤ g.n * g.k = let g = c.args in row_in g.n c.loop-i.i g.k (omega arith) in
+    let doubles-in = row_in c.args.n c.loop-i.i c.args.k (omega arith) in
     omega (arith, doubles-in)
 
 pub put_line-p-requires : goal.put_line-p-requires
 put_line-p-requires c =
-    let bytes-in : let g = c.args in let i = c.loop-i.i in (6 + 17 * g.n) * i + (6 + 17 * g.n) ≤ (6 + 17 * g.n) * g.k = let g = c.args in row_in (6 + 17 * g.n) c.loop-i.i g.k (omega arith) in
-    let doubles-in : let g = c.args in let i = c.loop-i.i in g.n * i + g.n ≤ g.n * g.k = let g = c.args in row_in g.n c.loop-i.i g.k (omega arith) in
+    let bytes-in = row_in (6 + 17 * c.args.n) c.loop-i.i c.args.k (omega arith) in
+    let doubles-in = row_in c.args.n c.loop-i.i c.args.k (omega arith) in
     let l = c.loop-i in
     let a = c.args in record { n_in_bounds = (omega (arith, bytes-in, l.invariant.2), omega (arith, doubles-in)); n_value = all_part is_number a.xs.now a.from (a.n * a.k) (a.n * l.i) a.n doubles-in c.requires.k_value }
 
 pub loop-i-preserved : goal.loop-i-preserved
+unfolding bytes
 loop-i-preserved c =
     let l = c.loop-i in
     let a = c.args in

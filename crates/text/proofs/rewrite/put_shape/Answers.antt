@@ -1,5 +1,4 @@
 -- `put_shape` writes the line of the knots, the lines of the points and that of the box, one behind the other.
--- ---- the places
 use mathlib.Core.Path.{◌≡◌, sym, subst}
 use mathlib.Core.Bool.{true}
 use mathlib.Core.List.{◌++◌}
@@ -17,31 +16,32 @@ use Rattle.text.proofs.rewrite.put_shape.Goals as goal
 -- ---- the sizes
 
 -- The points have few doubles, and their lines few bytes.
-few : (c : goal.Start) → 2 * (c.args.dim + 1) * c.args.count ≤ 256
-few c = few_numbers (2 * (c.args.dim + 1)) c.args.count (omega arith) (omega arith)
+few : (dim count : ℕ) → dim ≤ 3 → count ≤ 32 → 2 * (dim + 1) * count ≤ 256
+few dim count d n = few_numbers (2 * (dim + 1)) count (omega arith) (omega arith)
+
+short : (dim count : ℕ) → dim ≤ 3 → count ≤ 32 → (6 + 17 * (2 * (dim + 1))) * count ≤ 4544
+short dim count d n =
+    let h : 6 + 17 * (2 * (dim + 1)) ≤ 142 = omega arith in
+    mul-le-mul h n
 
 pub put_points-j-requires : goal.put_points-j-requires
 put_points-j-requires c =
-    let short : (6 + 17 * (2 * (c.args.dim + 1))) * c.args.count ≤ 4544 =
-    let h : 6 + 17 * (2 * (c.args.dim + 1)) ≤ 142 = omega arith in
-    let k : c.args.count ≤ 32 = omega arith in
-    mul-le-mul h k in
+    let d : c.args.dim ≤ 3 = c.requires.at_in_bounds.1 in
+    let n : c.args.count ≤ 32 = c.requires.at_in_bounds.3 in
     let point : 2 * (c.args.dim + 1) ≡ 2 * suc c.args.dim = omega arith in
     let a = c.args in record {
-      k_in_bounds = (omega (arith, short, c.put_line-i.ensures.1), omega (arith, few c));
+      k_in_bounds = (omega (arith, short c.args.dim c.args.count d n, c.put_line-i.ensures.1), omega (arith, few c.args.dim c.args.count d n));
       k_value = subst (λ (w : ℕ). all is_number (part a.lines.now (1 + (a.count + a.degree + 1)) (w * a.count)) ≡ true) (sym point)
           c.requires.all_numbers.points;
     }
 
 pub put_line-requires : goal.put_line-requires
 put_line-requires c =
-    let short : (6 + 17 * (2 * (c.args.dim + 1))) * c.args.count ≤ 4544 =
-    let h : 6 + 17 * (2 * (c.args.dim + 1)) ≤ 142 = omega arith in
-    let k : c.args.count ≤ 32 = omega arith in
-    mul-le-mul h k in
+    let d : c.args.dim ≤ 3 = c.requires.at_in_bounds.1 in
+    let n : c.args.count ≤ 32 = c.requires.at_in_bounds.3 in
     let point : 2 * (c.args.dim + 1) ≡ 2 * suc c.args.dim = omega arith in
     let a = c.args in record {
-      n_in_bounds = (omega (arith, short, c.put_line-i.ensures.1, c.put_points-j.ensures.1), omega (arith, few c));
+      n_in_bounds = (omega (arith, short c.args.dim c.args.count d n, c.put_line-i.ensures.1, c.put_points-j.ensures.1), omega (arith, few c.args.dim c.args.count d n));
       n_value = subst (λ (w : ℕ). all is_number (part a.lines.now (1 + (a.count + a.degree + 1) + w * a.count) (2 * a.dim)) ≡ true)
           (sym point) c.requires.all_numbers.box;
     }
@@ -49,10 +49,8 @@ put_line-requires c =
 pub returns : goal.returns
 unfolding shape_text bytes
 returns c =
-    let short : (6 + 17 * (2 * (c.args.dim + 1))) * c.args.count ≤ 4544 =
-    let h : 6 + 17 * (2 * (c.args.dim + 1)) ≤ 142 = omega arith in
-    let k : c.args.count ≤ 32 = omega arith in
-    mul-le-mul h k in
+    let d : c.args.dim ≤ 3 = c.requires.at_in_bounds.1 in
+    let n : c.args.count ≤ 32 = c.requires.at_in_bounds.3 in
     let point : 2 * (c.args.dim + 1) ≡ 2 * suc c.args.dim = omega arith in
     let a = c.args in
     let l = a.lines.now in
@@ -60,7 +58,7 @@ returns c =
     let x = c.put_line-i.ensures in
     let y = c.put_points-j.ensures in
     let z = c.put_line.ensures in
-    let h : c.put_line.result ≤ a.at + 5336 = omega (arith, short, x.1, y.1, z.1) in (
+    let h : c.put_line.result ≤ a.at + 5336 = omega (arith, short c.args.dim c.args.count d n, x.1, y.1, z.1) in (
       subst
           (λ (w : ℕ). Written a.out.now a.at
           (line_text (bytes "knots=") (part l 1 K)

@@ -1,5 +1,4 @@
 -- `rewrite_lines` equals its definition: the question is refused, or its form is given.
--- ---- the places
 use mathlib.Core.Path.{sym, ap, ◌∙◌}
 use lib.ListN.{length}
 use Rattle.text.specs.Question.{Sizes, sizes_of, Numbers}
@@ -11,25 +10,27 @@ use Rattle.text.proofs.rewrite.Cases.{question-refused, question-given}
 use native.Mathlib.Omega.{arith}
 use Rattle.text.proofs.rewrite.rewrite_lines.Goals as goal
 
--- The sizes, and the question.
-abbrev sizes : goal.Start → Sizes
-sizes k = sizes_of k.args.dim k.args.degree k.args.count
-
-abbrev asked : goal.Start → Numbers
-asked k = numbers_in (sizes k) k.args.nodes k.args.lines.now
-
 pub returns-then-number-ne0 : goal.returns-then-number-ne0
 returns-then-number-ne0 c =
-    question-refused c.args.rev (sizes c) (asked c) c.args.out.now _ c.lines_refusal-number.ensures c.if-number-ne0.true
+    let a = c.args in
+    let sizes : Sizes = sizes_of a.dim a.degree a.count in
+    let asked : Numbers = numbers_in sizes a.nodes a.lines.now in
+    question-refused c.args.rev sizes asked c.args.out.now _ c.lines_refusal-number.ensures c.if-number-ne0.true
 
 pub put_form-n-requires : goal.put_form-n-requires
 put_form-n-requires c =
-    let n = all_numbers c.args.rev (sizes c) (asked c) (sym c.lines_refusal-number.ensures ∙ c.if-number-ne0.false) in record { in_bounds = (omega arith, omega arith, omega arith, omega arith, omega arith); all_numbers = record { resolution = n.resolution; knots = n.knots; points = n.points; box = n.box } }
+    let a = c.args in
+    let sizes : Sizes = sizes_of a.dim a.degree a.count in
+    let asked : Numbers = numbers_in sizes a.nodes a.lines.now in
+    let n = all_numbers c.args.rev sizes asked (sym c.lines_refusal-number.ensures ∙ c.if-number-ne0.false) in record { in_bounds = (omega arith, omega arith, omega arith, omega arith, omega arith); all_numbers = record { resolution = n.resolution; knots = n.knots; points = n.points; box = n.box } }
 
 pub returns : goal.returns
 returns c =
+    let a = c.args in
+    let sizes : Sizes = sizes_of a.dim a.degree a.count in
+    let asked : Numbers = numbers_in sizes a.nodes a.lines.now in
     let l = c.args.out.now in
     let e = written-front c.put_form-n.ensures.written in
-    question-given c.args.rev (sizes c) (asked c) l _ c.lines_refusal-number.ensures _ c.give.result c.if-number-ne0.false
+    question-given c.args.rev sizes asked l _ c.lines_refusal-number.ensures _ c.give.result c.if-number-ne0.false
     (c.give.ensures.count ∙ ap (count_for (length l)) e)
     (c.give.ensures.output ∙ ap (output_for l) e)
