@@ -6,7 +6,7 @@ use Prim.Native.Nat.{ℕ}
 use lib.Dec.{eqb}
 use Rattle.math.specs.Paper.{quotient_of, quotient_in, Divides, IsRatio}
 use Rattle.math.specs.Scalars.{has_zero, div_s, widened, ratio_of, from_ratio}
-use Rattle.math.specs.Tight.{quotient, div_t}
+use Rattle.math.specs.Tight.{div_t}
 use Rattle.math.specs.Revision.{arithmetic}
 use Rattle.math.specs.declared.scalars.Scalar.{Scalar}
 use Rattle.math.specs.declared.scalars.Divided.{Divided}

@@ -5,7 +5,7 @@ use native.Mathlib.Omega.{arith}
 use lib.Ieee.{of_bits, lt}
 use mathlib.Core.List.{[], ◌∷◌}
 use Rattle.solver.proofs.Ring.{by_rep, read}
-use Rattle.exact.specs.Rational.{ℚ, ◌*ℚ◌, 0ℚ, 1ℚ, invℚ, ◌÷◌, ◌≤ℚ◌, ◌<ℚ◌, lerp, ratio}
+use Rattle.exact.specs.Rational.{ℚ, ◌*ℚ◌, 0ℚ, 1ℚ, invℚ, ◌÷◌, ◌≤ℚ◌, ◌<ℚ◌, lerp}
 use Rattle.exact.specs.Spline.{before, closing, drawn}
 use Rattle.exact.proofs.Field.{ℚring, *ℚ_1}
 use Rattle.exact.proofs.Order.{le_refl, inv_unique}

@@ -1,12 +1,11 @@
 -- Points as numbers side by side: what the numbers of some intervals and of some points are, and what is read from them. Leans on the laws of lists.
 use mathlib.Core.Path.{◌≡◌, refl, sym, ap, ◌∙◌}
-use mathlib.Core.Logic.{◌⊎◌, inl, inr, ⊎_elim}
 use mathlib.Core.List.{List, [], ◌∷◌, ◌++◌, append_assoc, append-nil}
 use Prim.Native.Nat.{ℕ, zero, suc, ◌+◌, ◌*◌, ◌-◌, ◌≤◌, ◌<◌}
-use native.Mathlib.Nat.{mul-add, mul-suc, mul-zero, zero-mul, suc-mul, mul_assoc, zero-add}
+use native.Mathlib.Nat.{mul-add, mul-suc, mul-zero, mul_assoc, zero-add}
 use native.Mathlib.Numerals.{add-one}
 use native.Mathlib.Omega.{arith}
-use lib.ListN.{length, take, drop, get_or, length-append, length-drop}
+use lib.ListN.{length, take, drop, get_or, length-append}
 use lib.Seq.{get_or-drop, get_or-take, drop-drop, drop_at}
 use lib.Ieee.{Float, nan}
 use Rattle.lists.specs.Lists.{part, put, tab}

@@ -17,7 +17,7 @@ use Rattle.model.specs.FatLine.{greville}
 use Rattle.model.specs.Subdivide.{Question, dropped, Step, going, over, advance}
 use Rattle.model.specs.Contains.{clipped, visit, begun}
 use Rattle.model.specs.Call.{Call, as_piece, question}
-use Rattle.model.specs.Enclosure.{Doubles, Accepted, Every}
+use Rattle.model.specs.Enclosure.{Doubles, Accepted}
 use Rattle.geometry.specs.Slots.{within, Whole, Fit}
 use Rattle.geometry.specs.State.{AllFit}
 use Rattle.geometry.specs.declared.slots.Shape.{Shape}

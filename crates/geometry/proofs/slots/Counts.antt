@@ -5,7 +5,7 @@ use Prim.Native.Nat.{ℕ, suc, ◌+◌, ◌*◌, ◌^◌, ◌≤◌, ◌<◌}
 use native.Mathlib.Nat.{lt_of_le_of_lt, mul-le-mul_left, mul-le-mul, mul-add, mul-suc, mul-zero}
 use native.Mathlib.Numerals.{add-one}
 use native.Mathlib.Omega.{arith}
-use lib.Dec.{T, leb, le→leb, lit<}
+use lib.Dec.{T, le→leb, lit<}
 use lib.ListN.{length, get_or}
 use lib.IntN.{pos}
 use lib.Ieee.{Float, nan, in_float, in_unsigned, to_unsigned, binary64}

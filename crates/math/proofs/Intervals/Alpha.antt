@@ -8,7 +8,7 @@ use native.Mathlib.Omega.{arith}
 use lib.IntN.{pos}
 use lib.Dec.{T}
 use lib.Pow.{pow_pos}
-use lib.Ieee.{Float, nan, inf, fin, binary64, low, fits, lt, le, eq, sub}
+use lib.Ieee.{Float, nan, inf, fin, binary64, low, fits, lt, le, sub}
 use lib.Ieee.Fits.{sub-fits}
 use Rattle.solver.proofs.Ring.{by_rep, by_eq, read}
 use Rattle.exact.specs.Rational.{ℚ, ◌+ℚ◌, ◌*ℚ◌, -ℚ◌, ◌-ℚ◌, 0ℚ, 1ℚ, invℚ, ◌÷◌, signed, ◌≤ℚ◌, ◌<ℚ◌, nn_of, lt→not_le}

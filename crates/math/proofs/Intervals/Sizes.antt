@@ -9,7 +9,7 @@ use native.Mathlib.Omega.{arith}
 use lib.IntN.{ℤ, pos, negsuc}
 use lib.Dec.{T, eqb-suc-zero}
 use lib.Pow.{pow_pos}
-use lib.Ieee.{Float, nan, inf, fin, binary64, low, fits, neg, lt, le, eq, sub, mul, is_nan}
+use lib.Ieee.{Float, nan, inf, fin, binary64, low, fits, neg, lt, le, sub, mul, is_nan}
 use lib.Ieee.Fits.{sub-fits, mul-fits}
 use Rattle.solver.proofs.Ring.{by_rep, by_eq, read}
 use Rattle.exact.specs.Rational.{ℚ, ◌+ℚ◌, ◌*ℚ◌, -ℚ◌, ◌-ℚ◌, 0ℚ, 1ℚ, ◌÷◌, signed, ◌≤ℚ◌, ◌<ℚ◌, nn_of, lt→not_le}

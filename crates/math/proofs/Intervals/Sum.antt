@@ -6,7 +6,7 @@ use lib.Ieee.Fits.{add-fits}
 use Rattle.exact.specs.Rational.{ℚ, ◌+ℚ◌}
 use Rattle.exact.proofs.Order.{add-mono}
 use Rattle.math.specs.Neighbours.{next_up, next_down}
-use Rattle.math.specs.Values.{value, Below, Above}
+use Rattle.math.specs.Values.{Below, Above}
 use Rattle.math.proofs.Doubles.Rounding.{Under, Over, Lows, Highs, lows-mono, highs_mono, lows-inf, highs_inf, lows-down, highs_up}
 use Rattle.math.proofs.Doubles.Operations.{add_rounds}
 

@@ -7,7 +7,7 @@ use native.Mathlib.Nat.{mul-pos, mul-lt-mul_of_pos_right, lt_of_mul-lt-mul_right
 use lib.IntN.{ℤ}
 use lib.Dec.{T, ltb, ltb→lt, lt→ltb}
 use lib.Pow.{pow_pos}
-use lib.Ieee.{Float, nan, inf, fin, Format, binary64, low, emax, prec, unlike, size, odd, units, round, fits}
+use lib.Ieee.{Float, nan, inf, fin, Format, binary64, low, emax, prec, unlike, odd, units, round, fits}
 use Rattle.solver.proofs.Ring.{by_rep, by_eq, read}
 use Rattle.exact.specs.Rational.{ℚ, ◌*ℚ◌, -ℚ◌, ◌-ℚ◌, 0ℚ, invℚ, ◌÷◌, signed, ◌≤ℚ◌, ◌<ℚ◌, nn_of, lt→not_le, not_le→lt}
 use Rattle.exact.proofs.Field.{ℚring, nn_mul, nn_inv}

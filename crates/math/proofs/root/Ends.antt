@@ -7,7 +7,7 @@ use mathlib.Core.Bool.{true, false, not, ◌||◌, beq}
 use lib.IntN.{ℤ, pos}
 use lib.Dec.{T, eqb, ltb→lt, lt→ltb}
 use lib.Pow.{pow-add}
-use lib.Ieee.{Float, nan, inf, fin, binary64, low, up, down, is_nan, ne, eq, lt, fits, to_bits, of_bits, nan_bits, div}
+use lib.Ieee.{Float, nan, inf, fin, binary64, up, down, is_nan, ne, eq, lt, fits, to_bits, of_bits, nan_bits, div}
 use lib.Ieee.Fits.{up_pos, down_pos, and_l}
 use lib.Ieee.Compare.{differs_from_itself}
 use Rattle.math.proofs.Doubles.Patterns.{size_of, size_at, written}

@@ -9,7 +9,7 @@ use mathlib.Core.Bool.{true, false, true≢false}
 use lib.IntN.{ℤ}
 use lib.Dec.{T, lit≤}
 use lib.Pow.{pow-add, pow_pos}
-use lib.Ieee.{Float, nan, inf, fin, binary64, low, fits, up, down, of_bits}
+use lib.Ieee.{Float, nan, inf, fin, binary64, fits, up, down, of_bits}
 use lib.Ieee.Fits.{down_pos}
 use lib.Ieee.Bits.{of_bits-fits}
 use lib.Ieee.Exact.{HasValue}

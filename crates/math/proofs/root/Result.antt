@@ -8,7 +8,7 @@ use mathlib.Core.Bool.{Bool, false, cond}
 use lib.Dec.{ltb, lt→ltb}
 use lib.Arith.{le→nltb}
 use lib.Pow.{pow-add, pow_mono}
-use lib.Ieee.{binary64, low, size, units, of_bits}
+use lib.Ieee.{binary64, size, units, of_bits}
 use lib.Ieee.Digits.{size-lt, size-le}
 use lib.Ieee.Bits.{is_true, is_false}
 use Rattle.math.specs.Root.{root, nearest_root, root_of}

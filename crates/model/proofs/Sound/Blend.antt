@@ -21,7 +21,6 @@ use Rattle.math.specs.Values.{value, Holds}
 use Rattle.math.specs.Encloses.{Encloses, Between, Tame}
 use Rattle.math.proofs.Bools.{pick, taken}
 use Rattle.math.proofs.Doubles.Values.{value_zero}
-use Rattle.math.proofs.Intervals.Sizes.{moderate}
 use Rattle.math.proofs.Intervals.Tests.{same_sharp}
 use Rattle.math.proofs.Intervals.Laws.{interpolate_holds}
 use Rattle.model.specs.Vector.{Vector, coordinate, interpolate_v}

@@ -16,7 +16,7 @@ use Rattle.math.specs.Scalars.{Arithmetic, two_f, middle}
 use Rattle.math.specs.Values.{value, Holds}
 use Rattle.math.specs.Encloses.{Encloses}
 use Rattle.math.proofs.Bools.{and_l, and_r}
-use Rattle.math.proofs.Intervals.Sizes.{moderate, between_moderate}
+use Rattle.math.proofs.Intervals.Sizes.{between_moderate}
 use Rattle.model.specs.NurbCurve.{Piece, knot, start, end, in_domain, mid_parameter}
 use Rattle.model.specs.KnotInsertion.{full_cut, left_of, right_of}
 use Rattle.model.specs.Split.{Halves, uncut, both, split_by, split, from_by, up_to_by, restrict}

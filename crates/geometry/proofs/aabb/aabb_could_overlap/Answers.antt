@@ -1,5 +1,4 @@
 -- `aabb_could_overlap` equals its definition. The invariant: what is left to test answers for the whole.
-use Prim.Native.Nat.{◌-◌}
 use native.Mathlib.Omega.{arith}
 use Rattle.math.specs.Revision.{arithmetic}
 use Rattle.model.specs.Layout.{scalar_at}

@@ -1,6 +1,5 @@
 -- `axis_box_tight` equals its definition: each turn takes in the place of one more point.
 use mathlib.Core.Path.{refl, ◌∙◌}
-use Prim.Native.Nat.{◌-◌}
 use native.Mathlib.Omega.{arith}
 use lib.ListN.{length}
 use Rattle.math.specs.Tight.{tight}

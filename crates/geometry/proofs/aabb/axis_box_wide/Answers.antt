@@ -1,9 +1,9 @@
 -- `axis_box_wide` equals its definition. The invariant: the bounds so far are numbers, and widened they are the union of the first i places; the last divisor was made of its value.
-use Prim.Native.Nat.{suc, ◌-◌}
+use Prim.Native.Nat.{suc}
 use native.Mathlib.Omega.{arith}
 use lib.ListN.{length}
 use Rattle.math.specs.Scalars.{geop}
-use Rattle.math.specs.Bounds.{widen_b, pick_b, divisor_of}
+use Rattle.math.specs.Bounds.{widen_b, pick_b}
 use Rattle.math.proofs.Laws.{AreNumbers, numbers_pick, divisor_own}
 use Rattle.model.specs.Layout.{point_at}
 use Rattle.geometry.proofs.nurb_curve.Points.{point_in}

@@ -1,6 +1,6 @@
 -- `meets` equals its definition. The invariant: what is left of the walk, from the range that is left, gives what the whole walk gives.
 use mathlib.Core.Path.{ap}
-use Prim.Native.Nat.{suc, ◌-◌}
+use Prim.Native.Nat.{suc}
 use native.Mathlib.Omega.{arith}
 use lib.Ieee.{of_bits}
 use Rattle.math.specs.Revision.{arithmetic}

@@ -1,8 +1,6 @@
 -- `all_ordered` equals its definition. The invariant: what is left to test answers for the whole.
 use mathlib.Core.Path.{refl, ap, ◌∙◌}
-use Prim.Native.Nat.{◌-◌}
 use native.Mathlib.Omega.{arith}
-use lib.ListN.{length, get_or}
 use Rattle.model.specs.Call.{ordered}
 use Rattle.model.specs.Layout.{scalars_of}
 use Rattle.geometry.proofs.Lists.Walks.{all_keep, all_stop, all_end}

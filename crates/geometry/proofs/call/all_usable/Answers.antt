@@ -1,7 +1,6 @@
 -- `all_usable` equals its definition. The invariant: what is left to test answers for the whole.
 use mathlib.Core.Path.{refl, sym, ◌∙◌}
 use mathlib.Core.Bool.{false}
-use Prim.Native.Nat.{◌-◌}
 use native.Mathlib.Omega.{arith}
 use lib.Dec.{T}
 use lib.Ieee.{nan, binary64, fits}

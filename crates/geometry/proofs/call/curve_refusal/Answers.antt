@@ -3,9 +3,8 @@
 use mathlib.Core.Path.{◌≡◌, sym, ◌∙◌}
 use mathlib.Core.List.{List, [], ◌∷◌}
 use mathlib.Core.Bool.{Bool, true}
-use Prim.Native.Nat.{ℕ, suc, ◌+◌, ◌*◌, ◌≤◌}
+use Prim.Native.Nat.{ℕ}
 use native.Mathlib.Omega.{arith}
-use lib.ListN.{length}
 use lib.Ieee.{Float}
 use Rattle.model.specs.Call.{Curve, curve_of, lengths_fit, numbers_usable, bounds_ordered, weights_fit, knots_fit, first_failed, sizes_refusal, curve_refusal}
 use Rattle.model.proofs.Checks.{none_left, pass, fail, else_left, else_taken, SmallSizes, small-sizes}

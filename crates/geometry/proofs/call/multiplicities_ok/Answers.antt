@@ -1,7 +1,7 @@
 -- `multiplicities_ok` equals its definition. The invariant: no knot up to here begins a run that is too long.
 use mathlib.Core.Path.{◌≡◌, sym, ◌∙◌}
 use mathlib.Core.Bool.{true}
-use Prim.Native.Nat.{ℕ, ◌-◌}
+use Prim.Native.Nat.{ℕ}
 use native.Mathlib.Omega.{arith}
 use Rattle.geometry.specs.Multiplicity.{multiplicity_ok_at}
 use Rattle.geometry.proofs.call.Multiplicity.{runs-miss, runs_all, each_on}

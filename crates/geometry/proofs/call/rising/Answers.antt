@@ -1,8 +1,6 @@
 -- `rising` equals its definition. The invariant: what is left to test answers for the whole.
 use mathlib.Core.Path.{refl}
-use Prim.Native.Nat.{◌-◌}
 use native.Mathlib.Omega.{arith}
-use Rattle.model.specs.Call.{rising}
 use Rattle.geometry.proofs.call.Checks.{rising-keep, rising-stop, rising_end}
 use Rattle.geometry.proofs.call.rising.Goals as goal
 

@@ -1,11 +1,10 @@
 -- `next_depth` reads the last word of the first slot.
-use mathlib.Core.Path.{◌≡◌, refl, ap, ◌∙◌}
+use mathlib.Core.Path.{◌≡◌, refl}
 use Prim.Native.Nat.{◌+◌, ◌*◌}
 use native.Mathlib.Omega.{arith}
-use Rattle.geometry.specs.Slots.{count_at}
 use Rattle.geometry.specs.Ring.{base_of}
 use Rattle.geometry.proofs.slots.Ring.{base_is}
-use Rattle.geometry.proofs.slots.Depth.{depth_is, depth-room, depth-reads}
+use Rattle.geometry.proofs.slots.Depth.{depth-room, depth-reads}
 use Rattle.geometry.proofs.contains.next_depth.Goals as goal
 
 -- the first slot

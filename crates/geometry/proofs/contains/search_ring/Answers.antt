@@ -1,5 +1,5 @@
 -- `search_ring` equals its definition: what is left to search from where it stands is what was to search from the start.
-use Prim.Native.Nat.{ℕ, ◌-◌, ◌<◌}
+use Prim.Native.Nat.{ℕ, ◌<◌}
 use native.Mathlib.Omega.{arith}
 use lib.Ieee.{Float}
 use mathlib.Core.List.{List}
@@ -7,7 +7,6 @@ use mathlib.Core.Bool.{Bool}
 use mathlib.Core.Path.{sym, ap, ◌∙◌}
 use Rattle.math.specs.Revision.{arithmetic}
 use Rattle.model.specs.NurbCurve.{Piece}
-use Rattle.model.specs.Contains.{visit}
 use Rattle.model.specs.declared.subdivide.Counts.{Counts}
 use Rattle.geometry.specs.State.{asked_of, Begins, Going}
 use Rattle.geometry.specs.declared.slots.Shape.{Shape}

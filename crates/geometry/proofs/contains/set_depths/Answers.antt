@@ -2,7 +2,6 @@
 use mathlib.Core.Path.{refl}
 use native.Mathlib.Omega.{arith}
 use Rattle.geometry.proofs.slots.Depth.{depth-room}
-use Rattle.geometry.proofs.subdivide.Depths.{set_one, set_two}
 use Rattle.geometry.proofs.contains.set_depths.Goals as goal
 
 pub set_depth-requires : goal.set_depth-requires

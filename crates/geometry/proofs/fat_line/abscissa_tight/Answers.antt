@@ -1,6 +1,5 @@
 -- `abscissa_tight` is the sum, which the turns keep, over its divisor.
 use mathlib.Core.Path.{refl, ap, ◌∙◌}
-use Prim.Native.Nat.{◌-◌}
 use native.Mathlib.Omega.{arith}
 use lib.Ieee.{of_bits}
 use Rattle.math.specs.Scalars.{ENTIRE, value_or}

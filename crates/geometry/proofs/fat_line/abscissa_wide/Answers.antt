@@ -1,6 +1,5 @@
 -- `abscissa_wide` is the sum, which the turns keep, over the divisor.
 use mathlib.Core.Path.{refl, ap, ◌∙◌}
-use Prim.Native.Nat.{◌-◌}
 use native.Mathlib.Omega.{arith}
 use lib.Ieee.{of_bits}
 use Rattle.math.specs.Scalars.{geop}

@@ -1,6 +1,5 @@
 -- `band_tight` equals its definition: each turn takes in the offset of one more point.
 use mathlib.Core.Path.{refl, ◌∙◌}
-use Prim.Native.Nat.{◌-◌}
 use native.Mathlib.Omega.{arith}
 use Rattle.math.specs.Tight.{tight}
 use Rattle.geometry.proofs.aabb.Unions.{unions_first, unions_turn}

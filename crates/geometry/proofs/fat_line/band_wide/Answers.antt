@@ -1,5 +1,4 @@
 -- `band_wide` equals its definition: each turn joins the offset of one more point, and what is joined is widened once.
-use Prim.Native.Nat.{◌-◌}
 use native.Mathlib.Omega.{arith}
 use Rattle.math.specs.Scalars.{geop}
 use Rattle.math.specs.Bounds.{widen_b, join_b}

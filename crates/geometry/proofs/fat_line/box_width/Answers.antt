@@ -1,6 +1,5 @@
 -- `box_width` equals its definition. The invariant: the widest of the first k intervals.
 use mathlib.Core.Path.{refl}
-use Prim.Native.Nat.{◌-◌}
 use native.Mathlib.Omega.{arith}
 use lib.Ieee.{of_bits}
 use Rattle.lists.specs.Lists.{foldl}

@@ -1,6 +1,5 @@
 -- `carried_width` equals its definition. The invariant: the widest of the first i points.
 use mathlib.Core.Path.{refl}
-use Prim.Native.Nat.{◌-◌}
 use native.Mathlib.Omega.{arith}
 use lib.ListN.{length}
 use lib.Ieee.{of_bits}

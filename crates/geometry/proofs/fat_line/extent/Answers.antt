@@ -1,6 +1,5 @@
 -- `extent` equals its definition. The invariant: what the points from i on add to the sum is the whole length.
 use mathlib.Core.Path.{refl, sym, ap, ◌∙◌}
-use Prim.Native.Nat.{◌-◌}
 use native.Mathlib.Omega.{arith}
 use lib.ListN.{length}
 use lib.Ieee.{binary64, add, of_bits}

@@ -1,10 +1,8 @@
 -- `from_first` writes what its definition has: each turn how far one more abscissa lies from the first, behind the others.
 use mathlib.Core.Path.{refl, ◌∙◌}
-use Prim.Native.Nat.{◌-◌}
 use native.Mathlib.Omega.{arith}
-use lib.ListN.{length, length-set}
+use lib.ListN.{length-set}
 use Rattle.math.specs.Revision.{arithmetic}
-use Rattle.model.specs.Layout.{flat}
 use Rattle.geometry.proofs.Lists.Flat.{flat_none, flat-next}
 use Rattle.geometry.proofs.fat_line.Zeros.{from_first_at, from_first_done}
 use Rattle.geometry.proofs.fat_line.from_first.Goals as goal

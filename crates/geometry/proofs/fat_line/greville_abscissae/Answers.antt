@@ -1,12 +1,10 @@
 -- `greville_abscissae` equals its definition: each turn writes the mean of one more window behind the others, by the reciprocal of the degree, which a double holds.
 use mathlib.Core.Path.{ap, ◌∙◌}
 use mathlib.Core.List.{List}
-use Prim.Native.Nat.{◌-◌}
 use native.Mathlib.Omega.{arith}
 use lib.Ieee.{Float, of_bits}
 use Rattle.math.specs.Revision.{arithmetic}
 use Rattle.math.proofs.Laws.{divisor_own}
-use Rattle.model.specs.Layout.{flat}
 use Rattle.model.specs.FatLine.{window, abscissa}
 use Rattle.geometry.proofs.Lists.Flat.{flat_none, flat-next}
 use Rattle.geometry.proofs.fat_line.Zeros.{in_float_degree, mean_is, held_none, held_some}

@@ -1,6 +1,5 @@
 -- `steps` equals its definition. The invariant: what the steps from point i on make of both numbers is what all steps make.
 use mathlib.Core.Path.{refl}
-use Prim.Native.Nat.{◌-◌}
 use native.Mathlib.Omega.{arith}
 use lib.ListN.{length}
 use lib.Ieee.{binary64, add, of_bits}

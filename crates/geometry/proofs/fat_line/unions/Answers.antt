@@ -1,6 +1,6 @@
 -- `unions` equals its definition: each turn takes in one more interval.
 use mathlib.Core.Path.{◌≡◌, ap, ◌∙◌}
-use Prim.Native.Nat.{ℕ, ◌-◌}
+use Prim.Native.Nat.{ℕ}
 use native.Mathlib.Omega.{arith}
 use Rattle.model.specs.Layout.{scalar_at, scalars_of}
 use Rattle.model.specs.Aabb.{unions}

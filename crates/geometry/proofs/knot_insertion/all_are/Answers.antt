@@ -1,7 +1,6 @@
 -- `all_are` equals its definition. Invariant: the answer is that of the knots from i on.
 use mathlib.Core.Path.{refl, sym, ap, ◌∙◌}
 use mathlib.Core.Bool.{not}
-use Prim.Native.Nat.{◌-◌}
 use lib.Ieee.{eq}
 use Rattle.lists.proofs.Fold.{all_done}
 use Rattle.geometry.proofs.knot_insertion.Spans.{all_on, all_off}

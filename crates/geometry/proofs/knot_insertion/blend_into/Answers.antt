@@ -1,5 +1,5 @@
 -- `blend_into` equals its definition: a copy where alpha is 0, nothing where it is 1, and else the point between, in either revision.
-use mathlib.Core.Path.{◌≡◌, sym, ap, ◌∙◌}
+use mathlib.Core.Path.{sym, ap, ◌∙◌}
 use mathlib.Core.List.{List}
 use mathlib.Core.Logic.{inl, inr}
 use lib.Ieee.{Float, of_bits}
@@ -11,7 +11,6 @@ use Rattle.model.specs.Vector.{interpolate_v}
 use Rattle.math.specs.declared.scalars.Scalar.{Scalar}
 use Prim.Native.Nat.{ℕ}
 use Rattle.model.specs.Layout.{flat}
-use Rattle.model.specs.KnotInsertion.{blend}
 use Rattle.geometry.specs.Slots.{vector_at}
 use Rattle.geometry.proofs.knot_insertion.Insert.{blend_zero, blend_one, blend-mid}
 use native.Mathlib.Omega.{arith}

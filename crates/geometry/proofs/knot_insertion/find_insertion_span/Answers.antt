@@ -1,6 +1,5 @@
 -- `find_insertion_span` equals its definition. Invariant: no span from i on holds t.
 use mathlib.Core.Path.{refl, sym, ◌∙◌}
-use Prim.Native.Nat.{◌-◌}
 use Rattle.model.specs.KnotInsertion.{insertion_span}
 use Rattle.geometry.proofs.knot_insertion.Spans.{span_here, span-down, span_none}
 use native.Mathlib.Omega.{arith}

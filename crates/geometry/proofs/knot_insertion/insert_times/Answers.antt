@@ -1,5 +1,4 @@
 -- `insert_times` equals its definition. Invariant: what is left to insert makes of the piece that is there what all of it makes of the first.
-use Prim.Native.Nat.{◌-◌}
 use Rattle.math.specs.Revision.{arithmetic}
 use Rattle.geometry.proofs.knot_insertion.Times.{after_none, after_turn, after_all, span_in_bounds}
 use native.Mathlib.Omega.{arith}

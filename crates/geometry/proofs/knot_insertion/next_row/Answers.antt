@@ -1,6 +1,6 @@
 -- `next_row` equals its definition. Invariant: the points behind number i are points between.
 use mathlib.Core.Path.{◌≡◌, refl, ◌∙◌}
-use Prim.Native.Nat.{suc, ◌-◌}
+use Prim.Native.Nat.{suc}
 use Rattle.math.specs.Revision.{arithmetic}
 use Rattle.geometry.specs.Slots.{between_at}
 use Rattle.geometry.proofs.slots.Counts.{place-within, inside_of}

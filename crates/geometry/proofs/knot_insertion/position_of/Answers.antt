@@ -1,5 +1,4 @@
 -- `position_of` equals its definition. Invariant: none of the first i knots is t.
-use Prim.Native.Nat.{◌-◌}
 use native.Mathlib.Nat.{zero-add}
 use lib.Ieee.{nan, eq}
 use Rattle.lists.specs.Lists.{position}

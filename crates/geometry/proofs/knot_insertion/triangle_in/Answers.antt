@@ -1,6 +1,5 @@
 -- `triangle_in` equals its definition. Invariant: row r is there, behind the first points of the rows before it, and the last points of those stand behind.
 use mathlib.Core.Path.{refl, ◌∙◌}
-use Prim.Native.Nat.{◌-◌}
 use Rattle.math.specs.Revision.{arithmetic}
 use Rattle.geometry.proofs.slots.Counts.{inside_of}
 use Rattle.geometry.proofs.knot_insertion.Triangle.{triangle-start, triangle-copy, triangle-row, triangle_done}

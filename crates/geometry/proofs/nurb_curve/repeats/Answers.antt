@@ -1,8 +1,6 @@
 -- `repeats` equals its definition, and says of intervals of doubles that they are one.
 use mathlib.Core.Path.{sym, ◌∙◌}
-use mathlib.Core.Logic.{⊎_elim}
-use mathlib.Core.Bool.{false≢true}
-use Rattle.geometry.proofs.nurb_curve.Same.{repeats_one, repeats-yes, repeats_first, repeats_second}
+use Rattle.geometry.proofs.nurb_curve.Same.{repeats_one, repeats-yes}
 use Rattle.geometry.proofs.nurb_curve.repeats.Goals as goal
 
 pub returns-then-a-b-2 : goal.returns-then-a-b-2

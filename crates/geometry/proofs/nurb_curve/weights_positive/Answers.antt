@@ -1,5 +1,4 @@
 -- `weights_positive` equals its definition. The invariant: what is left to test answers for the whole.
-use Prim.Native.Nat.{◌-◌}
 use native.Mathlib.Omega.{arith}
 use lib.ListN.{length}
 use lib.Ieee.{of_bits}

@@ -1,10 +1,8 @@
 -- `copy` writes what stood at a. Invariant: the first i words stand at b.
 use mathlib.Core.Path.{refl, sym, ◌∙◌}
-use Prim.Native.Nat.{◌-◌}
 use native.Mathlib.Omega.{arith}
 use lib.Ieee.{nan}
-use lib.ListN.{length, length-set}
-use Rattle.lists.specs.Lists.{put}
+use lib.ListN.{length-set}
 use Rattle.lists.proofs.Put.{put-nil}
 use Rattle.lists.proofs.Loop.{map_turn, copy-slot_done}
 use Rattle.geometry.proofs.slots.copy.Goals as goal

@@ -1,9 +1,8 @@
 -- `copy_up` writes what stood at a, from its end on. Invariant: the words from i on stand at b.
 use mathlib.Core.Path.{refl, ◌∙◌}
-use Prim.Native.Nat.{◌-◌}
 use native.Mathlib.Omega.{arith}
 use lib.Ieee.{nan}
-use lib.ListN.{length, length-set}
+use lib.ListN.{length-set}
 use Rattle.geometry.proofs.Lists.Copies.{up_none, up_turn, up_done}
 use Rattle.geometry.proofs.slots.copy_up.Goals as goal
 

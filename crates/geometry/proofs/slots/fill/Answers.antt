@@ -1,7 +1,7 @@
 -- `fill` writes v so many times. Invariant: the first i words are v.
 use mathlib.Core.Path.{◌≡◌, refl, sym, ap, ◌∙◌}
-use Prim.Native.Nat.{ℕ, ◌-◌}
-use lib.ListN.{length, length-set}
+use Prim.Native.Nat.{ℕ}
+use lib.ListN.{length-set}
 use Rattle.lists.specs.Lists.{put, tab}
 use Rattle.lists.proofs.Tab.{replicate-tab}
 use Rattle.lists.proofs.Put.{put-nil}

@@ -1,6 +1,6 @@
 -- `write` writes all of the source. Invariant: its first i words stand there.
 use mathlib.Core.Path.{◌≡◌, refl, sym, ap, ◌∙◌}
-use Prim.Native.Nat.{ℕ, ◌-◌}
+use Prim.Native.Nat.{ℕ}
 use lib.Ieee.{nan}
 use lib.ListN.{length, get_or, length-set}
 use Rattle.lists.specs.Lists.{put, tab}

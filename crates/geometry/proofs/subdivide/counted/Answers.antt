@@ -1,6 +1,4 @@
 -- `counted` equals its definition: one visit more, the cuts of its outcome, and the deeper of the two depths.
-use Prim.Native.Nat.{◌+◌}
-use native.Mathlib.Numerals.{add-one}
 use native.Mathlib.Omega.{arith}
 use Rattle.geometry.proofs.subdivide.counted.Goals as goal
 

@@ -1,6 +1,5 @@
 -- `interpolate_tight` writes the point between two points. Invariant: its first k intervals are written.
 use mathlib.Core.Path.{◌≡◌, refl, sym, ◌∙◌}
-use Prim.Native.Nat.{◌-◌}
 use Rattle.math.specs.Tight.{tight}
 use Rattle.lists.proofs.Put.{put-nil}
 use Rattle.math.proofs.Laws.{fraction_own, between_own}

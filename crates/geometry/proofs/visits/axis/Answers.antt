@@ -1,12 +1,11 @@
 -- `axis` writes what its definition has: each turn the value of one more point behind the others, and keeps the last weight with its product.
 use mathlib.Core.Path.{refl, sym, ap, ◌∙◌}
-use Prim.Native.Nat.{suc, ◌-◌, ◌*◌, ◌≤◌}
+use Prim.Native.Nat.{suc, ◌*◌, ◌≤◌}
 use native.Mathlib.Nat.{mul-le-mul_left}
 use native.Mathlib.Omega.{arith}
-use lib.ListN.{length, length-set}
+use lib.ListN.{length-set}
 use Rattle.math.specs.Revision.{arithmetic}
 use Rattle.math.specs.declared.scalars.Scalar.{Scalar}
-use Rattle.model.specs.Layout.{flat}
 use Rattle.geometry.proofs.Lists.Flat.{flat_none, flat-next}
 use Rattle.geometry.proofs.nurb_curve.Points.{coordinate_is}
 use Rattle.geometry.proofs.visits.Clips.{axis_at_lem, axis_at, axis_done}

@@ -1,8 +1,8 @@
 -- `clip` equals its definition: what is left to clip from axis k on is what was to clip from the start.
 use mathlib.Core.Path.{ap, ◌∙◌}
-use Prim.Native.Nat.{suc, ◌-◌}
+use Prim.Native.Nat.{suc}
 use native.Mathlib.Omega.{arith}
-use lib.ListN.{length, length-replicate}
+use lib.ListN.{length-replicate}
 use lib.Ieee.{binary64, of_bits}
 use Rattle.math.specs.Scalars.{union_s}
 use Rattle.math.specs.Revision.{arithmetic}

@@ -1,6 +1,5 @@
 -- `fat_line_zeros` equals its definition: where the lists are no polygon nothing is known, and else each turn takes in one point more.
-use Rattle.std.proofs.Common.{◌≡◌, sym, ◌∙◌, arith, true, false, length, ◌<◌, ◌≤◌}
-use Rattle.math.specs.Revision.{arithmetic}
+use Rattle.std.proofs.Common.{sym, ◌∙◌, arith, true, false, length}
 use Rattle.geometry.proofs.zeros.Polygon.{zeros-found, is_pair, no_polygon, a_polygon, as_many, not-empty, line_first, line_turn, line_done}
 use Rattle.geometry.proofs.zeros.fat_line_zeros.Goals as goal
 

@@ -1,5 +1,5 @@
 -- `root::by_digits` meets its contract. The invariant is the record `Turn` of root/Turns.antt, and the measure is what is left of the 53 turns.
-use Prim.Native.Nat.{ℕ, ◌-◌}
+use Prim.Native.Nat.{ℕ}
 use native.Mathlib.Omega.{arith}
 use mathlib.Core.Path.{◌≡◌, subst}
 use Rattle.math.proofs.root.Turns.{Turn, start, small, more, less, done, at}

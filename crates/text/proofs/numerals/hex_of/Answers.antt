@@ -1,9 +1,9 @@
 -- `hex_of` gives the number that the digits are. Invariant: v is the number that the first i are.
 use mathlib.Core.Path.{◌≡◌, ap, ◌∙◌}
-use Prim.Native.Nat.{ℕ, ◌-◌, ◌≤◌, ◌<◌}
+use Prim.Native.Nat.{ℕ, ◌≤◌, ◌<◌}
 use native.Mathlib.Omega.{arith}
 use Rattle.lists.specs.Lists.{part}
-use Rattle.text.specs.Numerals.{nibble, hex_of}
+use Rattle.text.specs.Numerals.{hex_of}
 use Rattle.text.proofs.numerals.Base.{known_none, known_turn, known_most}
 use Rattle.text.proofs.numerals.Hexadecimal.{hex_known}
 use Rattle.text.proofs.numerals.hex_of.Goals as goal

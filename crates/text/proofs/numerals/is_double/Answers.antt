@@ -1,7 +1,6 @@
 -- `is_double` equals its definition. Invariant: the digits that are left answer for all sixteen.
 use mathlib.Core.Path.{refl}
 use mathlib.Core.Bool.{false}
-use Prim.Native.Nat.{◌-◌}
 use native.Mathlib.Omega.{arith}
 use Rattle.math.proofs.Bools.{yes}
 use Rattle.text.proofs.numerals.Hexadecimal.{double-short, walk-stop, walk-keep, walk_end}

@@ -1,5 +1,4 @@
 -- `decimal_length` counts the digits. Invariant: l - 1 of them are counted, and those of the rest are still to count.
-use Prim.Native.Nat.{◌-◌}
 use Rattle.text.proofs.print.Writing.{length_turn, length_one, length-full}
 use native.Mathlib.Omega.{arith}
 use Rattle.text.proofs.print.decimal_length.Goals as goal

@@ -2,7 +2,7 @@
 -- Invariant: those from place i on stand there, and the others are the last i of the rest.
 use mathlib.Core.Path.{refl}
 use native.Mathlib.Nat.{mod-lt}
-use lib.ListN.{length, length-set}
+use lib.ListN.{length-set}
 use Rattle.text.proofs.print.Writing.{digits_none, digits_turn, digits_done}
 use native.Mathlib.Omega.{arith}
 use Rattle.text.proofs.print.put_digits.Goals as goal

@@ -1,6 +1,6 @@
 -- `put_word` writes the word. Invariant: its first i bytes stand there.
 use mathlib.Core.Path.{◌≡◌, refl, sym, ap, ◌∙◌}
-use Prim.Native.Nat.{ℕ, ◌+◌, ◌-◌}
+use Prim.Native.Nat.{ℕ, ◌+◌}
 use lib.ListN.{length, get_or, length-set}
 use Rattle.lists.specs.Lists.{put, tab}
 use Rattle.lists.proofs.Tab.{tab-whole}

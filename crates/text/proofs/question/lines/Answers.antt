@@ -1,7 +1,7 @@
 -- `lines` reads k lines of n doubles each.
 -- Invariant: the first i lines were read and written, the others are read from p on.
 use mathlib.Core.Path.{refl, ◌∙◌}
-use Prim.Native.Nat.{◌+◌, ◌*◌, ◌-◌, ◌≤◌}
+use Prim.Native.Nat.{◌+◌, ◌*◌, ◌≤◌}
 use native.Mathlib.Omega.{arith}
 use Rattle.text.proofs.question.Doubles.{row_in, lines_begin, lines-stop, lines_turn, lines_end}
 use Rattle.text.proofs.question.lines.Goals as goal

@@ -1,8 +1,7 @@
 -- `values` reads n doubles. Invariant: the first i were read and written, the others are read from k on.
 use mathlib.Core.Path.{refl, subst}
-use Prim.Native.Nat.{◌-◌}
 use native.Mathlib.Omega.{arith}
-use lib.ListN.{length, length-set}
+use lib.ListN.{length-set}
 use Rattle.text.specs.Cursor.{ValueRead}
 use Rattle.text.proofs.question.Doubles.{values_begin, values-stop, values_turn, values_end}
 use Rattle.text.proofs.question.values.Goals as goal

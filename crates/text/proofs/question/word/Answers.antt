@@ -1,9 +1,7 @@
 -- `word` reads a word. Invariant: what is left of it, from byte i on, is read as the whole.
 use mathlib.Core.Path.{◌∙◌}
-use Prim.Native.Nat.{◌-◌}
 use native.Mathlib.Omega.{arith}
-use lib.ListN.{length, drop, length-drop}
-use Rattle.text.specs.Bytes.{word}
+use lib.ListN.{drop, length-drop}
 use Rattle.text.proofs.question.Words.{word-short, word-begins, word_turn, word-off, word_done}
 use Rattle.text.proofs.question.word.Goals as goal
 

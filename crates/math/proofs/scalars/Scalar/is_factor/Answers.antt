@@ -1,7 +1,7 @@
 -- `is_factor` equals its definition: of each two tests the second where the first passed, and else the first.
 use mathlib.Core.Path.{◌≡◌, sym, ◌∙◌}
-use mathlib.Core.Bool.{Bool, ◌&&◌}
-use lib.Ieee.{Float, lt, le, of_bits, nan_bits}
+use mathlib.Core.Bool.{◌&&◌}
+use lib.Ieee.{lt, le, of_bits, nan_bits}
 use Rattle.math.specs.Scalars.{zero_f}
 use Rattle.math.proofs.Bools.{and_yes, and_no}
 use Rattle.math.proofs.scalars.Scalar.is_factor.Goals as goal
