@@ -3,25 +3,20 @@
 #![tactic(auto)]
 
 use input::read_input;
+use std::io;
 use text::respond::respond;
 
-fn main() {
+fn main(rt: HostRuntime) -> io::Result<()> {
     let mut question = [0u8; 65537];
     let mut lines = [0u8; 192];
-    let input = read_input(&mut question);
+    let input = read_input(&rt, &mut question);
     if input.failed {
-        io::write_all(
-            libc::STDERR_FILENO,
-            b"gripcheck: the question could not be read\n",
-        );
-        return;
+        return eprintln!(rt; "gripcheck: the question could not be read");
     }
     let n = input.bytes;
     let k = respond(&question[..n], &mut lines);
-    if !io::write_all(libc::STDOUT_FILENO, &lines[..k]) {
-        io::write_all(
-            libc::STDERR_FILENO,
-            b"gripcheck: the answer could not be written\n",
-        );
+    if rt.write_all(&lines[..k]).is_err() {
+        return eprintln!(rt; "gripcheck: the answer could not be written");
     }
+    Ok(())
 }

@@ -6,44 +6,37 @@
 ghost use Rattle.text.specs.Form.{Within};
 
 use input::read_input;
+use std::io;
 use text::rewrite::{Rewritten, rewrite};
 
 // Says on standard error by which number the text is refused.
-fn say_refused(number: u64) {
-    io::write_all(libc::STDERR_FILENO, b"griptext: refused-");
-    io::print_decimal(libc::STDERR_FILENO, number);
-    io::write_all(libc::STDERR_FILENO, b"\n");
+fn say_refused(rt: &impl Eprint, number: u64) -> io::Result<()> {
+    eprintln!(rt; "griptext: refused-{number}")
 }
 
 // Prints what the writer gave, which stands at the front of `form`.
-fn print(form: &[u8], given: Rewritten)
+fn print(rt: &(impl Print + Eprint), form: &[u8], given: Rewritten) -> io::Result<()>
     requires { Within given form.now }
 {
     match given {
-        Rewritten::Refused(number) => say_refused(number),
+        Rewritten::Refused(number) => say_refused(rt, number),
         Rewritten::Bytes(n) => {
-            if !io::write_all(libc::STDOUT_FILENO, &form[..n]) {
-                io::write_all(
-                    libc::STDERR_FILENO,
-                    b"griptext: the form could not be written\n",
-                );
+            if rt.write_all(&form[..n]).is_err() {
+                return eprintln!(rt; "griptext: the form could not be written");
             }
+            Ok(())
         }
     }
 }
 
-fn main() {
+fn main(rt: HostRuntime) -> io::Result<()> {
     let mut text = [0u8; 65537];
     let mut form = [0u8; 5405];
-    let input = read_input(&mut text);
+    let input = read_input(&rt, &mut text);
     if input.failed {
-        io::write_all(
-            libc::STDERR_FILENO,
-            b"griptext: the text could not be read\n",
-        );
-        return;
+        return eprintln!(rt; "griptext: the text could not be read");
     }
     let n = input.bytes;
     let given = rewrite(&text[..n], &mut form);
-    print(&form, given);
+    print(&rt, &form, given)
 }

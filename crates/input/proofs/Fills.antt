@@ -1,49 +1,24 @@
 -- A write to a slice fills a part of it, and parts that are filled one behind the other are one. Assumes nothing.
-use Prim.Native.Nat.{ℕ, zero, ◌+◌, ◌-◌, ◌≤◌}
-use mathlib.Core.Path.{◌≡◌, refl, sym, ap, ◌∙◌}
-use mathlib.Core.List.{List, ◌++◌, append_assoc}
-use native.Mathlib.Omega.{arith}
-use lib.ListN.{length, take, drop, length-drop, take-append-drop}
-use lib.Seq.{drop-drop, drop-append-le, length-take-le, take-length}
-use borrow.Rule.Slice.PartMut.{put_mid}
-use Rattle.lists.specs.Lists.{put}
-use Rattle.lists.proofs.Put.{length-put}
-use Rattle.lists.proofs.Read.{take_put, drop-put}
+use Rattle.std.proofs.Common.{ℕ, ◌≡◌, ◌+◌, ◌-◌, ◌≤◌, List, ◌++◌, Option, length, take, drop, refl, sym, ap, subst, ◌∙◌, arith, take-append-drop}
+use Rattle.std.proofs.lemmas.Slice.{take-put_mid_below, drop-put_mid, between_is}
+use Rattle.std.proofs.KnownBytes.{Consumes-trans}
+use Rattle.std.specs.Io.KnownBytes.{Consumes}
+use Rattle.std.specs.List.{between}
+use borrow.Rule.Slice.PartMut.{put_mid, mid_of, same_len_mid, mid_len}
+use lib.Seq.{drop-drop, take-take}
 use Rattle.input.specs.Filled.{Filled}
 
--- Nothing was written yet.
-pub filled_none : (l : List ℕ) → Filled l l 0 0
-filled_none l = record { from = omega arith; upto = omega arith; length = refl; front = refl; back = refl }
-
--- The bytes ws were copied to the front of what lies from number a on: that is a write at number a.
-copied-put : (l ws y : List ℕ) (a : ℕ) → a + length ws ≤ length l
-    → y ≡ take (length ws) ws ++ drop (length ws) (take (length l - a) (drop a l)) → put_mid a (length l - a) l y ≡ put l a ws
-unfolding put
-copied-put l ws y a h e =
-    let n = length ws in
-    let k = length l - a in
-    let rest = drop a l in
-    let long : length (take k rest) ≡ k = length-take-le k rest (simp length-drop (omega arith)) in
-    let behind : drop n (take k rest) ++ drop k rest ≡ drop (a + n) l =
-    sym (drop-append-le n (take k rest) (drop k rest) (omega (arith, long, h))) ∙ ap (drop n) (take-append-drop k rest) ∙ drop-drop n a l in
-    ap (λ (z : List ℕ). take a l ++ (z ++ drop k rest)) e
-    ∙ ap (λ (z : List ℕ). take a l ++ z) (append_assoc (take n ws) (drop n (take k rest)) (drop k rest))
-    ∙ (λ i. take a l ++ (take-length ws i ++ behind i))
-
--- The bytes ws were written from number a on, and end in front of number n.
-filled_put : (l m ws : List ℕ) (a n : ℕ) → m ≡ put l a ws → n ≡ a + length ws → a + length ws ≤ length l → Filled l m a n
-filled_put l m ws a n e f h = record {
-  from = omega arith;
-  upto = rw e (omega (arith, length-put l a ws h));
-  length = rw e (length-put l a ws h);
-  front = rw e (take_put l a ws a (omega arith) (omega arith));
-  back = rw (e, f) (drop-put l a ws (a + length ws) (omega arith) h);
-}
-
--- They were copied there, and end in front of number n.
-pub filled-copied : (l ws y : List ℕ) (a n : ℕ) → y ≡ take (length ws) ws ++ drop (length ws) (take (length l - a) (drop a l))
-    → n ≡ a + length ws → a + length ws ≤ length l → Filled l (put_mid a (length l - a) l y) a n
-filled-copied l ws y a n e f h = filled_put l (put_mid a (length l - a) l y) ws a n (copied-put l ws y a h e) f h
+-- The part of l from number a on and up to number n holds y now.
+pub filled_part : (l y : List ℕ) (a n : ℕ) → a ≤ n → n ≤ length l → length y ≡ length (mid_of a (n - a) l) → Filled l (put_mid a (n - a) l y) a n
+filled_part l y a n f h p =
+    let same : length (put_mid a (n - a) l y) ≡ length l = same_len_mid a (n - a) l y p in
+    record {
+      from = f;
+      upto = omega (arith, same);
+      length = same;
+      front = take-put_mid_below a (n - a) l y a (omega arith) (omega arith);
+      back = drop-put_mid a (n - a) l y n (omega arith) (omega arith) (p ∙ mid_len a n l h);
+    }
 
 -- What lies behind number n lies behind number a, where a is at most n.
 drop_more : (l m : List ℕ) (a n : ℕ) → a ≤ n → drop a l ≡ drop a m → drop n l ≡ drop n m
@@ -60,3 +35,11 @@ filled_on l m o a n f g = record {
   front = refl;
   back = g.back ∙ drop_more m l a n g.from f.back;
 }
+
+-- What was read to the front as far as number a, and what was read from there on, is what was read to the front.
+pub consumed_on : (r s t : Option (List ℕ)) (l m : List ℕ) (a n : ℕ) → Filled l m a n
+    → Consumes r s (take a l) → Consumes s t (between a n m) → Consumes r t (take n m)
+consumed_on r s t l m a n f p q =
+    let joined : take a l ++ between a n m ≡ take n m =
+    rw (← f.front, between_is m a n, ← take-take a n m f.from) (take-append-drop a (take n m)) in
+    subst (Consumes r t) joined (Consumes-trans r s t (take a l) (between a n m) p q)

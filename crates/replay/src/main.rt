@@ -1,65 +1,73 @@
 // Answers the questions in the files whose names are its arguments: texts one behind the other, a byte 0 behind each. It prints the answers in that order.
 #![tactic(auto)]
 
-ghost use Rattle.std.specs.Prelude.{◌≤◌, length};
+ghost use Rattle.std.specs.Prelude.{◌≡◌, ◌≢◌, ℕ, ◌+◌, ◌-◌, ◌<◌, ◌≤◌, length, slice_index};
 
+use input::read_from;
+use std::rt::Files;
+use std::{env, fs, io};
 use text::respond::respond;
 
 // Where the text from `at` on ends: at the next byte 0, or else at the end.
 fn end_of(texts: &[u8], at: usize) -> usize
     requires { at ≤ length texts.now }
-    ensures { (at ≤ result) × (result ≤ length texts.now) }
+    ensures within { (at ≤ result) × (result ≤ length texts.now) }
+    ensures before { (k : ℕ) → k < result - at → slice_index texts.now (at + k) ≢ 0 }
+    ensures found { result < length texts.now → slice_index texts.now result ≡ 0 }
 {
-    let mut i = at;
-    while i < texts.len() {
-        if texts[i] == 0 {
-            return i;
-        }
-        i += 1;
+    match texts[at..].iter().position(|byte| *byte == 0) {
+        Some(n) => at + n,
+        None => texts.len(),
     }
-    i
 }
 
 // The answer to one text.
-fn one(text: &[u8]) {
+fn one(rt: &impl Print, text: &[u8]) -> io::Result<()> {
     let mut lines = [0u8; 192];
     let k = respond(text, &mut lines);
-    io::write_all(1, &lines[..k]);
+    rt.write_all(&lines[..k])
 }
 
 // The answers to the texts of one file.
-fn all(texts: &[u8]) {
+fn all(rt: &impl Print, texts: &[u8]) -> io::Result<()> {
     let mut at = 0;
     while at < texts.len() {
         let end = end_of(texts, at);
-        one(&texts[at..end]);
+        one(rt, &texts[at..end])?;
         at = end + 1;
     }
+    Ok(())
 }
 
-// The answers to the file that argument number i names.
-fn file(i: usize) {
-    let mut path = io::buffer();
-    let length = os::arg(i, &mut path);
-    if os::errno() != 0 {
-        return;
+// An error's words, without the system's number behind them.
+fn words(error: &str) -> &str {
+    match error.split_once(" (os error ") {
+        Some((words, _)) => words,
+        None => error,
     }
-    let fd = os::open_read(&path[..length]);
-    if fd < 0 {
-        os::fail(&path[..length]);
-        return;
-    }
+}
+
+// Says on standard error that the file of this name could not be opened, and why.
+fn fail(rt: &(impl Eprint + AllocGlobal), path: &str, error: io::Error) -> io::Result<()> {
+    let text = format!(in rt.alloc(); "{error}")?;
+    let words = words(text.as_str());
+    eprintln!(rt; "{path}: {words}")
+}
+
+// The answers to the texts of the file of this name. At most 65,536 bytes of it are read, and fewer where a read fails.
+fn file(rt: &(impl Files + Print + Eprint + AllocGlobal), path: &str) -> io::Result<()> {
+    let mut file = match fs::open(rt, path) {
+        Ok(file) => file,
+        Err(error) => return fail(rt, path, error),
+    };
     let mut texts = [0u8; 65536];
-    let n = io::read_full(fd, &mut texts);
-    libc::close(fd);
-    all(&texts[..n]);
+    let n = read_from(&mut file, &mut texts).bytes;
+    all(rt, &texts[..n])
 }
 
-fn main() {
-    let n = os::arg_count();
-    let mut i = 1;
-    while i < n {
-        file(i);
-        i += 1;
+fn main(rt: HostRuntime) -> io::Result<()> {
+    for path in env::args(&rt)?.skip(1) {
+        file(&rt, path.as_str())?;
     }
+    Ok(())
 }
