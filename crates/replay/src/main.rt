@@ -54,8 +54,12 @@ fn fail(rt: &(impl Eprint + AllocGlobal), path: &str, error: io::Error) -> io::R
     eprintln!(rt; "{path}: {words}")
 }
 
-// The answers to the texts of the file of this name. At most 65,536 bytes of it are read, and fewer where a read fails.
+// The answers to the texts of the file of this name. At most 65,536 bytes of it are read, and fewer where a read fails. A name
+// of more than 4,096 bytes is passed over.
 fn file(rt: &(impl Files + Print + Eprint + AllocGlobal), path: &str) -> io::Result<()> {
+    if path.len() > 4096 {
+        return Ok(());
+    }
     let mut file = match fs::open(rt, path) {
         Ok(file) => file,
         Err(error) => return fail(rt, path, error),
