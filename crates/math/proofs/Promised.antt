@@ -1,6 +1,6 @@
 -- Each law that specs/Laws.antt states, from where it is proved, so that the checker holds the statement to the law. Assumes nothing.
 use mathlib.Core.Logic.{◌↔◌}
-use Rattle.math.specs.Laws.{DoubleLaws, PickLaws, IntervalLaws, RevisionLaws, SqrtLaws, TestLaws}
+use Rattle.math.specs.Laws.{DoubleLaws, ReadingLaws, PickLaws, IntervalLaws, RevisionLaws, SqrtLaws, TestLaws}
 use Rattle.math.specs.Laws as S
 use Rattle.math.specs.Bounds.{widen_b, difference_b, join_b, pick_b, over_b}
 use Rattle.math.specs.declared.bounds.Bounds.{Bounds}
@@ -27,16 +27,17 @@ doubles = record {
   lt→le_f = lt→le_f;
   lt_not_le = lt_not_le;
   eq→value = eq→value;
-  le→value = le→value;
   value→eq = value→eq;
   unique = unique;
-  reading = reading;
   ne_nan = ne_nan;
   no_nan = no_nan;
   square_nonneg = square_nonneg;
   add_number = add_number;
   add_grows = add_grows;
 }
+
+pub readings : ReadingLaws
+readings = record { le→value = le→value; reading = reading }
 
 pub picks : PickLaws
 picks = record { max_either = max_either; max_left = max_left; max_second = max_second }

@@ -51,17 +51,12 @@ pub record DoubleLaws : Type 0 where
   -- two that count as equal are one number
   pub eq→value : (s : Bool) (m : ℕ) (e : ℤ) (t : Bool) (n : ℕ) (d : ℤ)
       → T (eq (fin s m e) (fin t n d)) → value (fin s m e) ≡ value (fin t n d)
-  -- one that is at most another is a number that is at most the other's
-  pub le→value : (s : Bool) (m : ℕ) (e : ℤ) (t : Bool) (n : ℕ) (d : ℤ)
-      → T (le (fin s m e) (fin t n d)) → value (fin s m e) ≤ℚ value (fin t n d)
   -- two that are one number count as equal
   pub value→eq : (s : Bool) (m : ℕ) (e : ℤ) (t : Bool) (n : ℕ) (d : ℤ)
       → value (fin s m e) ≡ value (fin t n d) → T (eq (fin s m e) (fin t n d))
   -- two of one sign and one size that a format holds are written alike (the sizes are m * 2 ^ e and n * 2 ^ d, and 2 ^ e is up e / down e)
   pub unique : (f : Format) (s : Bool) (m : ℕ) (e : ℤ) (n : ℕ) (d : ℤ) → T (fits f (fin s m e)) → T (fits f (fin s n d))
       → m * up e * down d ≡ n * up d * down e → fin s m e ≡ fin s n d
-  -- the bit pattern of one that is a double says its sign and its size
-  pub reading : (s : Bool) (m : ℕ) (e : ℤ) → T (fits binary64 (fin s m e)) → Reading s m e
   -- ---- a NaN
   -- what differs from itself is a NaN
   pub ne_nan : (x : Float) → ne x x ≡ true → is_nan x ≡ true
@@ -75,6 +70,14 @@ pub record DoubleLaws : Type 0 where
   -- the sum, rounded, of two doubles that are not below zero is at least each of them
   pub add_grows : (a b : Float) → T (fits binary64 a) → T (fits binary64 b) → T (le zero_f a) → T (le zero_f b)
       → T (le a (add binary64 a b)) × T (le b (add binary64 a b))
+
+-- of finite doubles: the order of their numbers, and what their bit patterns say
+pub record ReadingLaws : Type 0 where
+  -- one that is at most another is a number that is at most the other's
+  pub le→value : (s : Bool) (m : ℕ) (e : ℤ) (t : Bool) (n : ℕ) (d : ℤ)
+      → T (le (fin s m e) (fin t n d)) → value (fin s m e) ≤ℚ value (fin t n d)
+  -- the bit pattern of one that is a double says its sign and its size
+  pub reading : (s : Bool) (m : ℕ) (e : ℤ) → T (fits binary64 (fin s m e)) → Reading s m e
 
 -- ---- picks
 

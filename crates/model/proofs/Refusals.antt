@@ -19,7 +19,7 @@ use Rattle.model.specs.Layout.{slot_words, area_words}
 use Rattle.model.specs.Call.{Call, curve_of, or_else, first_failed, revision_fits, dim_fits, degree_fits, count_fits, lengths_fit, numbers_usable, bounds_ordered, weights_fit, knots_fit, nodes_fit, area_fits, stated, stated_words, revision_refusal, sizes_refusal, curve_refusal, question_refusal, refusal, searched_by, searched, question, as_piece}
 use Rattle.model.specs.Paper.{Result, None-found, enclosed, spent, refused, paper}
 use Rattle.model.specs.Enclosure.{OnlyWeights}
-use Rattle.model.specs.Refusals.{question_of, Enough, with_words, OfQuestion, Refusals, Rooms}
+use Rattle.model.specs.Refusals.{question_of, Enough, with_words, OfQuestion, Refusals, AnyRefusals, Rooms}
 use Rattle.model.specs.declared.contains.Found.{Found}
 use Rattle.model.specs.declared.contains.Found.TheVariants.{Nothing, Enclosed, Spent, Refused}
 use Rattle.model.proofs.Checks.{pass, fail, none_left, else_left, else_taken, question-passes, question-sizes, small-sizes, stated-words}
@@ -172,7 +172,10 @@ module _ (ar : Arithmetic) where
 
 -- WHO REFUSES BY WHICH NUMBER
 pub refusals : (ar : Arithmetic) → Refusals ar
-refusals ar = record { search = search_number ar; question = question_number; long = same_refusal; numbers = answer_number ar; areas = same_answer ar; or_ten = same_or_ten ar; any = any_number ar }
+refusals ar = record { search = search_number ar; question = question_number; long = same_refusal; numbers = answer_number ar; areas = same_answer ar; or_ten = same_or_ten ar }
+
+pub any-refusals : (ar : Arithmetic) → AnyRefusals ar
+any-refusals ar = record { any = any_number ar }
 
 -- ---- for how many sizes an area is long enough
 

@@ -41,7 +41,10 @@ pub record Refusals (ar : Arithmetic) : Type 0 where
   pub areas : (c : Call) (words : ℕ) → Enough c c.work_len → Enough c words → searched ar (with_words c words) ≡ searched ar c
   -- with one that is not it is the same, too, or it is 10.
   pub or_ten : (c : Call) (words : ℕ) → Enough c c.work_len → (searched ar (with_words c words) ≡ searched ar c) ⊎ (searched ar (with_words c words) ≡ Refused 10 0 0 0)
-  -- Whatever area is lent, no other number comes than 16, 1 to 9, 10 and 11.
+
+-- Who refuses by which number, whatever area is lent.
+pub record AnyRefusals (ar : Arithmetic) : Type 0 where
+  -- No other number comes than 16, 1 to 9, 10 and 11.
   pub any : (c : Call) (n : ℕ) → (paper (searched ar c)).result ≡ refused n → OfQuestion n ⊎ ((n ≡ 10) ⊎ (n ≡ 11))
 
 -- An area that is long enough in space, for this degree, count and nodes, is so for every call with no more of them, whatever its dim is.
