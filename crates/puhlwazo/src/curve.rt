@@ -10,7 +10,7 @@ use geometry::contains::curve_could_contain;
 
 // `curve_could_contain` of crates/geometry, with its answer in lent memory: the result is the number of the refusal or 0,
 // `counts` the kind of the answer, visited, pending, cuts and depth, `bounds` lo and hi.
-// of-number, of_counts and of_bounds say what is given out, to the last word. answers: read back as an answer, it keeps
+// of_number, of_counts and of_bounds say what is given out, to the last word. answers: read back as an answer, it keeps
 // the promises of that function, each a field of `Answers`.
 // Nothing is asked of the caller but what the types say.
 pub fn puhlwazo_curve_could_contain(

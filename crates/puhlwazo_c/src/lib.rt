@@ -12,7 +12,7 @@ use puhlwazo::{curve, short_arm};
 
 // `curve_could_contain` of crates/geometry, with its answer in lent memory: the result is the number of the refusal or 0,
 // `counts` the kind of the answer, visited, pending, cuts and depth, `bounds` lo and hi.
-// of-number, of_counts and of_bounds say what is given out, to the last word. answers: read back as an answer, it keeps
+// of_number, of_counts and of_bounds say what is given out, to the last word. answers: read back as an answer, it keeps
 // the promises of that function, each a field of `Answers`.
 // Nothing is asked of the caller but what the types say.
 #[unsafe(no_mangle)]
