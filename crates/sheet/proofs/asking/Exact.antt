@@ -10,7 +10,7 @@ use lib.ListN.{length}
 use lib.IntN.{ℤ, pos}
 use lib.Dec.{T}
 use lib.Pow.{pow_pos}
-use lib.Ieee.{fin, binary64, fits, to_bits, le}
+use lib.Ieee.{fin, binary64, to_bits, le}
 use Rattle.solver.proofs.Ring.{by_rep, by_eq, read}
 use Rattle.exact.specs.Rational.{ℚ, 0ℚ, 1ℚ, ◌+ℚ◌, -ℚ◌, ◌-ℚ◌, ◌÷◌, signed, ◌≤ℚ◌, nn_of}
 use Rattle.exact.proofs.Field.{ℚring}

@@ -1,8 +1,8 @@
 -- `add_at` adds. The invariant: what the bytes are, and what is left to add from byte i on, make up the sum.
-use Prim.Native.Nat.{ℕ, ◌+◌, ◌-◌, ◌*◌, ◌/◌, ◌%◌, ◌^◌}
+use Prim.Native.Nat.{ℕ, ◌+◌, ◌*◌, ◌/◌, ◌%◌, ◌^◌}
 use native.Mathlib.Omega.{arith}
 use mathlib.Core.Path.{refl, ap, ◌∙◌}
-use lib.ListN.{length, set, length-set}
+use lib.ListN.{set, length-set}
 use Rattle.sheet.specs.Sum.{number}
 use Rattle.sheet.proofs.sum.Numbers.{sum_turn, added}
 use Rattle.sheet.proofs.sum.add_at.Goals as goal

@@ -2,7 +2,7 @@
 use Prim.Native.Nat.{ℕ, ◌+◌, ◌-◌, ◌*◌, ◌/◌, ◌%◌, ◌^◌}
 use native.Mathlib.Omega.{arith}
 use mathlib.Core.Path.{refl, sym, ap, ◌∙◌}
-use lib.ListN.{length, set, length-set}
+use lib.ListN.{set, length-set}
 use Rattle.sheet.specs.Sum.{number}
 use Rattle.sheet.proofs.sum.Numbers.{rest_turn, taken}
 use Rattle.sheet.proofs.sum.take_at.Goals as goal
