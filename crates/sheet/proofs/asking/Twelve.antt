@@ -12,7 +12,7 @@ use Rattle.model.specs.Paper.{paper}
 use Rattle.model.specs.Refusals.{OfQuestion}
 use Rattle.model.specs.declared.contains.Found.{Found}
 use Rattle.model.specs.declared.contains.Found.TheVariants.{Nothing, Enclosed, Spent, Refused}
-use Rattle.model.proofs.Refusals.{refusals}
+use Rattle.model.proofs.Refusals.{any-refusals}
 use Rattle.text.specs.Question.{Reading, refused_by, asks, call_of, reading}
 use Rattle.text.specs.Respond.{AnswersReading}
 use Rattle.sheet.specs.Sheet.{NoQuestion, is_twelve}
@@ -34,7 +34,7 @@ search-not-twelve c (Nothing v k d) e t = t
 search-not-twelve c (Enclosed lo hi v k d) e t = t
 search-not-twelve c (Spent n v k d) e t = t
 search-not-twelve c (Refused n v k d) e t =
-    let number : OfSearch n = (refusals (arithmetic_of c)).any c n (sym (ap (λ (r : Found). (paper r).result) e)) in
+    let number : OfSearch n = (any-refusals (arithmetic_of c)).any c n (sym (ap (λ (r : Found). (paper r).result) e)) in
     not-of-search (subst OfSearch (eqb→eq n 12 t) number)
 
 -- an answer that is refused by 12 is that to a text that is no question
