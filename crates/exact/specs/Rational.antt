@@ -5,11 +5,12 @@ use Rattle.std.proofs.Common.{sym, ◌∙◌, ap}
 use Rattle.std.proofs.Math.Bool.{Bool-set}
 use Rattle.std.proofs.Math.Dec.{T_prop}
 use Rattle.std.specs.Float.Ieee.{up, down}
-use std.Quotient.{◌/◌ as Quotient, cls, eq/, /_set, /_rec, /_rec₂, /_map}
+use std.Quotient as Quotient
+use std.Quotient.{cls, eq/, /_set, /_rec, /_rec₂, /_map}
 use Rattle.exact.specs.Fraction.{Frac, ◌~◌, add_f, add_f_l, add_f_r, mul_f, mul_f_l, mul_f_r, neg_f, neg_f_~, is_pos, is_pos_mul, inv_n, inv_n_~}
 
 unfoldable pub ℚ : Type 0
-ℚ = Quotient Frac ◌~◌
+ℚ = Quotient.◌/◌ Frac ◌~◌
 
 -- the number that a fraction is
 unfoldable pub mk : Frac → ℚ
