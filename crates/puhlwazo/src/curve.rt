@@ -10,11 +10,10 @@ use geometry::contains::curve_could_contain;
 
 // `curve_could_contain` of crates/geometry, with its answer in lent memory: the result is the number of the refusal or 0,
 // `counts` the kind of the answer, visited, pending, cuts and depth, `bounds` lo and hi.
-// of-number, of_counts and of_bounds say what is given out, to the last word. answers: read back as an answer, it keeps
+// of_number, of_counts and of_bounds say what is given out, to the last word. answers: read back as an answer, it keeps
 // the promises of that function, each a field of `Answers`.
 // Nothing is asked of the caller but what the types say.
-#[unsafe(no_mangle)]
-pub extern "C" fn puhlwazo_curve_could_contain(
+pub fn puhlwazo_curve_could_contain(
     rev: usize,
     dim: usize,
     degree: usize,
@@ -42,13 +41,7 @@ pub extern "C" fn puhlwazo_curve_could_contain(
 }
 
 // How many words of work area a call with these sizes needs, and 0 exactly for sizes that 1, 2, 3 or 9 refuse.
-#[unsafe(no_mangle)]
-pub extern "C" fn puhlwazo_work_words(
-    dim: usize,
-    degree: usize,
-    count: usize,
-    nodes: usize,
-) -> usize
+pub fn puhlwazo_work_words(dim: usize, degree: usize, count: usize, nodes: usize) -> usize
     ensures { result ≡ stated_words dim degree count nodes }
 {
     stated_words(dim, degree, count, nodes)

@@ -9,8 +9,7 @@ use cart::cart_could_contain;
 // `cart_could_contain` of crates/cart, with its answer in lent memory as `puhlwazo_curve_could_contain` has it; no work
 // area is lent. answers: read back, it keeps the promises of that function, each a field of `CartAnswers`.
 // Nothing is asked of the caller but what the types say.
-#[unsafe(no_mangle)]
-pub extern "C" fn puhlwazo_cart_could_contain(
+pub fn puhlwazo_cart_could_contain(
     rev: usize,
     dim: usize,
     degree: usize,
