@@ -73,36 +73,41 @@ build_rust() {
 # ---- the port
 
 port=()
-# copy_crates FOLDER: a copy of the crates, for a comparison to add what it calls. What was proved in it before, and is as it was, is not proved again.
+# copy_crates NAME: a copy of the crates, for a comparison to add what it calls, in the folder `copy`. What was proved in it before, and is as it was, is not
+# proved again: what rt keeps of that, in the crates' folders out, stays. It lies outside the repository, where rt ci refuses any source that no crate has.
 copy_crates() {
-    copy=$1
-    rm -rf "$copy/crates"
-    mkdir -p "$copy"
-    cp -R "$root/crates" "$root/crates.txt" "$copy"
+    local part to
+    copy=${TMPDIR:-/tmp}/puhlwazo-oracle-$UID/$1
+    mkdir -p "$copy/crates"
+    find "$copy/crates" -mindepth 2 -maxdepth 2 ! -name out -exec rm -rf {} +
+    for part in "$root"/crates/*/*; do
+        to=$copy/${part#"$root"/}
+        [ "${part##*/}" = out ] || { mkdir -p "${to%/*}"; cp -R "$part" "$to"; }
+    done
+    cp "$root/crates.txt" "$copy"
 }
-# add_crate NAME DEPENDENCIES SOURCE FILE: one more crate in the copy; SOURCE is its file src/FILE.
+# add_crate NAME DEPENDENCIES SOURCE FILE [library]: one more crate in the copy; SOURCE is its file src/FILE. With lib.rt it is for callers in C, or with
+# 'library' for other crates.
 add_crate() {
-    echo "$1: $2" >>"$copy/crates.txt"
+    local kind=
+    [ "$4" != lib.rt ] || [ "${5:-}" = library ] || kind=' staticlib'
+    echo "$1$kind: $2" >>"$copy/crates.txt"
     mkdir -p "$copy/crates/$1/src"
     cp "$3" "$copy/crates/$1/src/$4"
 }
 # build_port FOLDER CRATE: the C library of a crate, which is proved for this. `port` has the words to link it then.
 build_port() {
-    logged "$work/staticlib.log" env -C "$1" rt staticlib "$2"
-    port=(-L "native=$1/target/staticlib" -l "static=$2")
+    logged "$work/staticlib.log" env -C "$1/crates/$2" rt lib
+    port=(-L "native=$1/crates/$2/out" -l "static=$2")
 }
 
-# compile_port ARCHIVE CRATE BELOW..: the C library of a crate of the copy, compiled and not proved: rattle-cases, by which `rt try` compiles, does that,
-# and takes every crate below as source. `port` has the words to link it then.
+# compile_port CRATE BELOW..: the C library of a crate of the copy, compiled and not proved. (The toolchain proves whatever it compiles to a library. This is
+# the same code without its promises, as the slips have it, compiled as Rust: there, too, a slice that is lent is a pointer and a length.) `port` has the
+# words to link it then.
 compile_port() {
-    local kit own below sources
-    kit=$(dirname "$(dirname "$(rt doc)")")
-    own=$kit/on/$(uname -m)
-    sources=(--lib "std=$kit/libs/std/src/lib.rt")
-    for below in "${@:3}"; do sources+=(--lib "$below=$copy/crates/$below/src/lib.rt"); done
-    logged "$work/staticlib.log" "$own/bin/rattle-cases" --toolchain "$own/toolchain" --staticlib "$1" "$copy/crates/$2/src/lib.rt" --crate-name "$2" \
-        "${sources[@]}"
-    port=(-L "native=$(dirname "$1")" -l "static=$2")
+    python3 "$root/oracle/slips/strip.py" "$copy/crates" "$work/port.rs" --library "${@:2}" "$1" || fail "the port could not be written as Rust"
+    compile --crate-type cdylib --crate-name "$1" -A warnings -C opt-level=3 -C overflow-checks=on -C panic=abort -o "$work/lib$1.so" "$work/port.rs"
+    port=(-L "native=$work" -l "dylib=$1" -C "link-arg=-Wl,-rpath,$work")
 }
 
 # ---- both

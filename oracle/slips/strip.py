@@ -1,10 +1,12 @@
 # Writes the port as one Rust file: the promises and the ghost lines are left out, and each crate becomes a module.
-# Usage: strip.py CRATES OUT. For the slips only: nothing here is part of the port, and what it writes proves nothing.
+# Usage: strip.py CRATES OUT [--library CRATE ..]
+# For the slips, with main.rs behind it; and with --library, of the crates that are named, the last one with its exports, for comparisons that have a
+# library compiled and not proved. Nothing here is part of the port, and what it writes proves nothing.
 import os
 import re
 import sys
 
-CRATES = ["math", "model", "geometry", "text"]
+CRATES = sys.argv[4:] or ["math", "model", "geometry", "text"]
 
 
 def clauses_out(text):
@@ -37,8 +39,14 @@ def rust_of(text, crate):
     text = re.sub(r"\bcrate::", "crate::" + crate + "::", text)
     text = re.sub(r"^([ \t]*)use (" + "|".join(CRATES) + r")::", r"\1use crate::\2::", text, flags=re.M)
     text = re.sub(r"(?<![\w:])(" + "|".join(CRATES) + r")::(?=\w+::)", r"crate::\1::", text)
+    text = re.sub(r"^[ \t]*#!?\[(derive|tactic)\b.*\n", "", text, flags=re.M)
     text = re.sub(r"^(pub )?(struct|enum)\b", r"#[derive(Clone, Copy)]\n\1\2", text, flags=re.M)
     return text
+
+
+def content(src, name, crate):
+    with open(os.path.join(src, name), encoding="utf-8") as f:
+        return rust_of(f.read(), crate)
 
 
 def main():
@@ -47,16 +55,15 @@ def main():
     for crate in CRATES:
         src = os.path.join(crates, crate, "src")
         parts.append("pub mod " + crate + " {\n")
+        parts.append(re.sub(r"^(pub )?mod \w+;\n", "", content(src, "lib.rt", crate), flags=re.M))
         for name in sorted(os.listdir(src)):
-            if name == "lib.rt" or not name.endswith(".rt"):
-                continue
-            with open(os.path.join(src, name), encoding="utf-8") as f:
-                body = rust_of(f.read(), crate)
-            parts.append("pub mod " + name[:-3] + " {\n" + body + "}\n")
+            if name != "lib.rt" and name.endswith(".rt"):
+                parts.append("pub mod " + name[:-3] + " {\n" + content(src, name, crate) + "}\n")
         parts.append("}\n")
-    here = os.path.dirname(os.path.abspath(__file__))
-    with open(os.path.join(here, "main.rs"), encoding="utf-8") as f:
-        parts.append(f.read())
+    if sys.argv[3:4] != ["--library"]:
+        here = os.path.dirname(os.path.abspath(__file__))
+        with open(os.path.join(here, "main.rs"), encoding="utf-8") as f:
+            parts.append(f.read())
     with open(out, "w", encoding="utf-8") as f:
         f.write("".join(parts))
 

@@ -1,5 +1,5 @@
-// The search for callers in C and in Rust: numbers and slices only. puhlwazo.h declares the same functions, and says what
-// the pointers must be.
+// The search for callers in C and in Rust: numbers and slices only. crates/puhlwazo_c exports the same functions, and
+// puhlwazo.h declares them.
 #![tactic(auto)]
 
 mod answers;

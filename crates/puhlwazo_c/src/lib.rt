@@ -1,5 +1,5 @@
-// The library for callers in C and in Rust: what crates/puhlwazo has, under the names and with the arguments that puhlwazo.h declares. Each
-// function promises what the function of its name there promises.
+// The exports of the C library: puhlwazo.h declares them, and says what the pointers must be. Each calls the function of its
+// name in crates/puhlwazo, where what it gives is said, and states its clauses again.
 #![tactic(auto)]
 
 ghost use Rattle.std.specs.Prelude.{◌≡◌, length};
@@ -8,13 +8,7 @@ ghost use Rattle.model.specs.Promise.{Answers};
 ghost use Rattle.cart.specs.Cart.{own_words, cart_answer, CartAnswers};
 ghost use Rattle.puhlwazo.specs.Answers.{HandsOut};
 
-use puhlwazo::{curve, short_arm};
-
-// `curve_could_contain` of crates/geometry, with its answer in lent memory: the result is the number of the refusal or 0,
-// `counts` the kind of the answer, visited, pending, cuts and depth, `bounds` lo and hi.
-// of_number, of_counts and of_bounds say what is given out, to the last word. answers: read back as an answer, it keeps
-// the promises of that function, each a field of `Answers`.
-// Nothing is asked of the caller but what the types say.
+// The search.
 #[unsafe(no_mangle)]
 pub extern "C" fn puhlwazo_curve_could_contain(
     rev: usize,
@@ -35,7 +29,7 @@ pub extern "C" fn puhlwazo_curve_could_contain(
         let Keeps = Answers c work.old work.new in
         HandsOut (answer_to c) Keeps result counts.new bounds.new }
 {
-    curve::puhlwazo_curve_could_contain(
+    puhlwazo::curve::puhlwazo_curve_could_contain(
         rev, dim, degree, count, knots, points, point_box, resolution, nodes, work, counts, bounds,
     )
 }
@@ -50,12 +44,10 @@ pub extern "C" fn puhlwazo_work_words(
 ) -> usize
     ensures { result ≡ stated_words dim degree count nodes }
 {
-    curve::puhlwazo_work_words(dim, degree, count, nodes)
+    puhlwazo::curve::puhlwazo_work_words(dim, degree, count, nodes)
 }
 
-// `cart_could_contain` of crates/cart, with its answer in lent memory as `puhlwazo_curve_could_contain` has it; no work
-// area is lent. answers: read back, it keeps the promises of that function, each a field of `CartAnswers`.
-// Nothing is asked of the caller but what the types say.
+// The search on the training cart.
 #[unsafe(no_mangle)]
 pub extern "C" fn puhlwazo_cart_could_contain(
     rev: usize,
@@ -74,7 +66,7 @@ pub extern "C" fn puhlwazo_cart_could_contain(
         let c = lent rev dim degree count k p b resolution nodes own_words in
         HandsOut (cart_answer c) (CartAnswers c) result counts.new bounds.new }
 {
-    short_arm::puhlwazo_cart_could_contain(
+    puhlwazo::short_arm::puhlwazo_cart_could_contain(
         rev, dim, degree, count, knots, points, point_box, resolution, nodes, counts, bounds,
     )
 }
