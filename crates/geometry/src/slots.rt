@@ -137,7 +137,7 @@ pub(crate) fn load(work: &mut [f64], base: usize, s: Shape, knots: &[f64], point
     requires { Inside s work.old base × (length knots.now ≡ s.count + s.degree + 1)
         × (length points.now ≡ point_words s * s.count) }
     ensures { work.new ≡ placed s work.old base
-        (record { knots = knots.entry.now; points = points_of (suc s.dim) s.count points.now }) }
+        (record { knots = knots.now; points = points_of (suc s.dim) s.count points.now }) }
 {
     let from = place_of(s, base, 0);
     write(work, from, points);

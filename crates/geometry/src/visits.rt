@@ -200,8 +200,8 @@ fn plan_clip(
     requires degree_bound { (degree ≤ 7) × (count + degree + 1 ≤ length knots.now) }
     ensures { let box = point_box.now in
         result ≡ plan_clip (arithmetic second) dim degree (scalars_of dim box) resolution
-        (record { knots = knots.entry.now; points = points_of (suc dim) count points.now })
-        (greville (arithmetic second) degree count knots.entry.now) }
+        (record { knots = knots.now; points = points_of (suc dim) count points.now })
+        (greville (arithmetic second) degree count knots.now) }
 {
     let a = knots[degree];
     let b = knots[count];
@@ -233,7 +233,7 @@ pub(crate) fn planned(
     requires degree_bound { (degree ≤ 7) × (count + degree + 1 ≤ length knots.now) }
     ensures { let box = point_box.now in
         result ≡ planned (arithmetic second) dim degree (scalars_of dim box) resolution
-        (record { knots = knots.entry.now; points = points_of (suc dim) count points.now }) }
+        (record { knots = knots.now; points = points_of (suc dim) count points.now }) }
 {
     if !aabb_could_overlap(points, point_box, dim, count, second) {
         return Plan::Skip;

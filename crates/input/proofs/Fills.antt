@@ -6,7 +6,24 @@ use Rattle.std.specs.Io.KnownBytes.{Consumes}
 use Rattle.std.specs.List.{between}
 use borrow.Rule.Slice.PartMut.{put_mid, mid_of, same_len_mid, mid_len}
 use lib.Seq.{drop-drop, take-take}
+use Rattle.lists.specs.Lists.{put}
+use Rattle.lists.proofs.Put.{length-put}
+use Rattle.lists.proofs.Read.{take_put, drop-put}
 use Rattle.input.specs.Filled.{Filled}
+
+-- Nothing was written yet.
+pub filled_none : (l : List ℕ) → Filled l l 0 0
+filled_none l = record { from = omega arith; upto = omega arith; length = refl; front = refl; back = refl }
+
+-- The bytes ws were written from number a on, and end in front of number n.
+pub filled_put : (l m ws : List ℕ) (a n : ℕ) → m ≡ put l a ws → n ≡ a + length ws → a + length ws ≤ length l → Filled l m a n
+filled_put l m ws a n e f h = record {
+  from = omega arith;
+  upto = rw e (omega (arith, length-put l a ws h));
+  length = rw e (length-put l a ws h);
+  front = rw e (take_put l a ws a (omega arith) (omega arith));
+  back = rw (e, f) (drop-put l a ws (a + length ws) (omega arith) h);
+}
 
 -- The part of l from number a on and up to number n holds y now.
 pub filled_part : (l y : List ℕ) (a n : ℕ) → a ≤ n → n ≤ length l → length y ≡ length (mid_of a (n - a) l) → Filled l (put_mid a (n - a) l y) a n

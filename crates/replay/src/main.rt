@@ -4,8 +4,10 @@
 ghost use Rattle.std.specs.Prelude.{◌≡◌, ◌≢◌, ℕ, ◌+◌, ◌-◌, ◌<◌, ◌≤◌, length, slice_index};
 
 use input::read_from;
+use std::env::{Env, FillError};
+use std::fmt::InlineText;
 use std::rt::Files;
-use std::{env, fs, io};
+use std::{fs, io};
 use text::respond::respond;
 
 // Where the text from `at` on ends: at the next byte 0, or else at the end.
@@ -48,18 +50,14 @@ fn words(error: &str) -> &str {
 }
 
 // Says on standard error that the file of this name could not be opened, and why.
-fn fail(rt: &(impl Eprint + AllocGlobal), path: &str, error: io::Error) -> io::Result<()> {
-    let text = format!(in rt.alloc(); "{error}")?;
+fn fail(rt: &impl Eprint, path: &str, error: io::Error) -> io::Result<()> {
+    let text: InlineText<256> = InlineText::of(error);
     let words = words(text.as_str());
     eprintln!(rt; "{path}: {words}")
 }
 
-// The answers to the texts of the file of this name. At most 65,536 bytes of it are read, and fewer where a read fails. A name
-// of more than 4,096 bytes is passed over.
-fn file(rt: &(impl Files + Print + Eprint + AllocGlobal), path: &str) -> io::Result<()> {
-    if path.len() > 4096 {
-        return Ok(());
-    }
+// The answers to the texts of the file of this name. At most 65,536 bytes of it are read, and fewer where a read fails.
+fn file(rt: &(impl Files + Print + Eprint), path: &str) -> io::Result<()> {
     let mut file = match fs::open(rt, path) {
         Ok(file) => file,
         Err(error) => return fail(rt, path, error),
@@ -69,9 +67,25 @@ fn file(rt: &(impl Files + Print + Eprint + AllocGlobal), path: &str) -> io::Res
     all(rt, &texts[..n])
 }
 
+// The same, of a name in bytes; one that is no text names no file here.
+fn named(rt: &(impl Files + Print + Eprint), name: &[u8]) -> io::Result<()> {
+    match str::from_utf8(name) {
+        Ok(path) => file(rt, path),
+        Err(_) => eprintln!(rt;
+            "replay: the name of a file is not UTF-8, and the file is passed over"
+        ),
+    }
+}
+
+// A name of more than 4,096 bytes is passed over.
 fn main(rt: HostRuntime) -> io::Result<()> {
-    for path in env::args(&rt)?.skip(1) {
-        file(&rt, path.as_str())?;
+    let mut name = [0u8; 4096];
+    for i in 1..usize::MAX {
+        match rt.arg(i, &mut name) {
+            Ok(n) => named(&rt, &name[..n])?,
+            Err(FillError::TooLong) => {}
+            Err(FillError::NotPresent) => return Ok(()),
+        }
     }
     Ok(())
 }
