@@ -320,10 +320,11 @@ def build():
     """The C library of crates/puhlwazo, as a shared one."""
     os.makedirs(WORK, exist_ok=True)
     log, library = os.path.join(WORK, "library.log"), os.path.join(WORK, "libpuhlwazo.so")
-    archive = os.path.join(ROOT, "target", "staticlib", "libpuhlwazo.a")
-    commands = (["rt", "staticlib", "puhlwazo"], ["gcc", "-shared", "-o", library, "-Wl,--whole-archive", archive, "-Wl,--no-whole-archive"])
+    crate = os.path.join(ROOT, "crates", "puhlwazo_c")
+    archive = os.path.join("out", "libpuhlwazo_c.a")
+    commands = (["rt", "lib"], ["gcc", "-shared", "-o", library, "-Wl,--whole-archive", archive, "-Wl,--no-whole-archive"])
     with open(log, "w") as f:
-        made = all(subprocess.run(words, cwd=ROOT, stdout=f, stderr=f).returncode == 0 for words in commands)
+        made = all(subprocess.run(words, cwd=crate, stdout=f, stderr=f).returncode == 0 for words in commands)
     if not made:
         sys.stderr.write("".join(open(log).readlines()[-40:]) + "oracle/fractions/check.py: the library could not be built\n")
         sys.exit(2)
