@@ -10,11 +10,12 @@ enums, names that are local to a proof, and everything of src/ keep their names.
 import glob
 import os
 import re
+import subprocess
 import sys
 
 DECLARED = re.compile(r"^( *)(?:(?:abbrev|unfoldable|pub|instance)\s+)*(?:(record|data|mod|module|use|import)\s+)?([^\s(){}:;,.]+)((?:\s*(?:\([^)]*\)|\{[^}]*\}))*)\s+:(?= |$)", re.M)
 TOKEN = re.compile(r"[^\s(){}\[\];,.\"`|<>=:/\\#&!?$%]+")
-KIT = "/opt/rattle"
+KIT = os.path.dirname(subprocess.run(["rt", "doc"], capture_output=True, text=True, check=True).stdout.split()[0])
 
 
 def read(path):

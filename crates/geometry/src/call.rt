@@ -6,7 +6,8 @@ ghost use Rattle.std.specs.Float.Ieee.{fits, lt, le, eq};
 ghost use Rattle.lists.specs.Lists.{all};
 ghost use Rattle.math.specs.Scalars.{zero_f};
 ghost use Rattle.model.specs.Layout.{scalars_of, slot_words};
-ghost use Rattle.model.specs.Call.{AllDoubles, curve_of, lent, usable, ordered, rising, multiplicity_ok, knots_valid, nodes_fit, revision_fits, revision_refusal, sizes_refusal, stated_words};
+ghost use Rattle.model.specs.Call.{AllDoubles, curve_of, lent, usable, ordered, rising, multiplicity_ok};
+ghost use Rattle.model.specs.Call.{knots_valid, nodes_fit, revision_fits, revision_refusal, sizes_refusal, stated_words};
 ghost use Rattle.geometry.specs.Call.{CurveRefused, QuestionRefused, CallRefused};
 ghost use Rattle.geometry.specs.Multiplicity.{repeats_at, multiplicity_ok_at};
 

@@ -5,9 +5,11 @@ ghost use Rattle.lists.specs.Lists.{part, put, tab, all, position};
 ghost use Rattle.math.specs.Scalars.{is_same, sharp};
 ghost use Rattle.math.specs.Revision.{arithmetic};
 ghost use Rattle.model.specs.NurbCurve.{knot};
-ghost use Rattle.model.specs.KnotInsertion.{holds_at, insertion_span, alpha, blend, knots_with, insert_once, insert_times, bezier_knots, bezier_cut, multiplicity, is_bezier, boehm_cut, full_cut};
+ghost use Rattle.model.specs.KnotInsertion.{holds_at, insertion_span, alpha, blend, knots_with, insert_once, insert_times};
+ghost use Rattle.model.specs.KnotInsertion.{bezier_knots, bezier_cut, multiplicity, is_bezier, boehm_cut, full_cut};
 ghost use Rattle.model.specs.Layout.{flat};
-ghost use Rattle.geometry.specs.Slots.{knots_from, place_of, count_at, vector_at, blend_at, between_at, with_sides, numbers, piece_at, placed, Inside, Held, CutAt};
+ghost use Rattle.geometry.specs.Slots.{knots_from, place_of, count_at, vector_at, blend_at, between_at, with_sides};
+ghost use Rattle.geometry.specs.Slots.{numbers, piece_at, placed, Inside, Held, CutAt};
 
 use crate::slots::{
     Shape, copy, copy_up, count_at, fill, knots_from, knots_in, place_of, set_count,

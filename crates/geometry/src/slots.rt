@@ -5,7 +5,8 @@ ghost use Rattle.std.specs.Float.Ieee.{in_unsigned};
 ghost use Rattle.lists.specs.Lists.{part, put};
 ghost use Rattle.model.specs.KnotInsertion.{left_of, right_of};
 ghost use Rattle.model.specs.Layout.{points_of};
-ghost use Rattle.geometry.specs.Slots.{word, point_words, count_at, knots_from, place_of, numbers, piece_at, placed, Sized, Inside, Held, Apart};
+ghost use Rattle.geometry.specs.Slots.{word, point_words, count_at, knots_from, place_of, numbers};
+ghost use Rattle.geometry.specs.Slots.{piece_at, placed, Sized, Inside, Held, Apart};
 
 // What the pieces of a call have in common: the dimension, the degree, and the number of points of the whole curve.
 #[derive(Clone, Copy)]

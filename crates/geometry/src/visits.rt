@@ -96,7 +96,8 @@ fn clip_axis(
 ) -> Hat
     requires count_nonzero { ((0 < count) × (2 * count ≤ length xi.now))
         × ((k < dim) × ((2 * (suc dim * count) ≤ length points.now) × (2 * count ≤ length d.old))) }
-    requires count_in_bounds { (2 * count ≤ length dx.now) × (scalars_of count dx.now ≡ from_first (arithmetic second) (scalars_of count xi.now)) }
+    requires count_in_bounds { (2 * count ≤ length dx.now)
+        × (scalars_of count dx.now ≡ from_first (arithmetic second) (scalars_of count xi.now)) }
     ensures value { result ≡ narrowed hat
         (fat_line_zeros (arithmetic second) (scalars_of count xi.now)
         (axis (arithmetic second) dim k e (points_of (suc dim) count points.now))) }

@@ -54,7 +54,7 @@ pub record Tame (ar : Arithmetic) (E : Encloses ar) (a b t : Scalar) : Type 0 wh
   pub first : T (not (E.exempt (ar.sub ONE t) a))
   pub second : T (not (E.exempt t b))
 
--- What order needs of an arithmetic: results are in order wherever the operands are, but for the products that are exempt. Every arithmetic that encloses has this (`in_order`).
+-- What order needs of an arithmetic: results are in order wherever the operands are, but for the products that are exempt. Every arithmetic that encloses has this (`in_order_lem`).
 pub record InOrder (ar : Arithmetic) (exempt : Scalar → Scalar → Bool) : Type 0 where
   pub add_proper : (a b : Scalar) → Proper a → Proper b → Proper (ar.add a b)
   pub sub_proper : (a b : Scalar) → Proper a → Proper b → Proper (ar.sub a b)

@@ -5,7 +5,8 @@
 ghost use Rattle.std.specs.Prelude.{◌≡◌, true};
 ghost use Rattle.math.specs.Scalars.{geop, ENTIRE, sharp, middle, width_s, add_s, mul_s, inverse_s};
 ghost use Rattle.math.specs.Scalars.{union_s, intersect_s, interpolate_s};
-ghost use Rattle.math.specs.Scalars.{has_zero, could_be_equal, definitely_greater, definitely_less, is_subset_of, is_exactly, in_unit, same_operands};
+ghost use Rattle.math.specs.Scalars.{has_zero, could_be_equal, definitely_greater, definitely_less};
+ghost use Rattle.math.specs.Scalars.{is_subset_of, is_exactly, in_unit, same_operands};
 ghost use Rattle.math.specs.Bounds.{over_s};
 ghost use Rattle.math.specs.Tight.{add_t, sub_t, mul_t, quotient, tight};
 ghost use Rattle.math.specs.Revision.{arithmetic};

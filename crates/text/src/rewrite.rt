@@ -117,7 +117,8 @@ fn put_shape(
     count: usize,
     lines: &[f64],
 ) -> usize
-    requires at_in_bounds { (at + 5336 ≤ length out.old) × (dim ≤ 3) × (degree ≤ 7) × (count ≤ 32) × (303 ≤ length lines.now) }
+    requires at_in_bounds { (at + 5336 ≤ length out.old) × (dim ≤ 3) × (degree ≤ 7) × (count ≤ 32)
+        × (303 ≤ length lines.now) }
     requires all_numbers { AllNumbers (numbers_in (sizes_of dim degree count) 0 lines.now) }
     ensures { let q = numbers_in (sizes_of dim degree count) 0 lines.now in
         let w = shape_text (sizes_of dim degree count) q.knots q.points q.box in
@@ -140,7 +141,8 @@ fn put_form(
     nodes: usize,
     lines: &[f64],
 ) -> usize
-    requires in_bounds { (5496 ≤ length out.old) × (dim ≤ 3) × (degree ≤ 7) × (count ≤ 32) × (303 ≤ length lines.now) }
+    requires in_bounds { (5496 ≤ length out.old) × (dim ≤ 3) × (degree ≤ 7) × (count ≤ 32)
+        × (303 ≤ length lines.now) }
     requires all_numbers { AllNumbers (numbers_in (sizes_of dim degree count) 0 lines.now) }
     ensures written { let s = sizes_of dim degree count in let w = form rev s (numbers_in s nodes lines.now) in
         Written out.old 0 w out.new result }

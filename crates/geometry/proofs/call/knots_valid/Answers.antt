@@ -1,5 +1,4 @@
 -- `knots_valid` equals its definition.
--- ---- the places
 use Rattle.geometry.proofs.call.Checks.{knots_fall, domain-empty, knots-rest}
 use mathlib.Core.Path.{sym, ◌∙◌}
 use native.Mathlib.Omega.{arith}

@@ -1,5 +1,4 @@
 -- `numbers_usable` equals its definition.
--- ---- the places
 use Rattle.geometry.proofs.call.Checks.{five_1, five_2, five_3, five_4, five-rest}
 use Rattle.model.specs.Call.{usable}
 use Rattle.math.specs.Scalars.{zero_f}

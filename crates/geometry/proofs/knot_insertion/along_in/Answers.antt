@@ -1,5 +1,4 @@
 -- `along_in` equals its definition: the quotient of two differences of knots.
--- ---- the places
 use Rattle.math.specs.Revision.{arithmetic}
 use Rattle.geometry.proofs.slots.Counts.{from-room}
 use Rattle.geometry.proofs.knot_insertion.Cuts.{along_done}

@@ -1,5 +1,4 @@
 -- `alpha_at` equals its definition: 0 or 1 where t is one of the two knots, and else what the division gives.
--- ---- the places
 use lib.Ieee.{of_bits}
 use Rattle.math.specs.Revision.{arithmetic}
 use Rattle.geometry.proofs.knot_insertion.Spans.{alpha-start, alpha_end, alpha-between, alpha-value, alpha_failed}

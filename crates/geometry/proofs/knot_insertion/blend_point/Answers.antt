@@ -1,5 +1,4 @@
 -- `blend_point` equals its definition: alpha from the slot's knots, and the blend of two neighbouring points.
--- ---- the places
 use Rattle.math.specs.Revision.{arithmetic}
 use Rattle.geometry.proofs.knot_insertion.Insert.{knots-within, blend-fits, blend_done}
 use native.Mathlib.Omega.{arith}

@@ -1,5 +1,4 @@
 -- `insert_once` equals its definition: the points move up and are blended, then the knot is put in, then the count is raised.
--- ---- the places
 use Rattle.math.specs.Revision.{arithmetic}
 use Rattle.geometry.proofs.slots.Counts.{count_readable, few-points, knot-room}
 use Rattle.geometry.proofs.knot_insertion.Once.{once-code}

@@ -1,5 +1,4 @@
 -- `insert_to_full_multiplicity` equals its definition: the triangle or the insertions, as the two tests say.
--- ---- the places
 use mathlib.Core.Path.{sym, ◌∙◌}
 use Rattle.math.specs.Revision.{arithmetic}
 use Rattle.geometry.proofs.knot_insertion.Cuts.{full_bezier, full_failed, full_boehm, single-held, full_from, bezier_cut_lem}

@@ -1,5 +1,4 @@
 -- `split_bezier_span` equals its definition: the sides of the triangle, then the knots, then the count.
--- ---- the places
 use Rattle.math.specs.Revision.{arithmetic}
 use Rattle.geometry.proofs.slots.Counts.{from-room, count_readable}
 use Rattle.geometry.proofs.knot_insertion.Cuts.{bezier_done}

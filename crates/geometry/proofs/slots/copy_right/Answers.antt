@@ -1,5 +1,4 @@
 -- `copy_right` copies the knots and the points from number `at` on, and sets the count.
--- ---- the places
 use Rattle.geometry.proofs.slots.Counts.{count_readable, from-room, few-points}
 use Rattle.geometry.proofs.slots.Moves.{knots-asked, points_rise, points-asked, moved_right}
 use native.Mathlib.Omega.{arith}

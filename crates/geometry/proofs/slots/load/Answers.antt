@@ -1,5 +1,4 @@
 -- `load` writes the numbers of the points, the knots and the count.
--- ---- the places
 use Rattle.geometry.proofs.slots.Moves.{load_fits, loaded}
 use native.Mathlib.Omega.{arith}
 use Rattle.geometry.proofs.slots.load.Goals as goal

@@ -1,5 +1,4 @@
 -- `cut_from` equals its definition: nothing where t does not lie inside, and else the cut of which what is right is kept.
--- ---- the places
 use mathlib.Core.Path.{refl, sym, ◌∙◌}
 use mathlib.Core.Logic.{inr}
 use Rattle.math.specs.Revision.{arithmetic}

@@ -1,5 +1,4 @@
 -- `cut_up_to` equals its definition: nothing where t does not lie inside, and else the cut of which what is left is kept.
--- ---- the places
 use mathlib.Core.Path.{refl, sym, ◌∙◌}
 use Rattle.math.specs.Revision.{arithmetic}
 use Rattle.geometry.proofs.split.Splits.{whole-count, cut-held, cut-upto, upto_kept, upto_none}

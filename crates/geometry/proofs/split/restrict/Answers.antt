@@ -1,5 +1,4 @@
 -- `restrict` equals its definition: a copy, cut at lo and then at hi.
--- ---- the places
 use Prim.Native.Nat.{ℕ, ◌≤◌}
 use mathlib.Core.Path.{sym, subst}
 use mathlib.Core.Logic.{inl}

@@ -1,5 +1,4 @@
 -- `split` equals its definition: no cut where t does not lie inside, and else a copy, the cut in it, and its two parts in their slots.
--- ---- the places
 use mathlib.Core.Path.{sym, ◌∙◌}
 use mathlib.Core.Logic.{inl}
 use Rattle.math.specs.Revision.{arithmetic}

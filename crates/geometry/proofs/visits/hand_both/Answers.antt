@@ -1,5 +1,4 @@
 -- `hand_both` equals its definition: the halves are handed on, if there are any and their weights are above zero.
--- ---- the places
 use Rattle.math.specs.Revision.{arithmetic}
 use Rattle.geometry.proofs.visits.Handed.{both_none, both-held, both-bad_first, both-bad_second, both_done}
 use Rattle.geometry.proofs.visits.hand_both.Goals as goal

@@ -1,5 +1,4 @@
 -- `plan_clip` equals its definition: degree 0 has no abscissae and reports its domain, and else the hat that the clip leaves decides.
--- ---- the places
 use mathlib.Core.Path.{◌≡◌}
 use native.Mathlib.Omega.{arith}
 use lib.ListN.{length}

@@ -1,5 +1,4 @@
 -- `visit` does what its plan says.
--- ---- the places
 use Rattle.math.specs.Revision.{arithmetic}
 use Rattle.model.specs.Layout.{scalars_of}
 use Rattle.geometry.proofs.visits.Handed.{see-skip, see_report, see-restrict, see-halve, steep}

@@ -1,6 +1,5 @@
 -- `read_numbers` equals its definition: the other lines are bad, the text is too long, something stands behind the last line,
 -- or a question is asked.
--- ---- the places
 use lib.ListN.{drop}
 use Rattle.text.specs.Bytes.{Read}
 use Rattle.text.specs.Question.{sizes_of, Numbers, numbers}

@@ -1,5 +1,4 @@
 -- `read_sizes` equals its definition: the three lines of the sizes are bad, or refused, or the other lines say it.
--- ---- the places
 use mathlib.Core.Path.{sym, ◌∙◌}
 use native.Mathlib.Omega.{arith}
 use Rattle.model.proofs.Checks.{small-sizes}

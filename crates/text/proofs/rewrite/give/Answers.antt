@@ -1,5 +1,4 @@
 -- `give` writes all of the text where there is room, and else nothing.
--- ---- the places
 use mathlib.Core.Path.{sym}
 use lib.Seq.{length-take-le}
 use native.Mathlib.Omega.{arith}

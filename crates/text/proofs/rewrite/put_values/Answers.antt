@@ -12,7 +12,8 @@ use Rattle.text.specs.Printable.{Written, is_number}
 use Rattle.text.proofs.rewrite.Lines.{values_none, values-more, values_all, part-passes}
 use Rattle.text.proofs.rewrite.put_values.Goals as goal
 
--- ---- the needs
+-- ---- the answers
+
 pub loop-i-init : goal.loop-i-init
 loop-i-init c =
     let a = c.args in
