@@ -14,6 +14,7 @@ pub mod Enclosure
 pub mod Counts
 pub mod Weights
 pub mod Nodes
+pub mod Numbers
 pub mod Refusals
 pub mod Tested
 pub mod Debug

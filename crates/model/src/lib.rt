@@ -3,4 +3,5 @@
 
 pub mod contains;
 pub mod fat_line;
+pub mod refusal;
 pub mod subdivide;
