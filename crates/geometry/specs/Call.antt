@@ -1,5 +1,5 @@
 -- What the checks of a call give, and what is left of a call that they let through. Definitions only.
-use Rattle.std.specs.Prelude.{ℕ, ◌≡◌, List, Float}
+use Rattle.std.specs.Prelude.{ℕ, ◌≡◌, Bool, true, false, List, Float}
 use Rattle.math.specs.Scalars.{Arithmetic}
 use Rattle.model.specs.Call.{Curve, Call, AllDoubles, curve_refusal, question_refusal, refusal, searched, area_after}
 use Rattle.model.specs.Enclosure.{Doubles}
@@ -21,6 +21,11 @@ pub record QuestionRefused (rev : ℕ) (v : Curve) (box : List Float) (resolutio
 pub record CallRefused (c : Call) (r : ℕ) : Type 0 where
   pub number : r ≡ refusal c
   pub doubles : r ≡ 0 → Doubles c
+
+-- The number of a revision.
+abbrev pub rev_of : Bool → ℕ
+rev_of true = 2
+rev_of false = 1
 
 -- The search of a call that is not refused, which found `before` in its work area and left `after`, has the answer r.
 pub record Searches (ar : Arithmetic) (c : Call) (before after : List Float) (r : Found) : Type 0 where

@@ -9,8 +9,8 @@ use Rattle.model.specs.Aabb.{aabb, could_overlap}
 use Rattle.model.specs.FatLine.{greville, extent, restricts, halves}
 use Rattle.model.specs.Subdivide.{Question, Visit, dropped, reported}
 use Rattle.model.specs.Contains.{clip, carried, hand_on, hand_both}
-use Rattle.model.specs.declared.fat_line.Hat.{Hat}
-use Rattle.model.specs.declared.fat_line.Hat.TheVariants.{Over, Missing}
+use Rattle.model.specs.Hat.{Hat}
+use Rattle.std.specs.Prelude.{Some, None}
 use Rattle.geometry.specs.declared.visits.Plan.{Plan}
 use Rattle.geometry.specs.declared.visits.Plan.TheVariants.{Skip, Report, Restrict, Halve}
 
@@ -23,8 +23,8 @@ plan_hat ar dim box resolution a b points hat =
 
 -- With a hat as for `plan_hat`; a piece without one holds nothing.
 unfoldable pub plan_shrink : Arithmetic → ℕ → ℕ → List Scalar → Float → Piece → Hat → Plan
-plan_shrink ar dim p box resolution c Missing = Skip
-plan_shrink ar dim p box resolution c (Over hat) = plan_hat ar dim box resolution (start p c) (end c) c.points hat
+plan_shrink ar dim p box resolution c None = Skip
+plan_shrink ar dim p box resolution c (Some hat) = plan_hat ar dim box resolution (start p c) (end c) c.points hat
 
 -- With abscissae the piece is clipped; degree 0 has none and reports its domain.
 unfoldable pub plan_clip : Arithmetic → ℕ → ℕ → List Scalar → Float → Piece → Option (List Scalar) → Plan

@@ -4,10 +4,10 @@ ghost use Rattle.std.specs.Prelude.{◌≡◌, ◌+◌, ◌*◌, ◌≤◌, ◌<
 ghost use Rattle.math.specs.Revision.{arithmetic};
 ghost use Rattle.model.specs.Contains.{visit};
 ghost use Rattle.model.specs.Subdivide.{positive_zero, complete};
-ghost use Rattle.model.specs.Call.{lent, arithmetic_of};
+ghost use Rattle.model.specs.Call.{lent};
 ghost use Rattle.model.specs.Enclosure.{Doubles, Accepted};
 ghost use Rattle.model.specs.Promise.{Answers};
-ghost use Rattle.geometry.specs.Call.{Searches};
+ghost use Rattle.geometry.specs.Call.{rev_of, Searches};
 ghost use Rattle.geometry.specs.Slots.{words_of, piece_at, depth_at, Inside, Waits, Fit};
 ghost use Rattle.geometry.specs.Ring.{base_of, ring_base, Ring};
 ghost use Rattle.geometry.specs.State.{found_of, with_depths, asked_of, Turned, Begins, RingSearched};
@@ -17,6 +17,7 @@ use crate::call::{refusal, slot_words, stated_words};
 use crate::slots::{Shape, depth_at, fill, load, set_depth, slot_base};
 use crate::subdivide::{Outcome, Reports, Search, after_visit, has_bad_weight, wrap};
 use crate::visits::visit;
+use math::revision::{First, Revision, Second};
 use math::scalars::Scalar;
 use model::contains::Found;
 use model::subdivide::Counts;
@@ -76,7 +77,7 @@ fn set_depths(work: &mut [f64], a: usize, b: usize, s: Shape, w: usize, d: usize
 }
 
 // The visit of the first piece that waits, whose depth is d, in a ring of so many slots of w words.
-fn visit_next(
+fn visit_next<R: Revision>(
     work: &mut [f64],
     q: Search,
     s: Shape,
@@ -85,13 +86,12 @@ fn visit_next(
     slots: usize,
     w: usize,
     d: usize,
-    second: bool,
 ) -> Outcome
     requires ring { Ring s work.old slots q.head q.pending × (1 ≤ q.pending) × (q.pending + 1 < slots) }
     requires slots_bound { (slots ≤ 0x1000_0000) × (w ≡ words_of s) × (d ≤ 0x1000) }
-    requires fit { Fit (arithmetic second) s (piece_at s work.old (base_of s q.head)) × (2 * s.dim ≤ length point_box.now) }
+    requires fit { Fit (arithmetic R.second) s (piece_at s work.old (base_of s q.head)) × (2 * s.dim ≤ length point_box.now) }
     ensures { let l = work.old in
-        let seen = visit (arithmetic second) (asked_of s point_box.now resolution 0) (piece_at s l (base_of s q.head)) in
+        let seen = visit (arithmetic R.second) (asked_of s point_box.now resolution 0) (piece_at s l (base_of s q.head)) in
         let a = ring_base s slots q.head q.pending in
         let b = ring_base s slots q.head (q.pending + 1) in
         Turned seen s a b d l work.new result }
@@ -100,7 +100,7 @@ fn visit_next(
     let pending = q.pending;
     let a = slot_base(0, w, wrap(head + pending, slots));
     let b = slot_base(0, w, wrap(head + (pending + 1), slots));
-    let o = visit(
+    let o = visit::<R>(
         work,
         slot_base(0, w, head),
         a,
@@ -108,25 +108,23 @@ fn visit_next(
         s,
         point_box,
         resolution,
-        second,
     );
     set_depths(work, a, b, s, w, d, o);
     o
 }
 
 // The search of the piece in slot 0, over a ring of nodes + 3 slots.
-fn search_ring(
+fn search_ring<R: Revision>(
     work: &mut [f64],
     s: Shape,
     point_box: &[f64],
     resolution: f64,
     nodes: usize,
-    second: bool,
 ) -> Found
-    requires begins { Begins (arithmetic second) s (asked_of s point_box.now resolution nodes) work.old }
+    requires begins { Begins (arithmetic R.second) s (asked_of s point_box.now resolution nodes) work.old }
     requires dim_in_bounds { 2 * s.dim ≤ length point_box.now }
     ensures { let asked = asked_of s point_box.now resolution nodes in
-        RingSearched (arithmetic second) s asked work.old work.new result }
+        RingSearched (arithmetic R.second) s asked work.old work.new result }
 {
     let w = slot_words(s.dim, s.degree, s.count);
     let slots = nodes + 3;
@@ -149,7 +147,7 @@ fn search_ring(
             return Found::Spent(q.pending, v.visited, v.cuts, v.depth);
         }
         let d = next_depth(work, q, s, w);
-        let o = visit_next(work, q, s, point_box, resolution, slots, w, d, second);
+        let o = visit_next::<R>(work, q, s, point_box, resolution, slots, w, d);
         q = after_visit(q, d, o, slots);
         if has_bad_weight(o) {
             let v = q.counts;
@@ -161,9 +159,8 @@ fn search_ring(
     completed(f, v)
 }
 
-// The search of a call that nothing is wrong with. The stated words of the work area are 0 at its end.
-fn search_lent(
-    rev: usize,
+// The search of a call that nothing is wrong with, in its revision. The stated words of the work area are 0 at its end.
+fn search_lent<R: Revision>(
     dim: usize,
     degree: usize,
     count: usize,
@@ -174,22 +171,21 @@ fn search_lent(
     nodes: usize,
     work: &mut [f64],
 ) -> Found
-    requires { let c = lent rev dim degree count knots.now points.now point_box.now resolution nodes (length work.old) in
+    requires { let c = lent (rev_of R.second) dim degree count knots.now points.now point_box.now resolution nodes (length work.old) in
         Accepted c × Doubles c }
     ensures { let k = knots.now in let p = points.now in let b = point_box.now in
-        let c = lent rev dim degree count k p b resolution nodes (length work.old) in
-        Searches (arithmetic_of c) c work.old work.new result }
+        let c = lent (rev_of R.second) dim degree count k p b resolution nodes (length work.old) in
+        Searches (arithmetic R.second) c work.old work.new result }
 {
-    let second = rev == 2;
     let words = stated_words(dim, degree, count, nodes);
-    if !curve_could_meet_aabb(points, point_box, dim, degree, count, second) {
+    if !curve_could_meet_aabb::<R>(points, point_box, dim, degree, count) {
         fill(work, 0, words, 0.0);
         return Found::Nothing(0, 0, 0);
     }
     let s = Shape { dim, degree, count };
     load(work, 0, s, knots, points);
     set_depth(work, 0, slot_words(dim, degree, count), 0);
-    let r = search_ring(work, s, point_box, resolution, nodes, second);
+    let r = search_ring::<R>(work, s, point_box, resolution, nodes);
     fill(work, 0, words, 0.0);
     r
 }
@@ -239,7 +235,12 @@ pub fn curve_could_contain(
     if number != 0 {
         return Found::Refused(number as u64, 0, 0, 0);
     }
-    search_lent(
-        rev, dim, degree, count, knots, points, point_box, resolution, nodes, work,
+    if rev == 2 {
+        return search_lent::<Second>(
+            dim, degree, count, knots, points, point_box, resolution, nodes, work,
+        );
+    }
+    search_lent::<First>(
+        dim, degree, count, knots, points, point_box, resolution, nodes, work,
     )
 }

@@ -20,12 +20,12 @@ ghost use Rattle.model.specs.NurbCurve.{domain, in_domain};
 ghost use Rattle.model.specs.Contains.{carried};
 ghost use Rattle.geometry.specs.Sizes.{position_of, squared, steps};
 
-use crate::nurb_curve::{coordinate, domain, in_domain, scalar_at, value_or_entire};
-use math::bounds::{Bounds, Divisor};
+use crate::nurb_curve::{coordinate, domain, in_domain, scalar_at};
+use math::bounds::Divisor;
 use math::floats::{max, next_up};
 use math::root::sqrt;
-use math::scalars::{Divided, Scalar};
-use model::fat_line::Hat;
+use math::revision::Revision;
+use math::scalars::Scalar;
 
 // The knots i + 1 to i + degree, as a part of the knots that were lent.
 pub(crate) fn window(knots: &[f64], i: usize, degree: usize) -> &[f64]
@@ -35,238 +35,135 @@ pub(crate) fn window(knots: &[f64], i: usize, degree: usize) -> &[f64]
     &knots[i + 1..i + degree + 1]
 }
 
-// The sum of a window of knots, over their number: their mean, in revision 1.
-fn abscissa_wide(w: &[f64], number: Divisor) -> Scalar
-    ensures { result ≡ over_s (summed geop ZERO w.now) number }
+// The sum of a window of knots, over their number: their mean.
+fn abscissa<R: Revision>(w: &[f64], number: Divisor) -> Scalar
+    requires { R.Own number }
+    ensures { result ≡ mean_over (arithmetic R.second) w.now number.value }
 {
     let mut sum = Scalar::ZERO;
-    let mut j = 0;
-    while j < w.len() {
-        sum = sum.add(Scalar::from_f64(w[j]), false);
-        j += 1;
+    for &u in w {
+        sum = R::add(sum, Scalar::from_f64(u));
     }
-    sum.over(number)
+    R::over(sum, number)
 }
 
-// The same in revision 2.
-fn abscissa_tight(w: &[f64], number: Scalar) -> Scalar
-    ensures { result ≡ mean_over tight w.now number }
-{
-    let mut sum = Scalar::ZERO;
-    let mut j = 0;
-    while j < w.len() {
-        sum = sum.add(Scalar::from_f64(w[j]), true);
-        j += 1;
-    }
-    value_or_entire(sum.div(number, true))
-}
-
-// The same in the revision that is asked for.
-fn abscissa(w: &[f64], number: Divisor, second: bool) -> Scalar
-    requires { number ≡ divisor_of number.value }
-    ensures { result ≡ mean_over (arithmetic second) w.now number.value }
-{
-    if second {
-        return abscissa_tight(w, number.value);
-    }
-    abscissa_wide(w, number)
-}
-
-// Whether there are abscissae: degree 0 has none.
-#[derive(Clone, Copy)]
-pub enum Greville {
-    Some,
-    None,
-}
-
-// The abscissae, lo and hi side by side, beside whether there are any.
-#[derive(Drop)]
-pub struct Abscissae {
-    pub has: Greville,
-    pub at: [f64; 64],
-}
-
-// One abscissa for each point.
-pub(crate) fn greville_abscissae(
+// One abscissa for each point, at the front; none where the degree is 0.
+pub(crate) fn greville_abscissae<R: Revision>(
     knots: &[f64],
     degree: usize,
     count: usize,
-    second: bool,
-) -> Abscissae
+) -> Option<[Scalar; 32]>
     requires { (degree ≤ 7) × ((count ≤ 32) × (count + degree ≤ length knots.now)) }
-    ensures { result ≡ held (greville (arithmetic second) degree count knots.now) }
+    ensures { result ≡ held (greville (arithmetic R.second) degree count knots.now) }
 {
-    let mut at = [0.0; 64];
     if degree == 0 {
-        return Abscissae {
-            has: Greville::None,
-            at,
-        };
+        return None;
     }
-    let number = Divisor::of(Scalar::from_f64(degree as f64));
-    let mut i = 0;
-    while i < count {
-        let x = abscissa(window(knots, i, degree), number, second);
-        at[2 * i] = x.lo;
-        at[2 * i + 1] = x.hi;
-        i += 1;
+    let number = R::divisor(Scalar::from_f64(degree as f64));
+    let mut xi = [Scalar::ZERO; 32];
+    for i in 0..count {
+        xi[i] = abscissa::<R>(window(knots, i, degree), number);
     }
-    Abscissae {
-        has: Greville::Some,
-        at,
-    }
+    Some(xi)
 }
 
-// The union of the first intervals.
-pub(crate) fn unions(l: &[f64], count: usize) -> Scalar
-    requires { (0 < count) × (2 * count ≤ length l.now) }
-    ensures { result ≡ unions (scalars_of count l.now) }
+// The union of some intervals.
+pub(crate) fn unions(l: &[Scalar]) -> Scalar
+    requires { 0 < length l.now }
+    ensures { result ≡ unions l.now }
 {
-    let mut all = scalar_at(l, 0);
-    let mut i = 1;
-    while i < count {
-        all = all.union(scalar_at(l, i));
-        i += 1;
+    let mut all = l[0];
+    for i in 1..l.len() {
+        all = all.union(l[i]);
     }
     all
 }
 
-// How far each abscissa lies from the first, written to the front of dx.
-pub(crate) fn from_first(xi: &[f64], count: usize, dx: &mut [f64], second: bool)
-    requires { (0 < count) × ((2 * count ≤ length xi.now) × (2 * count ≤ length dx.old)) }
-    ensures { dx.new ≡ put dx.old 0 (flat (from_first (arithmetic second) (scalars_of count xi.now))) }
+// How far each abscissa lies from the first, written to dx.
+pub(crate) fn from_first<R: Revision>(xi: &[Scalar], dx: &mut [Scalar])
+    requires { (0 < length xi.now) × (length dx.old ≡ length xi.now) }
+    ensures { dx.new ≡ from_first (arithmetic R.second) xi.now }
 {
-    let x0 = scalar_at(xi, 0);
-    let mut i = 0;
-    while i < count {
-        let x = scalar_at(xi, i).sub(x0, second);
-        dx[2 * i] = x.lo;
-        dx[2 * i + 1] = x.hi;
-        i += 1;
+    for i in 0..xi.len() {
+        dx[i] = R::sub(xi[i], xi[0]);
     }
 }
 
 // The chord from a point of value y0, at a run of x from there.
-pub(crate) fn chord(slope: Scalar, y0: Scalar, x: Scalar, second: bool) -> Scalar
-    ensures { result ≡ chord_at (arithmetic second) slope y0 x }
+pub(crate) fn chord<R: Revision>(slope: Scalar, y0: Scalar, x: Scalar) -> Scalar
+    ensures { result ≡ chord_at (arithmetic R.second) slope y0 x }
 {
-    y0.add(slope.times(x, second), second)
+    R::add(y0, R::times(slope, x))
 }
 
-// The union of the offsets of all points, the first too, in revision 1: widened once, since the neighbours of doubles keep their order.
-fn band_wide(dx: &[f64], d: &[f64], count: usize, slope: Scalar, y0: Scalar) -> Scalar
-    requires { (0 < count) × ((2 * count ≤ length dx.now) × (2 * count ≤ length d.now)) }
-    ensures { let runs = scalars_of count dx.now in
-        result ≡ unions (zip_with (λ x y. off_run geop slope y0 x y) runs (scalars_of count d.now)) }
+// The union of the offsets of all points, the first too.
+pub(crate) fn band<R: Revision>(dx: &[Scalar], d: &[Scalar], slope: Scalar, y0: Scalar) -> Scalar
+    requires { (0 < length d.now) × (length dx.now ≡ length d.now) }
+    ensures { result ≡ unions (zip_with (λ x y. off_run (arithmetic R.second) slope y0 x y) dx.now d.now) }
 {
-    let mut all = Bounds::difference(scalar_at(d, 0), chord(slope, y0, scalar_at(dx, 0), false));
-    let mut i = 1;
-    while i < count {
-        let y = scalar_at(d, i);
-        all = all.join(Bounds::difference(y, chord(slope, y0, scalar_at(dx, i), false)));
-        i += 1;
+    let mut all = R::bounds_sub(d[0], chord::<R>(slope, y0, dx[0]));
+    for i in 1..d.len() {
+        all = R::join(all, R::bounds_sub(d[i], chord::<R>(slope, y0, dx[i])));
     }
-    all.widen()
-}
-
-// The same in revision 2: the union of the offsets, each of them rounded outward.
-fn band_tight(dx: &[f64], d: &[f64], count: usize, slope: Scalar, y0: Scalar) -> Scalar
-    requires { (0 < count) × ((2 * count ≤ length dx.now) × (2 * count ≤ length d.now)) }
-    ensures { let runs = scalars_of count dx.now in
-        result ≡ unions (zip_with (λ x y. off_run tight slope y0 x y) runs (scalars_of count d.now)) }
-{
-    let mut all = scalar_at(d, 0).sub(chord(slope, y0, scalar_at(dx, 0), true), true);
-    let mut i = 1;
-    while i < count {
-        let y = scalar_at(d, i);
-        all = all.union(y.sub(chord(slope, y0, scalar_at(dx, i), true), true));
-        i += 1;
-    }
-    all
-}
-
-// The same in the revision that is asked for.
-pub(crate) fn band(
-    dx: &[f64],
-    d: &[f64],
-    count: usize,
-    slope: Scalar,
-    y0: Scalar,
-    second: bool,
-) -> Scalar
-    requires { (0 < count) × ((2 * count ≤ length dx.now) × (2 * count ≤ length d.now)) }
-    ensures { let runs = scalars_of count dx.now in
-        result ≡ unions (zip_with (λ x y. off_run (arithmetic second) slope y0 x y) runs (scalars_of count d.now)) }
-{
-    if second {
-        return band_tight(dx, d, count, slope, y0);
-    }
-    band_wide(dx, d, count, slope, y0)
+    R::close(all)
 }
 
 // The zeros where the chord has no slope, of values in this range: anywhere, if some value could be zero.
-pub(crate) fn level_zeros(range: Scalar) -> Hat
+pub(crate) fn level_zeros(range: Scalar) -> Option<Scalar>
     ensures { result ≡ level_zeros range }
 {
     if range.could_be_equal(Scalar::ZERO) {
-        return Hat::Over(Scalar::entire());
+        return Some(Scalar::entire());
     }
-    Hat::Missing
+    None
 }
 
 // Where the band crosses zero: anywhere, if the chord could be level.
-pub(crate) fn crossing(x0: Scalar, q: Divided, second: bool) -> Hat
-    ensures { result ≡ crossing (arithmetic second) x0 q }
+pub(crate) fn crossing<R: Revision>(x0: Scalar, q: Option<Scalar>) -> Option<Scalar>
+    ensures { result ≡ crossing (arithmetic R.second) x0 q }
 {
-    let Divided::Value(v) = q else {
-        return Hat::Over(Scalar::entire());
+    let Some(v) = q else {
+        return Some(Scalar::entire());
     };
-    Hat::Over(x0.sub(v, second))
+    Some(R::sub(x0, v))
 }
 
 // The zeros where the chord has a slope: nowhere, if the band misses zero from the first point to the last.
-pub(crate) fn sloped_zeros(
+pub(crate) fn sloped_zeros<R: Revision>(
     slope: Scalar,
     x0: Scalar,
     y0: Scalar,
     last: Scalar,
     band: Scalar,
-    second: bool,
-) -> Hat
-    ensures { result ≡ sloped_zeros (arithmetic second) slope x0 y0 last band }
+) -> Option<Scalar>
+    ensures { result ≡ sloped_zeros (arithmetic R.second) slope x0 y0 last band }
 {
-    if y0
-        .union(last)
-        .add(band, second)
-        .could_be_equal(Scalar::ZERO)
-    {
-        return crossing(x0, y0.add(band, second).div(slope, second), second);
+    let range = R::add(y0.union(last), band);
+    if range.could_be_equal(Scalar::ZERO) {
+        return crossing::<R>(x0, R::div(R::add(y0, band), slope));
     }
-    Hat::Missing
+    None
 }
 
-// Where the spline could be zero whose graph has the control polygon (xi i, d i). How far each abscissa lies from the first stands in dx.
-pub(crate) fn fat_line_zeros(xi: &[f64], dx: &[f64], d: &[f64], count: usize, second: bool) -> Hat
-    requires count_nonzero { (0 < count)
-        × ((2 * count ≤ length xi.now) × ((2 * count ≤ length dx.now) × (2 * count ≤ length d.now))) }
-    requires dx_value { scalars_of count dx.now ≡ from_first (arithmetic second) (scalars_of count xi.now) }
-    ensures { result ≡ fat_line_zeros (arithmetic second) (scalars_of count xi.now) (scalars_of count d.now) }
+// Where the spline could be zero whose graph has the control polygon (xi i, d i). How far each abscissa lies from the first
+// stands in dx.
+pub(crate) fn fat_line_zeros<R: Revision>(
+    xi: &[Scalar],
+    dx: &[Scalar],
+    d: &[Scalar],
+) -> Option<Scalar>
+    requires lengths { (0 < length d.now) × (length xi.now ≡ length d.now) }
+    requires dx_value { dx.now ≡ from_first (arithmetic R.second) xi.now }
+    ensures { result ≡ fat_line_zeros (arithmetic R.second) xi.now d.now }
 {
-    let x0 = scalar_at(xi, 0);
-    let y0 = scalar_at(d, 0);
-    let last = scalar_at(d, count - 1);
-    let run = scalar_at(dx, count - 1);
-    let Divided::Value(slope) = last.sub(y0, second).div(run, second) else {
-        return level_zeros(unions(d, count));
-    };
-    sloped_zeros(
-        slope,
-        x0,
-        y0,
-        last,
-        band(dx, d, count, slope, y0, second),
-        second,
-    )
+    let last = d[d.len() - 1];
+    let run = dx[d.len() - 1];
+    match R::div(R::sub(last, d[0]), run) {
+        Some(slope) => {
+            sloped_zeros::<R>(slope, xi[0], d[0], last, band::<R>(dx, d, slope, d[0]))
+        }
+        None => level_zeros(unions(d)),
+    }
 }
 
 // ---- sizes: plain doubles, for choices that need not be exact
@@ -339,12 +236,10 @@ pub(crate) fn extent(points: &[f64], dim: usize, count: usize) -> f64
 {
     let mut at = cartesian(points, dim, 0);
     let mut sum = 0.0;
-    let mut i = 1;
-    while i < count {
+    for i in 1..count {
         let next = cartesian(points, dim, i);
         sum = sum + distance(dim, at, next);
         at = next;
-        i += 1;
     }
     max(0.0, sum)
 }
@@ -364,14 +259,12 @@ fn steps(points: &[f64], dim: usize, count: usize) -> Squares
     let mut at = cartesian(points, dim, 0);
     let mut total = 0.0;
     let mut top = 0.0;
-    let mut i = 1;
-    while i < count {
+    for i in 1..count {
         let next = cartesian(points, dim, i);
         let s = squared(dim, at, next);
         total = total + s;
         top = max(top, s);
         at = next;
-        i += 1;
     }
     Squares { total, top }
 }
@@ -422,10 +315,8 @@ pub(crate) fn carried_width(points: &[f64], dim: usize, count: usize) -> f64
     ensures { result ≡ carried_width dim (points_of (suc dim) count points.now) }
 {
     let mut best = 0.0;
-    let mut i = 0;
-    while i < count {
+    for i in 0..count {
         best = carried_by(best, points, dim, i);
-        i += 1;
     }
     best
 }
@@ -436,10 +327,8 @@ pub(crate) fn box_width(point_box: &[f64], dim: usize) -> f64
     ensures { result ≡ widest (map (λ e. to_f64 (width_s e)) (scalars_of dim point_box.now)) }
 {
     let mut best = 0.0;
-    let mut k = 0;
-    while k < dim {
+    for k in 0..dim {
         best = max(best, scalar_at(point_box, k).width().to_f64());
-        k += 1;
     }
     best
 }
@@ -457,12 +346,10 @@ pub(crate) fn carried(points: &[f64], point_box: &[f64], dim: usize, count: usiz
 // ---- restriction and stalled, on a domain from a to b
 
 // The hat is definitely below four fifths of the domain.
-fn narrow(a: f64, b: f64, hat: Scalar, second: bool) -> bool
-    ensures { result ≡ lt (width_s hat) ((arithmetic second).mul (sharp (width_s (domain a b))) (arithmetic second).four_fifths).lo }
+fn narrow<R: Revision>(a: f64, b: f64, hat: Scalar) -> bool
+    ensures { result ≡ lt (width_s hat) ((arithmetic R.second).mul (sharp (width_s (domain a b))) (arithmetic R.second).four_fifths).lo }
 {
-    let most = domain(a, b)
-        .width()
-        .mul(Scalar::four_fifths(second), second);
+    let most = R::mul(domain(a, b).width(), R::four_fifths());
     hat.width().lo < most.lo
 }
 
@@ -474,20 +361,19 @@ fn reaches_in(a: f64, b: f64, hat: Scalar) -> bool
 }
 
 // The piece is to be cut down to the hat: the size definitely exceeds the carried width, and the cut takes off enough.
-pub(crate) fn restriction(
+pub(crate) fn restriction<R: Revision>(
     a: f64,
     b: f64,
     hat: Scalar,
     size: f64,
     carried: f64,
-    second: bool,
 ) -> bool
-    ensures { result ≡ restricts (arithmetic second) a b hat size carried }
+    ensures { result ≡ restricts (arithmetic R.second) a b hat size carried }
 {
     if !(carried < size) {
         return false;
     }
-    if !narrow(a, b, hat, second) {
+    if !narrow::<R>(a, b, hat) {
         return false;
     }
     reaches_in(a, b, hat)
@@ -507,7 +393,7 @@ pub(crate) fn stalled(a: f64, b: f64, size: f64, carried: f64, resolution: f64) 
 }
 
 // `restriction` with the length of the control polygon as the size, which is looked at last.
-pub(crate) fn restricts(
+pub(crate) fn restricts<R: Revision>(
     points: &[f64],
     dim: usize,
     count: usize,
@@ -515,15 +401,14 @@ pub(crate) fn restricts(
     b: f64,
     hat: Scalar,
     carried: f64,
-    second: bool,
 ) -> bool
     requires { (dim ≤ 3) × (1 ≤ count) × (count ≤ 32) × (2 * (suc dim * count) ≤ length points.now) }
-    ensures { result ≡ restricts (arithmetic second) a b hat (extent dim (points_of (suc dim) count points.now)) carried }
+    ensures { result ≡ restricts (arithmetic R.second) a b hat (extent dim (points_of (suc dim) count points.now)) carried }
 {
     if !reaches_in(a, b, hat) {
         return false;
     }
-    if !narrow(a, b, hat, second) {
+    if !narrow::<R>(a, b, hat) {
         return false;
     }
     exceeds(points, dim, count, carried)

@@ -2,7 +2,7 @@
 ghost use Rattle.std.specs.Prelude.{◌≡◌, suc, ◌+◌, ◌-◌, ◌*◌, ◌≤◌, ◌<◌, ◌&&◌, length, eqb};
 ghost use Rattle.std.specs.Float.Ieee.{eq};
 ghost use Rattle.lists.specs.Lists.{part, put, tab, all, position};
-ghost use Rattle.math.specs.Scalars.{is_same, sharp};
+ghost use Rattle.math.specs.Scalars.{sharp};
 ghost use Rattle.math.specs.Revision.{arithmetic};
 ghost use Rattle.model.specs.NurbCurve.{knot};
 ghost use Rattle.model.specs.KnotInsertion.{holds_at, insertion_span, alpha, blend, knots_with, insert_once, insert_times};
@@ -14,8 +14,9 @@ ghost use Rattle.geometry.specs.Slots.{numbers, piece_at, placed, Inside, Held, 
 use crate::slots::{
     Shape, copy, copy_up, count_at, fill, knots_from, knots_in, place_of, set_count,
 };
-use crate::vector::{interpolate_tight, interpolate_wide};
-use math::scalars::{Divided, Scalar};
+use crate::vector::interpolate;
+use math::revision::Revision;
+use math::scalars::Scalar;
 
 // The parameter t is at or above knot k, and below the next.
 fn holds_at(knots: &[f64], t: f64, k: usize) -> bool
@@ -30,23 +31,18 @@ pub(crate) fn find_insertion_span(knots: &[f64], degree: usize, count: usize, t:
     requires { (degree ≤ count) × (count < length knots.now) }
     ensures { result ≡ insertion_span degree count knots.now t }
 {
-    let mut i = count;
-    let span = loop {
-        if i == degree {
-            break degree;
-        }
-        i -= 1;
+    for i in (degree..count).rev() {
         if holds_at(knots, t, i) {
-            break i;
+            return i;
         }
-    };
-    span
+    }
+    degree
 }
 
 // How far t lies from knot i to knot i + degree: 0 or 1 where t is one of the two, and 1 where their difference may be zero.
-pub(crate) fn alpha_at(knots: &[f64], degree: usize, t: f64, i: usize, second: bool) -> Scalar
+pub(crate) fn alpha_at<R: Revision>(knots: &[f64], degree: usize, t: f64, i: usize) -> Scalar
     requires { i + degree < length knots.now }
-    ensures { result ≡ alpha (arithmetic second) degree knots.now t i }
+    ensures { result ≡ alpha (arithmetic R.second) degree knots.now t i }
 {
     let a = knots[i];
     let b = knots[i + degree];
@@ -57,13 +53,8 @@ pub(crate) fn alpha_at(knots: &[f64], degree: usize, t: f64, i: usize, second: b
         return Scalar::ONE;
     }
     let start = Scalar::from_f64(a);
-    let along = Scalar::from_f64(t)
-        .sub(start, second)
-        .div(Scalar::from_f64(b).sub(start, second), second);
-    match along {
-        Divided::Value(v) => v,
-        Divided::Failed => Scalar::ONE,
-    }
+    let run = R::sub(Scalar::from_f64(b), start);
+    R::div(R::sub(Scalar::from_f64(t), start), run).unwrap_or(Scalar::ONE)
 }
 
 // How often t occurs among the knots.
@@ -71,12 +62,8 @@ pub(crate) fn multiplicity_of(knots: &[f64], t: f64) -> usize
     ensures { result ≡ multiplicity t knots.now }
 {
     let mut n = 0;
-    let mut i = knots.len();
-    while 0 < i {
-        i -= 1;
-        if knots[i] == t {
-            n += 1;
-        }
+    for &u in knots {
+        n += usize::from(u == t);
     }
     n
 }
@@ -85,26 +72,22 @@ pub(crate) fn multiplicity_of(knots: &[f64], t: f64) -> usize
 pub(crate) fn position_of(knots: &[f64], t: f64) -> usize
     ensures { result ≡ position (λ u. eq u t) knots.now }
 {
-    let mut i = 0;
-    while i < knots.len() {
+    for i in 0..knots.len() {
         if knots[i] == t {
             return i;
         }
-        i += 1;
     }
-    i
+    knots.len()
 }
 
 // Each of the knots is v.
 pub(crate) fn all_are(knots: &[f64], v: f64) -> bool
     ensures { result ≡ all (λ u. eq u v) knots.now }
 {
-    let mut i = 0;
-    while i < knots.len() {
-        if !(knots[i] == v) {
+    for &u in knots {
+        if !(u == v) {
             return false;
         }
-        i += 1;
     }
     true
 }
@@ -124,59 +107,45 @@ pub(crate) fn is_bezier_span(knots: &[f64], degree: usize, count: usize) -> bool
     all_are(&knots[m..], knots[m])
 }
 
-// Both bounds are the same.
-fn is_same(x: Scalar, y: Scalar) -> bool
-    ensures { result ≡ is_same x y }
-{
-    x.lo == y.lo && x.hi == y.hi
-}
-
 // The point of d intervals at b becomes the one a fraction alpha of the way from the point at a to it: unrounded where alpha is 0 or 1.
-fn blend_into(work: &mut [f64], a: usize, b: usize, d: usize, alpha: Scalar, second: bool)
+fn blend_into<R: Revision>(work: &mut [f64], a: usize, b: usize, d: usize, alpha: Scalar)
     requires { (a + 2 * d ≤ b) × (b + 2 * d ≤ length work.old) }
     ensures { let old = work.old in
-        work.new ≡ put old b (flat (blend (arithmetic second) alpha (vector_at d old a) (vector_at d old b))) }
+        work.new ≡ put old b (flat (blend (arithmetic R.second) alpha (vector_at d old a) (vector_at d old b))) }
 {
-    if is_same(alpha, Scalar::ZERO) {
+    if alpha == Scalar::ZERO {
         copy(work, a, b, 2 * d);
         return;
     }
-    if is_same(alpha, Scalar::ONE) {
+    if alpha == Scalar::ONE {
         return;
     }
-    if second {
-        interpolate_tight(work, a, b, b, d, alpha);
-        return;
-    }
-    interpolate_wide(work, a, b, b, d, alpha);
+    interpolate::<R>(work, a, b, b, d, alpha);
 }
 
 // Point j + 1 of the slot at base, which has the knots of n points, becomes its blend with point j.
-fn blend_point(work: &mut [f64], base: usize, s: Shape, n: usize, j: usize, t: f64, second: bool)
+fn blend_point<R: Revision>(work: &mut [f64], base: usize, s: Shape, n: usize, j: usize, t: f64)
     requires { Inside s work.old base × (j + 1 < n) × (n ≤ s.count + s.degree + 1) }
     ensures { let old = work.old in
-        work.new ≡ put old (place_of s base (suc j)) (flat (blend_at (arithmetic second) s old base n t j)) }
+        work.new ≡ put old (place_of s base (suc j)) (flat (blend_at (arithmetic R.second) s old base n t j)) }
 {
     let from = knots_from(base);
     let end = from + n + s.degree + 1;
-    let alpha = alpha_at(&work[from..end], s.degree, t, j + 1, second);
+    let alpha = alpha_at::<R>(&work[from..end], s.degree, t, j + 1);
     let a = place_of(s, base, j);
     let b = place_of(s, base, j + 1);
-    blend_into(work, a, b, s.dim + 1, alpha, second);
+    blend_into::<R>(work, a, b, s.dim + 1, alpha);
 }
 
 // The points numbered k - degree + 1 to k become blends, the last one first.
-fn blend_points(work: &mut [f64], base: usize, s: Shape, n: usize, k: usize, t: f64, second: bool)
+fn blend_points<R: Revision>(work: &mut [f64], base: usize, s: Shape, n: usize, k: usize, t: f64)
     requires { Inside s work.old base × (s.degree ≤ k) × (k < n) × (n ≤ s.count + s.degree + 1) }
     ensures { let old = work.old in
         work.new ≡ put old (place_of s base (suc (k - s.degree)))
-        (numbers (tab s.degree (λ j. blend_at (arithmetic second) s old base n t (k - s.degree + j)))) }
+        (numbers (tab s.degree (λ j. blend_at (arithmetic R.second) s old base n t (k - s.degree + j)))) }
 {
-    let last = k - s.degree;
-    let mut i = k;
-    while last < i {
-        i -= 1;
-        blend_point(work, base, s, n, i, t, second);
+    for i in (k - s.degree..k).rev() {
+        blend_point::<R>(work, base, s, n, i, t);
     }
 }
 
@@ -205,16 +174,16 @@ fn insert_knot(work: &mut [f64], base: usize, m: usize, k: usize, t: f64)
 }
 
 // The parameter t is inserted once, in span k, into the piece of the slot at base.
-pub(crate) fn insert_once(work: &mut [f64], base: usize, s: Shape, k: usize, t: f64, second: bool)
+pub(crate) fn insert_once<R: Revision>(work: &mut [f64], base: usize, s: Shape, k: usize, t: f64)
     requires { Held s work.old base × (s.degree ≤ k) × (k < count_at work.old base)
         × (count_at work.old base ≤ s.count + s.degree) }
     ensures { let old = work.old in
         let c = piece_at s old base in
-        work.new ≡ placed s old base (insert_once (arithmetic second) s.degree k t c) }
+        work.new ≡ placed s old base (insert_once (arithmetic R.second) s.degree k t c) }
 {
     let n = count_at(work, base);
     open_points(work, base, s, n, k);
-    blend_points(work, base, s, n, k, t, second);
+    blend_points::<R>(work, base, s, n, k, t);
     insert_knot(work, base, n + s.degree + 1, k, t);
     set_count(work, base, n + 1);
 }
@@ -231,54 +200,45 @@ fn span_in(work: &[f64], base: usize, s: Shape, t: f64) -> usize
 }
 
 // The parameter t is inserted so many times into the piece of the slot at base, each time in the span that then holds it.
-pub(crate) fn insert_times(
+pub(crate) fn insert_times<R: Revision>(
     work: &mut [f64],
     base: usize,
     s: Shape,
     t: f64,
     times: usize,
-    second: bool,
 )
     requires { Held s work.old base × (s.degree < count_at work.old base)
         × (count_at work.old base + times ≤ s.count + s.degree + 1) }
     ensures { let old = work.old in
         let c = piece_at s old base in
-        work.new ≡ placed s old base (insert_times (arithmetic second) s.degree t times c) }
+        work.new ≡ placed s old base (insert_times (arithmetic R.second) s.degree t times c) }
 {
-    let mut i = 0;
-    while i < times {
+    for _ in 0..times {
         let k = span_in(work, base, s, t);
-        insert_once(work, base, s, k, t, second);
-        i += 1;
+        insert_once::<R>(work, base, s, k, t);
     }
 }
 
 // Point j + 1 of the slot at base becomes the one a fraction alpha of the way from point j to it.
-fn between_point(work: &mut [f64], base: usize, s: Shape, j: usize, alpha: Scalar, second: bool)
+fn between_point<R: Revision>(work: &mut [f64], base: usize, s: Shape, j: usize, alpha: Scalar)
     requires { Inside s work.old base × (j < s.count + s.degree) }
     ensures { let old = work.old in
-        work.new ≡ put old (place_of s base (suc j)) (flat (between_at (arithmetic second) s old base alpha j)) }
+        work.new ≡ put old (place_of s base (suc j)) (flat (between_at (arithmetic R.second) s old base alpha j)) }
 {
     let a = place_of(s, base, j);
     let b = place_of(s, base, j + 1);
-    if second {
-        interpolate_tight(work, a, b, b, s.dim + 1, alpha);
-        return;
-    }
-    interpolate_wide(work, a, b, b, s.dim + 1, alpha);
+    interpolate::<R>(work, a, b, b, s.dim + 1, alpha);
 }
 
 // The points numbered r + 1 to degree become points between, the last one first: the next row of the triangle in the place of a row that begins at point r.
-fn next_row(work: &mut [f64], base: usize, s: Shape, r: usize, alpha: Scalar, second: bool)
+fn next_row<R: Revision>(work: &mut [f64], base: usize, s: Shape, r: usize, alpha: Scalar)
     requires { Inside s work.old base × (r ≤ s.degree) × (s.degree < s.count) }
     ensures { let old = work.old in
         work.new ≡ put old (place_of s base (suc r))
-        (numbers (tab (s.degree - r) (λ j. between_at (arithmetic second) s old base alpha (r + j)))) }
+        (numbers (tab (s.degree - r) (λ j. between_at (arithmetic R.second) s old base alpha (r + j)))) }
 {
-    let mut i = s.degree;
-    while r < i {
-        i -= 1;
-        between_point(work, base, s, i, alpha, second);
+    for i in (r..s.degree).rev() {
+        between_point::<R>(work, base, s, i, alpha);
     }
 }
 
@@ -297,19 +257,17 @@ fn copy_point(work: &mut [f64], base: usize, s: Shape, i: usize, j: usize)
 // each row takes the place of the row before. Its first point is the left side's, and stays where it stands; its last one is copied behind, where the right side grows from
 // its end. Each point of the next row is written over the farther of the two that it lies between: over the nearer, the left side would be lost. So a row is made from its
 // far end: from the near one, points would be lost that it has yet to read.
-fn triangle_in(work: &mut [f64], base: usize, s: Shape, alpha: Scalar, second: bool)
+fn triangle_in<R: Revision>(work: &mut [f64], base: usize, s: Shape, alpha: Scalar)
     requires { Inside s work.old base × (s.degree < s.count) }
-    ensures { work.new ≡ with_sides (arithmetic second) s work.old base alpha }
+    ensures { work.new ≡ with_sides (arithmetic R.second) s work.old base alpha }
 {
     let p = s.degree;
     let end = 2 * p + 1;
-    let mut r = 0;
-    while r < p {
+    for r in 0..p {
         copy_point(work, base, s, p, end - r);
-        next_row(work, base, s, r, alpha, second);
-        r += 1;
+        next_row::<R>(work, base, s, r, alpha);
     }
-    copy_point(work, base, s, p, end - r);
+    copy_point(work, base, s, p, p + 1);
 }
 
 // The knots behind the count at base become those of a Bezier span from a to b that is cut at t.
@@ -326,17 +284,17 @@ fn bezier_knots(work: &mut [f64], base: usize, degree: usize, a: f64, t: f64, b:
 }
 
 // The piece in the slot at base, a Bezier span, is cut there at t by the triangle, where alpha says how far t lies along it.
-fn split_bezier_span(work: &mut [f64], base: usize, s: Shape, t: f64, alpha: Scalar, second: bool)
+fn split_bezier_span<R: Revision>(work: &mut [f64], base: usize, s: Shape, t: f64, alpha: Scalar)
     requires { Held s work.old base × (count_at work.old base ≡ suc s.degree) × (s.degree < s.count) }
     ensures { let old = work.old in
         let c = piece_at s old base in
-        work.new ≡ placed s old base (bezier_cut (arithmetic second) s.degree t alpha c).piece }
+        work.new ≡ placed s old base (bezier_cut (arithmetic R.second) s.degree t alpha c).piece }
 {
     let p = s.degree;
     let first = knots_from(base);
     let a = work[first + p];
     let b = work[first + p + 1];
-    triangle_in(work, base, s, alpha, second);
+    triangle_in::<R>(work, base, s, alpha);
     bezier_knots(work, base, p, a, t, b);
     set_count(work, base, 2 * p + 2);
 }
@@ -360,14 +318,14 @@ fn position_in(work: &[f64], base: usize, s: Shape, t: f64) -> usize
 }
 
 // The piece in the slot at base is cut at t by as many insertions as are missing.
-fn boehm_cut(work: &mut [f64], base: usize, s: Shape, t: f64, second: bool) -> usize
+fn boehm_cut<R: Revision>(work: &mut [f64], base: usize, s: Shape, t: f64) -> usize
     requires { Held s work.old base × (s.degree < count_at work.old base) × (count_at work.old base ≤ s.count) }
     ensures { let old = work.old in
         let c = piece_at s old base in
-        CutAt s old work.new base (boehm_cut (arithmetic second) s.degree t c) result }
+        CutAt s old work.new base (boehm_cut (arithmetic R.second) s.degree t c) result }
 {
     let times = missing_in(work, base, s, t);
-    insert_times(work, base, s, t, times, second);
+    insert_times::<R>(work, base, s, t, times);
     position_in(work, base, s, t)
 }
 
@@ -384,43 +342,39 @@ fn is_bezier_in(work: &[f64], base: usize, s: Shape, t: f64) -> bool
 }
 
 // How far t lies along the span that begins at the domain's start, in the slot at base.
-fn along_in(work: &[f64], base: usize, s: Shape, t: f64, second: bool) -> Divided
+fn along_in<R: Revision>(work: &[f64], base: usize, s: Shape, t: f64) -> Option<Scalar>
     requires { Held s work.now base × (s.degree < count_at work.now base) }
     ensures { let old = work.now in
         let c = piece_at s old base in
-        result ≡ (arithmetic second).div ((arithmetic second).sub (sharp t) (sharp (knot c.knots s.degree)))
-        ((arithmetic second).sub (sharp (knot c.knots (suc s.degree))) (sharp (knot c.knots s.degree))) }
+        result ≡ (arithmetic R.second).div ((arithmetic R.second).sub (sharp t) (sharp (knot c.knots s.degree)))
+        ((arithmetic R.second).sub (sharp (knot c.knots (suc s.degree))) (sharp (knot c.knots s.degree))) }
 {
     let at = knots_from(base) + s.degree;
     let a = Scalar::from_f64(work[at]);
     let b = Scalar::from_f64(work[at + 1]);
-    Scalar::from_f64(t)
-        .sub(a, second)
-        .div(b.sub(a, second), second)
+    R::div(R::sub(Scalar::from_f64(t), a), R::sub(b, a))
 }
 
 // The parameter t, strictly inside the domain, is raised to multiplicity degree + 1 in the slot at base. The result is the number of the point at which the piece separates.
-pub(crate) fn insert_to_full_multiplicity(
+pub(crate) fn insert_to_full_multiplicity<R: Revision>(
     work: &mut [f64],
     base: usize,
     s: Shape,
     t: f64,
-    second: bool,
 ) -> usize
     requires { Held s work.old base × (s.degree < count_at work.old base) × (count_at work.old base ≤ s.count) }
     ensures { let old = work.old in
         let c = piece_at s old base in
-        CutAt s old work.new base (full_cut (arithmetic second) s.degree t c) result }
+        CutAt s old work.new base (full_cut (arithmetic R.second) s.degree t c) result }
 {
     if !is_bezier_in(work, base, s, t) {
-        return boehm_cut(work, base, s, t, second);
+        return boehm_cut::<R>(work, base, s, t);
     }
-    let along = along_in(work, base, s, t, second);
-    match along {
-        Divided::Value(alpha) => {
-            split_bezier_span(work, base, s, t, alpha, second);
+    match along_in::<R>(work, base, s, t) {
+        Some(alpha) => {
+            split_bezier_span::<R>(work, base, s, t, alpha);
             s.degree + 1
         }
-        Divided::Failed => boehm_cut(work, base, s, t, second),
+        None => boehm_cut::<R>(work, base, s, t),
     }
 }

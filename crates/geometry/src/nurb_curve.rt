@@ -2,13 +2,14 @@
 // Points are lent as a list of numbers: the lo and the hi of each of their dim + 1 intervals, the weight's last.
 ghost use Rattle.std.specs.Prelude.{◌≡◌, true, ◌&&◌, suc, ◌+◌, ◌*◌, ◌≤◌, ◌<◌, length};
 ghost use Rattle.std.specs.Float.Ieee.{lt};
-ghost use Rattle.math.specs.Scalars.{zero_f, ENTIRE, value_or, is_same};
+ghost use Rattle.math.specs.Scalars.{zero_f, is_same};
 ghost use Rattle.math.specs.Revision.{arithmetic};
 ghost use Rattle.model.specs.Vector.{coordinate};
 ghost use Rattle.model.specs.Layout.{scalar_at, point_at, points_of};
 ghost use Rattle.model.specs.NurbCurve.{domain, in_domain, mid_parameter, weights_positive};
 
-use math::scalars::{Divided, Scalar};
+use math::revision::Revision;
+use math::scalars::Scalar;
 
 // Interval number j of a lent list.
 pub(crate) fn scalar_at(l: &[f64], j: usize) -> Scalar
@@ -29,16 +30,6 @@ pub(crate) fn coordinate(points: &[f64], dim: usize, i: usize, k: usize) -> Scal
     scalar_at(points, (dim + 1) * i + k)
 }
 
-// What a division gave, and the whole line where it failed.
-pub(crate) fn value_or_entire(q: Divided) -> Scalar
-    ensures { result ≡ value_or q ENTIRE }
-{
-    match q {
-        Divided::Value(x) => x,
-        Divided::Failed => Scalar::entire(),
-    }
-}
-
 // The interval from a to b.
 pub(crate) fn domain(a: f64, b: f64) -> Scalar
     ensures { result ≡ domain a b }
@@ -54,11 +45,11 @@ pub(crate) fn in_domain(a: f64, b: f64, t: f64) -> bool
 }
 
 // The middle of (a + b) / 2.
-pub(crate) fn mid_parameter(a: f64, b: f64, second: bool) -> f64
-    ensures { result ≡ mid_parameter (arithmetic second) a b }
+pub(crate) fn mid_parameter<R: Revision>(a: f64, b: f64) -> f64
+    ensures { result ≡ mid_parameter (arithmetic R.second) a b }
 {
-    let sum = Scalar::from_f64(a).add(Scalar::from_f64(b), second);
-    value_or_entire(sum.div(Scalar::TWO, second)).to_f64()
+    let sum = R::add(Scalar::from_f64(a), Scalar::from_f64(b));
+    R::div(sum, Scalar::TWO).unwrap_or(Scalar::entire()).to_f64()
 }
 
 // Both bounds are above zero.
@@ -72,6 +63,7 @@ fn positive(a: Scalar) -> bool
 pub(crate) fn repeats(a: Scalar, b: Scalar) -> bool
     ensures { (result ≡ (is_same a b && (lt zero_f a.lo && lt zero_f a.hi))) × (result ≡ true → a ≡ b) }
 {
+    // bound by bound: behind the derived == the proof does not know that the bounds are doubles
     if a.lo == b.lo && a.hi == b.hi {
         return positive(a);
     }
@@ -83,13 +75,11 @@ pub(crate) fn weights_positive(points: &[f64], dim: usize, count: usize) -> bool
     requires { (dim ≤ 3) × (count ≤ 64) × (2 * (suc dim * count) ≤ length points.now) }
     ensures { result ≡ weights_positive dim (points_of (suc dim) count points.now) }
 {
-    let mut i = 0;
-    while i < count {
+    for i in 0..count {
         let w = coordinate(points, dim, i, dim);
         if !(0.0 < w.lo) {
             return false;
         }
-        i += 1;
     }
     true
 }

@@ -7,6 +7,7 @@ ghost use Rattle.geometry.specs.Slots.{piece_at, Inside, Held, Apart, Whole, Fit
 use crate::knot_insertion::insert_to_full_multiplicity;
 use crate::nurb_curve::{in_domain, mid_parameter};
 use crate::slots::{Shape, copy_right, count_at, keep_left, knots_from};
+use math::revision::Revision;
 
 // The parameter t lies strictly inside the domain of the piece in the slot at base.
 pub(crate) fn is_inside(work: &[f64], base: usize, s: Shape, t: f64) -> bool
@@ -20,100 +21,97 @@ pub(crate) fn is_inside(work: &[f64], base: usize, s: Shape, t: f64) -> bool
 
 // The piece in the slot at src, where it stays, is cut at t in the slot at left; what is right of t goes to the slot at right. There is no cut unless t lies strictly
 // inside the domain.
-pub(crate) fn split(
+pub(crate) fn split<R: Revision>(
     work: &mut [f64],
     src: usize,
     left: usize,
     right: usize,
     s: Shape,
     t: f64,
-    second: bool,
 ) -> bool
     requires held { Held s work.old src × Whole s (piece_at s work.old src) × Inside s work.old left
         × Inside s work.old right }
     requires apart { Apart s src left × Apart s src right × Apart s left right }
     ensures { let old = work.old in
         let c = piece_at s old src in
-        SplitAt (arithmetic second) s old work.new left right t c result }
+        SplitAt (arithmetic R.second) s old work.new left right t c result }
 {
     if !is_inside(work, src, s, t) {
         return false;
     }
     copy_right(work, src, left, s, 0);
-    let at = insert_to_full_multiplicity(work, left, s, t, second);
+    let at = insert_to_full_multiplicity::<R>(work, left, s, t);
     copy_right(work, left, right, s, at);
     keep_left(work, left, s, at);
     true
 }
 
 // The piece in the slot at src is cut at the middle of its domain.
-pub(crate) fn split_mid(
+pub(crate) fn split_mid<R: Revision>(
     work: &mut [f64],
     src: usize,
     left: usize,
     right: usize,
     s: Shape,
-    second: bool,
 ) -> bool
     requires held { Held s work.old src × Whole s (piece_at s work.old src) × Inside s work.old left
         × Inside s work.old right }
     requires apart { Apart s src left × Apart s src right × Apart s left right }
     ensures { let old = work.old in
         let c = piece_at s old src in
-        SplitAt (arithmetic second) s old work.new left right
-        (mid_parameter (arithmetic second) (start s.degree c) (end c)) c result }
+        SplitAt (arithmetic R.second) s old work.new left right
+        (mid_parameter (arithmetic R.second) (start s.degree c) (end c)) c result }
 {
     let n = count_at(work, src);
     let first = knots_from(src);
-    let t = mid_parameter(work[first + s.degree], work[first + n], second);
-    split(work, src, left, right, s, t, second)
+    let t = mid_parameter::<R>(work[first + s.degree], work[first + n]);
+    split::<R>(work, src, left, right, s, t)
 }
 
 // The piece in the slot at base becomes what is right of t, where t lies strictly inside its domain. The result is the number of cuts.
-fn cut_from(work: &mut [f64], base: usize, s: Shape, t: f64, second: bool) -> usize
+fn cut_from<R: Revision>(work: &mut [f64], base: usize, s: Shape, t: f64) -> usize
     requires { Held s work.old base × Whole s (piece_at s work.old base) }
-    ensures { FromAt (arithmetic second) s work.old work.new base t (piece_at s work.old base) result }
+    ensures { FromAt (arithmetic R.second) s work.old work.new base t (piece_at s work.old base) result }
 {
     if !is_inside(work, base, s, t) {
         return 0;
     }
-    let at = insert_to_full_multiplicity(work, base, s, t, second);
+    let at = insert_to_full_multiplicity::<R>(work, base, s, t);
     copy_right(work, base, base, s, at);
     1
 }
 
 // The piece in the slot at base becomes what is left of t, where t lies strictly inside its domain. The result is the number of cuts.
-fn cut_up_to(work: &mut [f64], base: usize, s: Shape, t: f64, second: bool) -> usize
+fn cut_up_to<R: Revision>(work: &mut [f64], base: usize, s: Shape, t: f64) -> usize
     requires { Held s work.old base × Whole s (piece_at s work.old base) }
-    ensures { UpToAt (arithmetic second) s work.old work.new base t (piece_at s work.old base) result }
+    ensures { UpToAt (arithmetic R.second) s work.old work.new base t (piece_at s work.old base) result }
 {
     if !is_inside(work, base, s, t) {
         return 0;
     }
-    let at = insert_to_full_multiplicity(work, base, s, t, second);
+    let at = insert_to_full_multiplicity::<R>(work, base, s, t);
     keep_left(work, base, s, at);
     1
 }
 
 // The piece in the slot at src, where it stays, is cut down to lo and hi in the slot at to: the second cut runs in the slot of the first. The result is the number of
 // cuts, 0, 1 or 2: one if lo lies strictly inside the domain, and one more if hi lies strictly inside what is then left.
-pub(crate) fn restrict(
+pub(crate) fn restrict<R: Revision>(
     work: &mut [f64],
     src: usize,
     to: usize,
     s: Shape,
     lo: f64,
     hi: f64,
-    second: bool,
 ) -> usize
-    requires { Held s work.old src × Fit (arithmetic second) s (piece_at s work.old src) × Inside s work.old to × Apart s src to
+    requires { Held s work.old src × Fit (arithmetic R.second) s (piece_at s work.old src) × Inside s work.old to × Apart s src to
         × (1 ≤ s.degree) }
     ensures { let old = work.old in
         let c = piece_at s old src in
-        RestrictAt (arithmetic second) s old work.new to lo hi c result }
+        RestrictAt (arithmetic R.second) s old work.new to lo hi c result }
 {
     copy_right(work, src, to, s, 0);
-    let from = cut_from(work, to, s, lo, second);
-    let up_to = cut_up_to(work, to, s, hi, second);
+    let from = cut_from::<R>(work, to, s, lo);
+    let up_to = cut_up_to::<R>(work, to, s, hi);
     from + up_to
 }

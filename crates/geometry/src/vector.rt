@@ -1,12 +1,12 @@
 // vector/mod.rs: a point between two points, in memory, where lo and hi of each coordinate stand side by side.
 ghost use Rattle.std.specs.Prelude.{◌≡◌, ◌⊎◌, [], ◌∷◌, ◌+◌, ◌*◌, ◌≤◌, ◌<◌, length};
 ghost use Rattle.lists.specs.Lists.{put};
-ghost use Rattle.math.specs.Scalars.{geop};
-ghost use Rattle.math.specs.Tight.{tight};
+ghost use Rattle.math.specs.Revision.{arithmetic};
 ghost use Rattle.model.specs.Vector.{interpolate_v};
 ghost use Rattle.model.specs.Layout.{flat};
 ghost use Rattle.geometry.specs.Slots.{scalar_from, vector_at};
 
+use math::revision::Revision;
 use math::scalars::Scalar;
 
 // The interval whose lo stands at index i.
@@ -29,9 +29,9 @@ pub(crate) fn set_scalar(words: &mut [f64], i: usize, x: Scalar)
     words[i + 1] = x.hi;
 }
 
-// The point of d intervals at c becomes the one a fraction alpha of the way from the point at a to the point at b, each of which lies in front of it or begins at
-// or behind its first word: in revision 1.
-pub(crate) fn interpolate_wide(
+// The point of d intervals at c becomes the one a fraction alpha of the way from the point at a to the point at b, each of
+// which lies in front of it or begins at or behind its first word.
+pub(crate) fn interpolate<R: Revision>(
     words: &mut [f64],
     a: usize,
     b: usize,
@@ -42,40 +42,12 @@ pub(crate) fn interpolate_wide(
     requires d_in_bounds { (a + 2 * d ≤ length words.old) × (b + 2 * d ≤ length words.old) × (c + 2 * d ≤ length words.old) }
     requires fact { ((a + 2 * d ≤ c) ⊎ (c ≤ a)) × ((b + 2 * d ≤ c) ⊎ (c ≤ b)) }
     ensures { let old = words.old in
-        words.new ≡ put old c (flat (interpolate_v geop (vector_at d old a) (vector_at d old b) alpha)) }
+        words.new ≡ put old c (flat (interpolate_v (arithmetic R.second) (vector_at d old a) (vector_at d old b) alpha)) }
 {
-    let f = Scalar::fraction(alpha, false);
-    let mut k = 0;
-    while k < d {
+    let f = R::fraction(alpha);
+    for k in 0..d {
         let x = scalar_from(words, a + 2 * k);
         let y = scalar_from(words, b + 2 * k);
-        let z = Scalar::between_wide(x, y, f);
-        set_scalar(words, c + 2 * k, z);
-        k += 1;
-    }
-}
-
-// The same in revision 2.
-pub(crate) fn interpolate_tight(
-    words: &mut [f64],
-    a: usize,
-    b: usize,
-    c: usize,
-    d: usize,
-    alpha: Scalar,
-)
-    requires d_in_bounds { (a + 2 * d ≤ length words.old) × (b + 2 * d ≤ length words.old) × (c + 2 * d ≤ length words.old) }
-    requires fact { ((a + 2 * d ≤ c) ⊎ (c ≤ a)) × ((b + 2 * d ≤ c) ⊎ (c ≤ b)) }
-    ensures { let old = words.old in
-        words.new ≡ put old c (flat (interpolate_v tight (vector_at d old a) (vector_at d old b) alpha)) }
-{
-    let f = Scalar::fraction(alpha, true);
-    let mut k = 0;
-    while k < d {
-        let x = scalar_from(words, a + 2 * k);
-        let y = scalar_from(words, b + 2 * k);
-        let z = Scalar::between_tight(x, y, f);
-        set_scalar(words, c + 2 * k, z);
-        k += 1;
+        set_scalar(words, c + 2 * k, R::between(x, y, f));
     }
 }

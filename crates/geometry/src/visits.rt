@@ -15,14 +15,14 @@ ghost use Rattle.geometry.specs.Plan.{plan_hat, plan_clip, planned};
 
 use crate::aabb::aabb_could_overlap;
 use crate::fat_line::{
-    Greville, carried, fat_line_zeros, from_first, greville_abscissae, halves, restricts,
+    carried, fat_line_zeros, from_first, greville_abscissae, halves, restricts,
 };
 use crate::nurb_curve::{coordinate, domain, repeats, scalar_at, weights_positive};
 use crate::slots::{Shape, count_at, knots_in, points_in};
 use crate::split::{restrict, split_mid};
 use crate::subdivide::Outcome;
+use math::revision::Revision;
 use math::scalars::Scalar;
-use model::fat_line::Hat;
 
 // A weight, beside its product with a factor.
 #[derive(Clone, Copy)]
@@ -32,9 +32,9 @@ struct Weighed {
 }
 
 // The weight w beside its product with e, which is taken over from the last weight where w repeats it.
-fn times_weight(e: Scalar, w: Scalar, last: Weighed, second: bool) -> Weighed
-    requires { last.product ≡ (arithmetic second).mul e last.weight }
-    ensures { (result.weight ≡ w) × (result.product ≡ (arithmetic second).mul e w) }
+fn times_weight<R: Revision>(e: Scalar, w: Scalar, last: Weighed) -> Weighed
+    requires { last.product ≡ (arithmetic R.second).mul e last.weight }
+    ensures { (result.weight ≡ w) × (result.product ≡ (arithmetic R.second).mul e w) }
 {
     let v = last.weight;
     if repeats(w, v) {
@@ -42,104 +42,84 @@ fn times_weight(e: Scalar, w: Scalar, last: Weighed, second: bool) -> Weighed
     }
     Weighed {
         weight: w,
-        product: e.times(w, second),
+        product: R::times(e, w),
     }
 }
 
-// The values of axis k, one for each point, written to the front of d: the coordinate less e times the weight.
-fn axis(points: &[f64], dim: usize, count: usize, k: usize, e: Scalar, d: &mut [f64], second: bool)
-    requires { ((0 < count) × (k < dim)) × ((2 * (suc dim * count) ≤ length points.now) × (2 * count ≤ length d.old)) }
-    ensures { d.new ≡ put d.old 0
-        (flat (axis (arithmetic second) dim k e (points_of (suc dim) count points.now))) }
+// The values of axis k, one for each point, written to d: the coordinate less e times the weight.
+fn axis<R: Revision>(points: &[f64], dim: usize, k: usize, e: Scalar, d: &mut [Scalar])
+    requires { (0 < length d.old) × (k < dim) × (2 * (suc dim * length d.old) ≤ length points.now) }
+    ensures { d.new ≡ axis (arithmetic R.second) dim k e (points_of (suc dim) (length d.old) points.now) }
 {
     let w = coordinate(points, dim, 0, dim);
     let mut last = Weighed {
         weight: w,
-        product: e.times(w, second),
+        product: R::times(e, w),
     };
-    let mut i = 0;
-    while i < count {
-        last = times_weight(e, coordinate(points, dim, i, dim), last, second);
-        let p = last.product;
-        let v = coordinate(points, dim, i, k).sub(p, second);
-        d[2 * i] = v.lo;
-        d[2 * i + 1] = v.hi;
-        i += 1;
+    for i in 0..d.len() {
+        last = times_weight::<R>(e, coordinate(points, dim, i, dim), last);
+        d[i] = R::sub(coordinate(points, dim, i, k), last.product);
     }
 }
 
 // The hat, held to the zeros of one axis more.
-fn narrowed(hat: Scalar, zeros: Hat) -> Hat
+fn narrowed(hat: Scalar, zeros: Option<Scalar>) -> Option<Scalar>
     ensures { result ≡ narrowed hat zeros }
 {
-    let Hat::Over(z) = zeros else {
-        return Hat::Missing;
-    };
+    let z = zeros?;
     if z.could_be_equal(hat) {
-        return Hat::Over(hat.intersect(z));
+        return Some(hat.intersect(z));
     }
-    Hat::Missing
+    None
 }
 
-// What axis k of the box leaves of a hat, where d is lent for the values of the axis, and dx has how far each abscissa lies from the first.
-fn clip_axis(
-    xi: &[f64],
-    dx: &[f64],
+// What axis k of the box leaves of a hat, where d is lent for the values of the axis, and dx has how far each abscissa lies
+// from the first.
+fn clip_axis<R: Revision>(
+    xi: &[Scalar],
+    dx: &[Scalar],
     points: &[f64],
     dim: usize,
-    count: usize,
     k: usize,
     e: Scalar,
     hat: Scalar,
-    d: &mut [f64],
-    second: bool,
-) -> Hat
-    requires count_nonzero { ((0 < count) × (2 * count ≤ length xi.now))
-        × ((k < dim) × ((2 * (suc dim * count) ≤ length points.now) × (2 * count ≤ length d.old))) }
-    requires count_in_bounds { (2 * count ≤ length dx.now)
-        × (scalars_of count dx.now ≡ from_first (arithmetic second) (scalars_of count xi.now)) }
-    ensures value { result ≡ narrowed hat
-        (fat_line_zeros (arithmetic second) (scalars_of count xi.now)
-        (axis (arithmetic second) dim k e (points_of (suc dim) count points.now))) }
-    ensures d_after { d.new ≡ put d.old 0
-        (flat (axis (arithmetic second) dim k e (points_of (suc dim) count points.now))) }
+    d: &mut [Scalar],
+) -> Option<Scalar>
+    requires lengths { (0 < length xi.now) × (length d.old ≡ length xi.now) }
+    requires points { (k < dim) × (2 * (suc dim * length xi.now) ≤ length points.now) }
+    requires dx_value { dx.now ≡ from_first (arithmetic R.second) xi.now }
+    ensures value { result ≡ narrowed hat (fat_line_zeros (arithmetic R.second) xi.now
+        (axis (arithmetic R.second) dim k e (points_of (suc dim) (length xi.now) points.now))) }
 {
-    axis(points, dim, count, k, e, d, second);
-    narrowed(hat, fat_line_zeros(xi, dx, d, count, second))
+    axis::<R>(points, dim, k, e, d);
+    narrowed(hat, fat_line_zeros::<R>(xi, dx, d))
 }
 
 // The hat that the axes of the box leave of the domain from start to end: no axis is taken once nothing is left.
-pub(crate) fn clip(
-    xi: &[f64],
+pub(crate) fn clip<R: Revision>(
+    xi: &[Scalar],
     points: &[f64],
     point_box: &[f64],
     dim: usize,
-    count: usize,
     start: f64,
     end: f64,
-    second: bool,
-) -> Hat
-    requires { ((0 < count) × (count ≤ 32)) ×
-        ((2 * count ≤ length xi.now) ×
-        ((2 * (suc dim * count) ≤ length points.now) × (2 * dim ≤ length point_box.now))) }
+) -> Option<Scalar>
+    requires { (0 < length xi.now) × (length xi.now ≤ 32)
+        × (2 * (suc dim * length xi.now) ≤ length points.now) × (2 * dim ≤ length point_box.now) }
     ensures { let box = point_box.now in
-        result ≡ clip (arithmetic second) dim (points_of (suc dim) count points.now) (scalars_of count xi.now)
+        result ≡ clip (arithmetic R.second) dim (points_of (suc dim) (length xi.now) points.now) xi.now
         (domain start end) 0 (scalars_of dim box) }
 {
-    let mut dx = [0.0; 64];
-    from_first(xi, count, &mut dx, second);
-    let mut d = [0.0; 64];
-    let mut hat = Scalar::from_f64(start).union(Scalar::from_f64(end));
-    let mut k = 0;
-    while k < dim {
+    let count = xi.len();
+    let mut dx = [Scalar::ZERO; 32];
+    from_first::<R>(xi, &mut dx[..count]);
+    let mut d = [Scalar::ZERO; 32];
+    let mut hat = domain(start, end);
+    for k in 0..dim {
         let e = scalar_at(point_box, k);
-        let Hat::Over(h) = clip_axis(xi, &dx, points, dim, count, k, e, hat, &mut d, second) else {
-            return Hat::Missing;
-        };
-        hat = h;
-        k += 1;
+        hat = clip_axis::<R>(xi, &dx[..count], points, dim, k, e, hat, &mut d[..count])?;
     }
-    Hat::Over(hat)
+    Some(hat)
 }
 
 // ---- the plan of a visit
@@ -158,7 +138,7 @@ pub enum Plan {
 }
 
 // What to make of a piece with a hat, on a domain from a to b.
-fn plan_hat(
+fn plan_hat<R: Revision>(
     points: &[f64],
     point_box: &[f64],
     dim: usize,
@@ -167,16 +147,15 @@ fn plan_hat(
     b: f64,
     hat: Scalar,
     resolution: f64,
-    second: bool,
 ) -> Plan
     requires { (dim ≤ 3) × (1 ≤ count) × (count ≤ 32) × (2 * (suc dim * count) ≤ length points.now)
         × (2 * dim ≤ length point_box.now) }
     ensures { let box = point_box.now in
-        result ≡ plan_hat (arithmetic second) dim (scalars_of dim box) resolution a b (points_of (suc dim) count points.now)
+        result ≡ plan_hat (arithmetic R.second) dim (scalars_of dim box) resolution a b (points_of (suc dim) count points.now)
         hat }
 {
     let w = carried(points, point_box, dim, count);
-    if restricts(points, dim, count, a, b, hat, w, second) {
+    if restricts::<R>(points, dim, count, a, b, hat, w) {
         return Plan::Restrict(hat);
     }
     if halves(points, dim, count, a, b, w, resolution) {
@@ -186,7 +165,7 @@ fn plan_hat(
 }
 
 // What to make of a piece whose box does not miss.
-fn plan_clip(
+fn plan_clip<R: Revision>(
     knots: &[f64],
     points: &[f64],
     point_box: &[f64],
@@ -194,32 +173,28 @@ fn plan_clip(
     degree: usize,
     count: usize,
     resolution: f64,
-    second: bool,
 ) -> Plan
     requires dim_bound { (dim ≤ 3) × (1 ≤ count) × (count ≤ 32) × (2 * (suc dim * count) ≤ length points.now)
         × (2 * dim ≤ length point_box.now) }
     requires degree_bound { (degree ≤ 7) × (count + degree + 1 ≤ length knots.now) }
     ensures { let box = point_box.now in
-        result ≡ plan_clip (arithmetic second) dim degree (scalars_of dim box) resolution
+        result ≡ plan_clip (arithmetic R.second) dim degree (scalars_of dim box) resolution
         (record { knots = knots.now; points = points_of (suc dim) count points.now })
-        (greville (arithmetic second) degree count knots.now) }
+        (greville (arithmetic R.second) degree count knots.now) }
 {
     let a = knots[degree];
     let b = knots[count];
-    let xi = greville_abscissae(knots, degree, count, second);
-    let has = xi.has;
-    let Greville::Some = has else {
+    let Some(xi) = greville_abscissae::<R>(knots, degree, count) else {
         return Plan::Report(domain(a, b));
     };
-    let at = xi.at;
-    let Hat::Over(hat) = clip(&at, points, point_box, dim, count, a, b, second) else {
+    let Some(hat) = clip::<R>(&xi[..count], points, point_box, dim, a, b) else {
         return Plan::Skip;
     };
-    plan_hat(points, point_box, dim, count, a, b, hat, resolution, second)
+    plan_hat::<R>(points, point_box, dim, count, a, b, hat, resolution)
 }
 
 // What a visit is to make of the piece with these knots and count points.
-pub(crate) fn planned(
+pub(crate) fn planned<R: Revision>(
     knots: &[f64],
     points: &[f64],
     point_box: &[f64],
@@ -227,43 +202,41 @@ pub(crate) fn planned(
     degree: usize,
     count: usize,
     resolution: f64,
-    second: bool,
 ) -> Plan
     requires dim_bound { (dim ≤ 3) × (1 ≤ count) × (count ≤ 32) × (2 * (suc dim * count) ≤ length points.now)
         × (2 * dim ≤ length point_box.now) }
     requires degree_bound { (degree ≤ 7) × (count + degree + 1 ≤ length knots.now) }
     ensures { let box = point_box.now in
-        result ≡ planned (arithmetic second) dim degree (scalars_of dim box) resolution
+        result ≡ planned (arithmetic R.second) dim degree (scalars_of dim box) resolution
         (record { knots = knots.now; points = points_of (suc dim) count points.now }) }
 {
-    if !aabb_could_overlap(points, point_box, dim, count, second) {
+    if !aabb_could_overlap::<R>(points, point_box, dim, count) {
         return Plan::Skip;
     }
-    plan_clip(
-        knots, points, point_box, dim, degree, count, resolution, second,
+    plan_clip::<R>(
+        knots, points, point_box, dim, degree, count, resolution,
     )
 }
 
 // What a visit is to make of the piece in the slot at base.
-fn plan_in(
+fn plan_in<R: Revision>(
     work: &[f64],
     base: usize,
     s: Shape,
     point_box: &[f64],
     resolution: f64,
-    second: bool,
 ) -> Plan
-    requires { Held s work.now base × Fit (arithmetic second) s (piece_at s work.now base)
+    requires { Held s work.now base × Fit (arithmetic R.second) s (piece_at s work.now base)
         × (2 * s.dim ≤ length point_box.now) }
     ensures { let box = point_box.now in
-        result ≡ planned (arithmetic second) s.dim s.degree (scalars_of s.dim box) resolution
+        result ≡ planned (arithmetic R.second) s.dim s.degree (scalars_of s.dim box) resolution
         (piece_at s work.now base) }
 {
     let n = count_at(work, base);
     let knots = knots_in(work, base, s);
     let points = points_in(work, base, s);
-    planned(
-        knots, points, point_box, s.dim, s.degree, n, resolution, second,
+    planned::<R>(
+        knots, points, point_box, s.dim, s.degree, n, resolution,
     )
 }
 
@@ -279,15 +252,15 @@ fn weights_positive_in(work: &[f64], base: usize, s: Shape) -> bool
 // ---- the visit
 
 // The piece in the slot at base is cut down to its hat, and handed on in the slot at a.
-fn hand_on(work: &mut [f64], base: usize, a: usize, s: Shape, hat: Scalar, second: bool) -> Outcome
-    requires { Held s work.old base × Fit (arithmetic second) s (piece_at s work.old base) × Inside s work.old a × Apart s base a
+fn hand_on<R: Revision>(work: &mut [f64], base: usize, a: usize, s: Shape, hat: Scalar) -> Outcome
+    requires { Held s work.old base × Fit (arithmetic R.second) s (piece_at s work.old base) × Inside s work.old a × Apart s base a
         × (1 ≤ s.degree) }
     ensures { let old = work.old in
         let c = piece_at s old base in
-        ((b : ℕ) → Visited (hand_on s.dim (restrict (arithmetic second) s.degree hat.lo hat.hi c)) s a b old
+        ((b : ℕ) → Visited (hand_on s.dim (restrict (arithmetic R.second) s.degree hat.lo hat.hi c)) s a b old
         work.new result) }
 {
-    let cuts = restrict(work, base, a, s, hat.lo, hat.hi, second);
+    let cuts = restrict::<R>(work, base, a, s, hat.lo, hat.hi);
     if !weights_positive_in(work, a, s) {
         return Outcome::BadWeight;
     }
@@ -295,22 +268,21 @@ fn hand_on(work: &mut [f64], base: usize, a: usize, s: Shape, hat: Scalar, secon
 }
 
 // The piece in the slot at base is cut in two, and the halves are handed on in the slots at a and b. Where there is no cut the hat is reported.
-fn hand_both(
+fn hand_both<R: Revision>(
     work: &mut [f64],
     base: usize,
     a: usize,
     b: usize,
     s: Shape,
     hat: Scalar,
-    second: bool,
 ) -> Outcome
     requires held { Held s work.old base × Whole s (piece_at s work.old base) × Inside s work.old a × Inside s work.old b }
     requires apart { Apart s base a × Apart s base b × Apart s a b }
     ensures { let old = work.old in
         let c = piece_at s old base in
-        Visited (hand_both s.dim hat (split_mid (arithmetic second) s.degree c)) s a b old work.new result }
+        Visited (hand_both s.dim hat (split_mid (arithmetic R.second) s.degree c)) s a b old work.new result }
 {
-    if !split_mid(work, base, a, b, s, second) {
+    if !split_mid::<R>(work, base, a, b, s) {
         return Outcome::Reported(hat);
     }
     if !weights_positive_in(work, a, s) {
@@ -323,7 +295,7 @@ fn hand_both(
 }
 
 // The visit of the piece in the slot at base. What it hands on stands in the slots at a and b.
-pub(crate) fn visit(
+pub(crate) fn visit<R: Revision>(
     work: &mut [f64],
     base: usize,
     a: usize,
@@ -331,20 +303,19 @@ pub(crate) fn visit(
     s: Shape,
     point_box: &[f64],
     resolution: f64,
-    second: bool,
 ) -> Outcome
-    requires held { Held s work.old base × Fit (arithmetic second) s (piece_at s work.old base)
+    requires held { Held s work.old base × Fit (arithmetic R.second) s (piece_at s work.old base)
         × (2 * s.dim ≤ length point_box.now) }
     requires inside { Inside s work.old a × Inside s work.old b × Apart s base a × Apart s base b × Apart s a b }
     ensures { let old = work.old in
         let box = point_box.now in
         let c = piece_at s old base in
-        Visited (visit (arithmetic second) (asked_of s box resolution 0) c) s a b old work.new result }
+        Visited (visit (arithmetic R.second) (asked_of s box resolution 0) c) s a b old work.new result }
 {
-    match plan_in(work, base, s, point_box, resolution, second) {
+    match plan_in::<R>(work, base, s, point_box, resolution) {
         Plan::Skip => Outcome::Dropped,
         Plan::Report(t) => Outcome::Reported(t),
-        Plan::Restrict(hat) => hand_on(work, base, a, s, hat, second),
-        Plan::Halve(hat) => hand_both(work, base, a, b, s, hat, second),
+        Plan::Restrict(hat) => hand_on::<R>(work, base, a, s, hat),
+        Plan::Halve(hat) => hand_both::<R>(work, base, a, b, s, hat),
     }
 }

@@ -27,6 +27,7 @@ pub use Rattle.math.proofs.Intervals.Bounds.{AreDoubles, AreNumbers, difference_
 pub use Rattle.math.proofs.Intervals.Bounds.{Gathers, doubles_join, numbers_pick}
 -- a divisor that was made of an interval divides as that does
 pub use Rattle.math.proofs.Intervals.Bounds.{over_own, divisor_own}
+pub use Rattle.math.proofs.Paper.{value_or_is}
 -- a fraction has its alpha, and to go it is to interpolate
 pub use Rattle.math.proofs.Intervals.Factors.{fraction_own, between_own}
 -- the Rust's arithmetic encloses

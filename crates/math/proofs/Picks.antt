@@ -9,7 +9,7 @@ use Rattle.math.specs.Picks.{lesser_f, greater_f, min_f, max_f}
 use Rattle.math.specs.Scalars.{Arithmetic, least4, most4, corners, intersect_s, same_operands}
 use Rattle.math.specs.Factors.{both_ways, between_s}
 use Rattle.math.specs.declared.scalars.Scalar.{Scalar}
-use Rattle.math.specs.declared.scalars.Fraction.{Fraction}
+use Rattle.math.specs.declared.revision.Fraction.{Fraction}
 use Rattle.math.proofs.Bools.{pick_yes, pick_no}
 use Rattle.math.proofs.Doubles.Least.{least_number, most_number, least_fits, most-fits}
 

@@ -9,7 +9,7 @@ use Rattle.math.proofs.Laws.{eq→value, le→value, value→eq, unique, reading
 use Rattle.math.proofs.Laws.{max_either, max_left, max_second}
 use Rattle.math.proofs.Laws.{AreDoubles, AreNumbers, difference_doubles, over_numbers, widen_difference, widen_over_own}
 use Rattle.math.proofs.Laws.{doubles_join, numbers_pick}
-use Rattle.math.proofs.Laws.{over_own, divisor_own, fraction_own, between_own}
+use Rattle.math.proofs.Laws.{over_own, divisor_own, value_or_is, fraction_own, between_own}
 use Rattle.math.proofs.Laws.{second_is, first_is, geop_encloses, tight_encloses, encloses, arithmetic_in_order, tight_tightest}
 use Rattle.math.proofs.Laws.{sqrt_fits, sqrt_nonneg, square_decides}
 use Rattle.math.proofs.Bools.{yes, no, decide, never, compare_le, same_test, same_eqb, and_i, and_l, and_r, and_both}
@@ -62,6 +62,7 @@ intervals = record {
   numbers_pick = choose;
   over_own = over_own;
   divisor_own = divisor_own;
+  value_or_is = value_or_is;
   fraction_own = fraction_own;
   between_own = between_own;
 }

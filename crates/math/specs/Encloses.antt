@@ -4,7 +4,7 @@ use Rattle.std.specs.Float.{fin, binary64}
 use Rattle.std.specs.Float.Ieee.{lt, le, fits}
 use Rattle.exact.specs.Rational.{ℚ, ◌+ℚ◌, ◌-ℚ◌, ◌*ℚ◌, 0ℚ, invℚ, ◌÷◌}
 use Rattle.math.specs.declared.scalars.Scalar.{Scalar}
-use Rattle.math.specs.declared.scalars.Divided.TheVariants.{Value, Failed}
+use Rattle.std.specs.Prelude.{Some, None}
 use Rattle.math.specs.Scalars.{Arithmetic, sharp, ENTIRE, ZERO, ONE, is_same}
 use Rattle.math.specs.Values.{Holds, Proper}
 
@@ -33,17 +33,17 @@ pub record Encloses (ar : Arithmetic) : Type 0 where
   pub add_holds : (a b : Scalar) (x y : ℚ) → Holds a x → Holds b y → Holds (ar.add a b) (x +ℚ y)
   pub sub_holds : (a b : Scalar) (x y : ℚ) → Holds a x → Holds b y → Holds (ar.sub a b) (x -ℚ y)
   pub mul_holds : (a b : Scalar) (x y : ℚ) → T (not (exempt a b)) → Holds a x → Holds b y → Holds (ar.mul a b) (x *ℚ y)
-  pub div_holds : (a b c : Scalar) (x y : ℚ) → ar.div a b ≡ Value c → Holds a x → Holds b y → Holds c (x *ℚ invℚ y)
+  pub div_holds : (a b c : Scalar) (x y : ℚ) → ar.div a b ≡ Some c → Holds a x → Holds b y → Holds c (x *ℚ invℚ y)
   -- an error exactly where the divisor holds zero
-  pub div_fails : (a b : Scalar) → ar.div a b ≡ Failed ↔ Holds b 0ℚ
+  pub div_fails : (a b : Scalar) → ar.div a b ≡ None ↔ Holds b 0ℚ
   pub ratio_holds : Holds ar.four_fifths (4 ÷ 5)
   -- ---- nothing but ENTIRE times [0, 0] is exempt, and a search never multiplies these two
   pub exempt_only : (a b : Scalar) → T (exempt a b) → T (is_clash a b)
   -- a quotient times a difference
-  pub slope_clear : (a b s c d : Scalar) (x y z w : ℚ) → ar.div a b ≡ Value s → Holds a x → Holds b y → Holds c z → Holds d w → T (not (exempt s (ar.sub c d)))
+  pub slope_clear : (a b s c d : Scalar) (x y z w : ℚ) → ar.div a b ≡ Some s → Holds a x → Holds b y → Holds c z → Holds d w → T (not (exempt s (ar.sub c d)))
   -- how far t lies along the way from a to b, or how far it is from b, times anything
-  pub alpha_clear : (a t b : Float) (f s : Scalar) → Between a t b → ar.div (ar.sub (sharp t) (sharp a)) (ar.sub (sharp b) (sharp a)) ≡ Value f → T (not (exempt f s))
-  pub rest_clear : (a t b : Float) (f s : Scalar) → Between a t b → ar.div (ar.sub (sharp t) (sharp a)) (ar.sub (sharp b) (sharp a)) ≡ Value f → T (not (exempt (ar.sub ONE f) s))
+  pub alpha_clear : (a t b : Float) (f s : Scalar) → Between a t b → ar.div (ar.sub (sharp t) (sharp a)) (ar.sub (sharp b) (sharp a)) ≡ Some f → T (not (exempt f s))
+  pub rest_clear : (a t b : Float) (f s : Scalar) → Between a t b → ar.div (ar.sub (sharp t) (sharp a)) (ar.sub (sharp b) (sharp a)) ≡ Some f → T (not (exempt (ar.sub ONE f) s))
   -- ---- what is between two doubles parts them, and the bounds of a difference are doubles
   pub gap : (a t b : Float) → Between a t b → Holds (ar.sub (sharp b) (sharp a)) 0ℚ → ⊥
   pub sub_doubles : (a b : Scalar) → T (fits binary64 (ar.sub a b).lo) × T (fits binary64 (ar.sub a b).hi)
@@ -59,5 +59,5 @@ pub record InOrder (ar : Arithmetic) (exempt : Scalar → Scalar → Bool) : Typ
   pub add_proper : (a b : Scalar) → Proper a → Proper b → Proper (ar.add a b)
   pub sub_proper : (a b : Scalar) → Proper a → Proper b → Proper (ar.sub a b)
   pub mul_proper : (a b : Scalar) → Proper a → Proper b → T (not (exempt a b)) → Proper (ar.mul a b)
-  pub div_proper : (a b c : Scalar) → Proper a → Proper b → ar.div a b ≡ Value c → Proper c
+  pub div_proper : (a b c : Scalar) → Proper a → Proper b → ar.div a b ≡ Some c → Proper c
   pub ratio_proper : Proper ar.four_fifths

@@ -7,7 +7,7 @@ use Rattle.math.specs.Scalars.{Arithmetic, zero_f, ONE, mul_s, intersect_s, same
 use Rattle.math.specs.Bounds.{widen_b}
 use Rattle.math.specs.declared.bounds.Bounds.{Bounds}
 use Rattle.math.specs.declared.scalars.Scalar.{Scalar}
-use Rattle.math.specs.declared.scalars.Fraction.{Fraction}
+use Rattle.math.specs.declared.revision.Fraction.{Fraction}
 
 -- the bounds of t are in order, above zero and finite
 abbrev pub is_factor : Scalar → Bool

@@ -9,6 +9,8 @@ use Rattle.math.specs.Digits.{Reading}
 use Rattle.math.specs.Neighbours.{next_up}
 use Rattle.math.specs.Picks.{max_f}
 use Rattle.math.specs.Root.{sqrt_f}
+use Rattle.std.specs.Option.{unwrap_or}
+use Rattle.math.specs.Divided.{Divided}
 use Rattle.math.specs.Scalars.{Arithmetic, zero_f, ENTIRE, union_s, value_or, sub_s, div_s, interpolate_s, geop}
 use Rattle.math.specs.Values.{value}
 use Rattle.math.specs.Tight.{tight}
@@ -18,7 +20,7 @@ use Rattle.math.specs.Factors.{fraction_of, between_s}
 use Rattle.math.specs.Encloses.{Encloses, InOrder}
 use Rattle.math.specs.Tightest.{Tightest}
 use Rattle.math.specs.declared.scalars.Scalar.{Scalar}
-use Rattle.math.specs.declared.scalars.Fraction.{Fraction}
+use Rattle.math.specs.declared.revision.Fraction.{Fraction}
 use Rattle.math.specs.declared.bounds.Bounds.{Bounds}
 use Rattle.math.specs.declared.bounds.Divisor.{Divisor}
 
@@ -125,6 +127,9 @@ pub record IntervalLaws : Type 0 where
   pub over_own : (x w : Scalar) → over_s x (divisor_of w) ≡ value_or (div_s x w) ENTIRE
   -- a divisor that was made of some interval was made of the value that it has
   pub divisor_own : (d : Divisor) (w : Scalar) → d ≡ divisor_of w → d ≡ divisor_of d.value
+  -- ---- divisions
+  -- what a division gave, or d, in the library's words
+  pub value_or_is : (q : Divided) (d : Scalar) → unwrap_or q d ≡ value_or q d
   -- ---- fractions, in every arithmetic
   -- a fraction that was made of alpha has that alpha
   pub fraction_own : (ar : Arithmetic) (f : Fraction) (alpha : Scalar) → f ≡ fraction_of ar alpha → f.alpha ≡ alpha

@@ -6,6 +6,7 @@ pub mod Neighbours
 pub mod Picks
 pub mod Root
 pub mod Scale
+pub mod Divided
 pub mod Scalars
 pub mod Values
 pub mod RootLaws

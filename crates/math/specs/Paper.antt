@@ -2,16 +2,16 @@
 use Rattle.std.specs.Prelude.{ℕ, ◌≡◌, Bool, true, false, cond, eqb}
 use Rattle.std.proofs.Math.Option.{Option, none, some}
 use Rattle.math.specs.declared.scalars.Scalar.{Scalar}
-use Rattle.math.specs.declared.scalars.Divided.{Divided}
-use Rattle.math.specs.declared.scalars.Divided.TheVariants.{Value, Failed}
+use Rattle.math.specs.Divided.{Divided}
+use Rattle.std.specs.Prelude.{Some, None}
 use Rattle.math.specs.Scalars.{has_zero, mul_s, inverse_s, widened, ratio_of, from_ratio}
 use Rattle.math.specs.Tight.{quotient}
 use Rattle.math.specs.Revision.{arithmetic}
 
 -- The answer of a division: the quotient, or an error.
 abbrev pub quotient_of : Divided → Option Scalar
-quotient_of (Value x) = some x
-quotient_of Failed = none
+quotient_of (Some x) = some x
+quotient_of None = none
 
 -- The quotient by what does not hold zero: the tightest in revision 2, and in revision 1 the product with the widened reciprocal.
 unfoldable pub quotient_in : Bool → Scalar → Scalar → Scalar

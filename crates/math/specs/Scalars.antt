@@ -7,8 +7,8 @@ use Rattle.math.specs.Neighbours.{next_up, next_down}
 use Rattle.math.specs.Picks.{min_f, max_f}
 use Rattle.math.specs.declared.scalars.Scalar.{Scalar}
 use Rattle.math.specs.declared.bounds.Bounds.{Bounds}
-use Rattle.math.specs.declared.scalars.Divided.{Divided}
-use Rattle.math.specs.declared.scalars.Divided.TheVariants.{Value, Failed}
+use Rattle.math.specs.Divided.{Divided}
+use Rattle.std.specs.Prelude.{Some, None}
 
 -- ---- doubles
 
@@ -98,8 +98,8 @@ intersect_s x y =
 
 -- what a division gave, or d where it failed
 unfoldable pub value_or : Divided → Scalar → Scalar
-value_or (Value x) d = x
-value_or Failed d = d
+value_or (Some x) d = x
+value_or None d = d
 
 pub record Arithmetic : Type 0 where
   pub add : Scalar → Scalar → Scalar
@@ -144,14 +144,14 @@ inverse_s y = widened (div binary64 one_f y.hi) (div binary64 one_f y.lo)
 
 -- an error where the divisor holds zero; else the product with the widened reciprocal
 unfoldable pub div_s : Scalar → Scalar → Divided
-div_s x y = cond (has_zero y) Failed (Value (mul_s x (inverse_s y)))
+div_s x y = cond (has_zero y) None (Some (mul_s x (inverse_s y)))
 
 -- from_ratio
 abbrev pub ratio_of : ℕ → ℕ → Float
 ratio_of n d = div binary64 (of_int binary64 (pos n)) (of_int binary64 (pos d))
 
 unfoldable pub from_ratio : ℕ → ℕ → Divided
-from_ratio n d = cond (eqb d 0) Failed (Value (widened (ratio_of n d) (ratio_of n d)))
+from_ratio n d = cond (eqb d 0) None (Some (widened (ratio_of n d) (ratio_of n d)))
 
 -- from_ratio(4, 5)
 unfoldable pub four_fifths_s : Scalar

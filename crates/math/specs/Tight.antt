@@ -5,8 +5,8 @@ use Rattle.std.specs.Float.Ieee.{neg, le}
 use Rattle.math.specs.Picks.{min_f}
 use Rattle.math.specs.Scalars.{Arithmetic, zero_f, has_zero}
 use Rattle.math.specs.declared.scalars.Scalar.{Scalar}
-use Rattle.math.specs.declared.scalars.Divided.{Divided}
-use Rattle.math.specs.declared.scalars.Divided.TheVariants.{Value, Failed}
+use Rattle.math.specs.Divided.{Divided}
+use Rattle.std.specs.Prelude.{Some, None}
 use Rattle.math.specs.Directed.{sum_down, sum_up, product_down, quotient_down, quotient_up}
 
 -- ---- sum and difference
@@ -48,7 +48,7 @@ quotient x y =
 
 -- an error where the divisor holds zero
 unfoldable pub div_t : Scalar → Scalar → Divided
-div_t x y = cond (has_zero y) Failed (Value (quotient x y))
+div_t x y = cond (has_zero y) None (Some (quotient x y))
 
 -- ---- 4 / 5
 

@@ -6,7 +6,7 @@ use Rattle.exact.specs.Rational.{ℚ, ◌+ℚ◌, ◌-ℚ◌, ◌*ℚ◌, 0ℚ, 
 use Rattle.math.specs.Scalars.{Arithmetic}
 use Rattle.math.specs.Values.{Below, Above, Holds, Proper}
 use Rattle.math.specs.declared.scalars.Scalar.{Scalar}
-use Rattle.math.specs.declared.scalars.Divided.TheVariants.{Value, Failed}
+use Rattle.std.specs.Prelude.{Some, None}
 
 -- r is the least interval of doubles that holds each number of the set P: its bounds are doubles, it holds P, and no double that bounds P is a better bound
 pub record Hull (r : Scalar) (P : ℚ → Type 0) : Type 0 where
@@ -26,7 +26,7 @@ pub record Tightest (ar : Arithmetic) : Type 0 where
   pub difference : (a b : Scalar) → Proper a → Proper b → Hull (ar.sub a b) (Results (λ x y. x -ℚ y) a b)
   pub product : (a b : Scalar) → Proper a → Proper b → Hull (ar.mul a b) (Results (λ x y. x *ℚ y) a b)
   -- where the divisor does not hold zero
-  pub quotient : (a b c : Scalar) → Proper a → Proper b → ar.div a b ≡ Value c → Hull c (Results (λ x y. x *ℚ invℚ y) a b)
+  pub quotient : (a b c : Scalar) → Proper a → Proper b → ar.div a b ≡ Some c → Hull c (Results (λ x y. x *ℚ invℚ y) a b)
   -- an error exactly where the divisor holds zero
-  pub fails : (a b : Scalar) → ar.div a b ≡ Failed ↔ Holds b 0ℚ
+  pub fails : (a b : Scalar) → ar.div a b ≡ None ↔ Holds b 0ℚ
   pub ratio : Hull ar.four_fifths (λ q. q ≡ 4 ÷ 5)

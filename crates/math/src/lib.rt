@@ -5,5 +5,6 @@ pub mod bounds;
 pub mod digits;
 pub mod directed;
 pub mod floats;
+pub mod revision;
 pub mod root;
 pub mod scalars;

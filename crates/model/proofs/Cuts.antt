@@ -17,8 +17,8 @@ use Rattle.model.specs.Aabb.{aabb, could_overlap}
 use Rattle.model.specs.FatLine.{greville, restricts}
 use Rattle.model.specs.Subdivide.{Question, Visit, dropped, reported, restricted, halved, bad_weight}
 use Rattle.model.specs.Contains.{clip, hand_on, hand_both, shrink, clipped, visit}
-use Rattle.model.specs.declared.fat_line.Hat.{Hat}
-use Rattle.model.specs.declared.fat_line.Hat.TheVariants.{Over, Missing}
+use Rattle.model.specs.Hat.{Hat}
+use Rattle.std.specs.Prelude.{Some, None}
 use Rattle.model.proofs.Sound.Visits.{choices}
 
 -- ---- a restriction
@@ -88,8 +88,8 @@ module _ (ar : Arithmetic) (q : Question) where
   both-cuts hat (both l r) = pick OneOrTwo (weights_positive q.dim l.points && weights_positive q.dim r.points) (halved l r) bad_weight (λ _. tt) (λ _. tt)
 
   shrink-cuts : (c : Piece) (h : Hat) → OneOrTwo (shrink ar q c h)
-  shrink-cuts c Missing = unfold shrink in tt
-  shrink-cuts c (Over hat) = choices ar q c hat OneOrTwo
+  shrink-cuts c None = unfold shrink in tt
+  shrink-cuts c (Some hat) = choices ar q c hat OneOrTwo
       (λ t. on-cuts (restrict ar q.degree hat.lo hat.hi c) (restriction-cuts ar q.degree c hat _ _ t))
       (both-cuts hat (split_mid ar q.degree c)) tt
 

@@ -22,8 +22,8 @@ use Rattle.model.specs.Nodes.{NotSpent, NodesLeft, SameSteps, with_nodes, Larger
 use Rattle.model.specs.declared.subdivide.Counts.{Counts}
 use Rattle.model.specs.declared.contains.Found.{Found}
 use Rattle.model.specs.declared.contains.Found.TheVariants.{Nothing, Enclosed, Spent, Refused}
-use Rattle.model.specs.declared.fat_line.Hat.{Hat}
-use Rattle.model.specs.declared.fat_line.Hat.TheVariants.{Over, Missing}
+use Rattle.model.specs.Hat.{Hat}
+use Rattle.std.specs.Prelude.{Some, None}
 use Rattle.model.proofs.Pause.{goes, spends, ends, once, fails, waits, paused}
 use Rattle.model.proofs.Checks.{accepted_by_lem, revision-accepted, curve-accepted}
 
@@ -95,8 +95,8 @@ module _ (ar : Arithmetic) (c : Call) (m words : ℕ) where
 
   shrink-nodes : (s : Piece) (h : Hat) → shrink ar q' s h ≡ shrink ar q s h
   unfolding shrink
-  shrink-nodes s Missing = refl
-  shrink-nodes s (Over t) = refl
+  shrink-nodes s None = refl
+  shrink-nodes s (Some t) = refl
 
   clipped-nodes : (s : Piece) (g : Option (List Scalar)) → clipped ar q' s g ≡ clipped ar q s g
   unfolding clipped

@@ -2,13 +2,12 @@
 use Rattle.std.specs.Prelude.{ℕ, suc, Bool, true, false, cond, ◌&&◌, List, [], ◌∷◌, map, length, eqb}
 use Rattle.lists.specs.Lists.{tab, foldl}
 use Rattle.math.specs.declared.scalars.Scalar.{Scalar}
-use Rattle.math.specs.declared.scalars.Divided.{Divided}
-use Rattle.math.specs.declared.scalars.Divided.TheVariants.{Value, Failed}
+use Rattle.math.specs.Divided.{Divided}
+use Rattle.std.specs.Prelude.{Some, None}
 use Rattle.math.specs.Scalars.{Arithmetic, sharp, ZERO, ONE, ENTIRE, could_be_equal, union_s, intersect_s, value_or}
 use Rattle.model.specs.Vector.{Vector, coordinate}
 use Rattle.model.specs.NurbCurve.{point}
-use Rattle.model.specs.declared.fat_line.Hat.{Hat}
-use Rattle.model.specs.declared.fat_line.Hat.TheVariants.{Over, Missing}
+use Rattle.model.specs.Hat.{Hat}
 
 -- The union of some intervals, from the first on.
 unfoldable pub unions : List Scalar → Scalar
@@ -33,11 +32,11 @@ could_overlap (x ∷ xs) (y ∷ ys) = could_be_equal x y && could_overlap xs ys
 
 -- The union of both quotients; nothing is said where they fail.
 unfoldable pub along_by : Divided → Divided → Hat
-along_by Failed t = Missing
-along_by (Value s) Failed = Missing
-along_by (Value s) (Value t) = Over (union_s s t)
+along_by None t = None
+along_by (Some s) None = None
+along_by (Some s) (Some t) = Some (union_s s t)
 
--- Where along the segment the axis lies in e; `Missing` where the segment may not move along this axis, which then confines nothing.
+-- Where along the segment the axis lies in e; `None` where the segment may not move along this axis, which then confines nothing.
 unfoldable pub along : Arithmetic → Scalar → Scalar → Scalar → Hat
 along ar e a b =
     let d = ar.sub b a in
@@ -48,8 +47,8 @@ unfoldable pub meets : Arithmetic → ℕ → Vector → Vector → Scalar → �
 meets ar dim a b range k [] = true
 meets ar dim a b range k (e ∷ es) =
     elim (along ar e (place ar dim k a) (place ar dim k b)) [
-      | Missing ↦ meets ar dim a b range (suc k) es
-      | Over t ↦ elim (could_be_equal t range) [ true ↦ meets ar dim a b (intersect_s t range) (suc k) es | false ↦ false ]
+      | None ↦ meets ar dim a b range (suc k) es
+      | Some t ↦ elim (could_be_equal t range) [ true ↦ meets ar dim a b (intersect_s t range) (suc k) es | false ↦ false ]
     ]
 
 -- curve_could_meet_aabb: the boxes overlap, and where the curve is a straight segment the segment itself meets the box.

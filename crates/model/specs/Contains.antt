@@ -10,8 +10,8 @@ use Rattle.model.specs.Split.{Halves, uncut, both, split_mid, Restricted, restri
 use Rattle.model.specs.Aabb.{aabb, could_overlap, could_meet}
 use Rattle.model.specs.FatLine.{greville, fat_line_zeros, extent, to_f64, widest, carried_width, restricts, halves}
 use Rattle.model.specs.Subdivide.{Question, Visit, dropped, reported, restricted, halved, bad_weight, State, at_depth, no_counts, advance, answered}
-use Rattle.model.specs.declared.fat_line.Hat.{Hat}
-use Rattle.model.specs.declared.fat_line.Hat.TheVariants.{Over, Missing}
+use Rattle.model.specs.Hat.{Hat}
+use Rattle.std.specs.Prelude.{Some, None}
 use Rattle.model.specs.declared.contains.Found.{Found}
 use Rattle.model.specs.declared.contains.Found.TheVariants.{Nothing}
 
@@ -23,14 +23,14 @@ axis ar dim k e points = map (λ q. ar.sub (coordinate q k) (ar.mul e (coordinat
 
 -- The hat that is left, held to the zeros of one axis more.
 unfoldable pub narrowed : Scalar → Hat → Hat
-narrowed hat Missing = Missing
-narrowed hat (Over zeros) = cond (could_be_equal zeros hat) (Over (intersect_s hat zeros)) Missing
+narrowed hat None = None
+narrowed hat (Some zeros) = cond (could_be_equal zeros hat) (Some (intersect_s hat zeros)) None
 
 -- The hat that the axes from number k on leave of a hat.
 unfoldable pub clip : Arithmetic → ℕ → List Vector → List Scalar → Scalar → ℕ → List Scalar → Hat
-clip ar dim points ξ hat k [] = Over hat
+clip ar dim points ξ hat k [] = Some hat
 clip ar dim points ξ hat k (e ∷ es) =
-    elim (narrowed hat (fat_line_zeros ar ξ (axis ar dim k e points))) [ Missing ↦ Missing | Over h ↦ clip ar dim points ξ h (suc k) es ]
+    elim (narrowed hat (fat_line_zeros ar ξ (axis ar dim k e points))) [ None ↦ None | Some h ↦ clip ar dim points ξ h (suc k) es ]
 
 -- ---- the visit
 
@@ -49,8 +49,8 @@ hand_both dim hat (both l r) = cond (weights_positive dim l.points && weights_po
 
 -- With a hat the piece is cut down to it, or else halved, or else reported.
 unfoldable pub shrink : Arithmetic → Question → Piece → Hat → Visit
-shrink ar q c Missing = dropped
-shrink ar q c (Over hat) =
+shrink ar q c None = dropped
+shrink ar q c (Some hat) =
     let p = q.degree in
     let size = extent q.dim c.points in
     let w = carried q.dim q.box c.points in

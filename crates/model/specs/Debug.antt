@@ -9,8 +9,8 @@ use Rattle.std.specs.Float.{binary64}
 use Rattle.std.specs.Float.Ieee.{eq, of_int}
 use Rattle.lists.specs.Lists.{last_d, all, position}
 use Rattle.math.specs.declared.scalars.Scalar.{Scalar}
-use Rattle.math.specs.declared.scalars.Divided.{Divided}
-use Rattle.math.specs.declared.scalars.Divided.TheVariants.{Value, Failed}
+use Rattle.math.specs.Divided.{Divided}
+use Rattle.std.specs.Prelude.{Some, None}
 use Rattle.math.specs.Scalars.{geop, sharp, absent, ZERO, ONE, TWO, ENTIRE, could_be_equal, definitely_greater, definitely_less, is_same, has_zero, value_or, middle}
 use Rattle.model.specs.Tested as tested
 use Rattle.model.specs.Tested.{Tested, fine, ◌>>=◌}
@@ -28,8 +28,7 @@ use Rattle.model.specs.Layout.{scalars_of}
 use Rattle.model.specs.Call as call
 use Rattle.model.specs.Call.{Call, as_piece, box_of, question, refusal}
 use Rattle.model.specs.Enclosure.{Doubles, Accepted}
-use Rattle.model.specs.declared.fat_line.Hat.{Hat}
-use Rattle.model.specs.declared.fat_line.Hat.TheVariants.{Over, Missing}
+use Rattle.model.specs.Hat.{Hat}
 use Rattle.model.specs.declared.subdivide.Counts.{Counts}
 use Rattle.model.specs.declared.contains.Found.{Found}
 use Rattle.model.specs.declared.contains.Found.TheVariants.{Nothing, Refused}
@@ -79,15 +78,15 @@ boxed dim points = do
 
 -- The union of both quotients.
 unfoldable pub along_by : Divided → Divided → Tested Hat
-along_by Failed t = fine Missing
-along_by (Value s) Failed = fine Missing
-along_by (Value s) (Value t) = do fine (Over (← tested.union s t))
+along_by None t = fine None
+along_by (Some s) None = fine None
+along_by (Some s) (Some t) = do fine (Some (← tested.union s t))
 
 -- Where along the segment the axis lies in e. A segment that may not move along this axis is passed over before any quotient is formed.
 unfoldable pub along : Scalar → Scalar → Scalar → Tested Hat
 along e a b = do
   d ← tested.sub b a
-  cond (could_be_equal d ZERO) (fine Missing) (do
+  cond (could_be_equal d ZERO) (fine None) (do
     s ← tested.div (← tested.sub (← tested.sharp e.lo) a) d
     t ← tested.div (← tested.sub (← tested.sharp e.hi) a) d
     along_by s t)
@@ -98,8 +97,8 @@ meets dim a b range k [] = fine true
 meets dim a b range k (e ∷ es) = do
   t ← along e (← place dim k a) (← place dim k b)
   elim t [
-    | Missing ↦ meets dim a b range (suc k) es
-    | Over t ↦ elim (could_be_equal t range) [ true ↦ (do meets dim a b (← tested.intersect t range) (suc k) es) | false ↦ fine false ]
+    | None ↦ meets dim a b range (suc k) es
+    | Some t ↦ elim (could_be_equal t range) [ true ↦ (do meets dim a b (← tested.intersect t range) (suc k) es) | false ↦ fine false ]
   ]
 
 -- curve_could_meet_aabb. The Rust has the box from `try_new`.
@@ -170,8 +169,8 @@ boehm_cut p t c = do
 
 -- Where the fraction cannot be computed, Boehm's insertions are used.
 unfoldable pub cut_by : ℕ → Float → Piece → Divided → Tested Cut
-cut_by p t c (Value α) = bezier_cut p t α c
-cut_by p t c Failed = boehm_cut p t c
+cut_by p t c (Some α) = bezier_cut p t α c
+cut_by p t c None = boehm_cut p t c
 
 -- insert_to_full_multiplicity: of a Bezier span that t is no knot of, the fraction is computed first. Its knots and t are formed again.
 unfoldable pub full_cut : ℕ → Float → Piece → Tested Cut
@@ -234,18 +233,18 @@ offset slope ξ₀ d₀ ξ d = do tested.sub d (← tested.add d₀ (← tested.
 
 -- fat_line_zeros, where the band crosses zero.
 unfoldable pub crossing : Scalar → Divided → Tested Hat
-crossing ξ₀ (Value q) = do fine (Over (← tested.sub ξ₀ q))
-crossing ξ₀ Failed = fine (Over ENTIRE)
+crossing ξ₀ (Some q) = do fine (Some (← tested.sub ξ₀ q))
+crossing ξ₀ None = fine (Some ENTIRE)
 
 -- fat_line_zeros, once the slope is known, or is known to have failed.
 unfoldable pub zeros_by : List Scalar → List Scalar → Scalar → Scalar → Divided → Tested Hat
-zeros_by ξ d ξ₀ d₀ Failed = do
+zeros_by ξ d ξ₀ d₀ None = do
   range ← unions d
-  fine (cond (could_be_equal range ZERO) (Over ENTIRE) Missing)
-zeros_by ξ d ξ₀ d₀ (Value slope) = do
+  fine (cond (could_be_equal range ZERO) (Some ENTIRE) None)
+zeros_by ξ d ξ₀ d₀ (Some slope) = do
   band ← unions (← tested.zip (λ x y. offset slope ξ₀ d₀ x y) ξ d)
   reach ← tested.add (← tested.union d₀ (last_d d absent)) band
-  cond (could_be_equal reach ZERO) (do crossing ξ₀ (← tested.div (← tested.add d₀ band) slope)) (fine Missing)
+  cond (could_be_equal reach ZERO) (do crossing ξ₀ (← tested.div (← tested.add d₀ band) slope)) (fine None)
 
 -- fat_line_zeros
 unfoldable pub fat_line_zeros : List Scalar → List Scalar → Tested Hat
@@ -295,15 +294,15 @@ axis dim k e points = tested.map (λ q. do tested.sub (coordinate q k) (← test
 
 -- clip, one axis: the hat met with the zeros.
 unfoldable pub narrowed : Scalar → Hat → Tested Hat
-narrowed hat Missing = fine Missing
-narrowed hat (Over zeros) = cond (could_be_equal zeros hat) (do fine (Over (← tested.intersect hat zeros))) (fine Missing)
+narrowed hat None = fine None
+narrowed hat (Some zeros) = cond (could_be_equal zeros hat) (do fine (Some (← tested.intersect hat zeros))) (fine None)
 
 -- clip, the axes from number k on.
 unfoldable pub clip : ℕ → List Vector → List Scalar → Scalar → ℕ → List Scalar → Tested Hat
-clip dim points ξ hat k [] = fine (Over hat)
+clip dim points ξ hat k [] = fine (Some hat)
 clip dim points ξ hat k (e ∷ es) = do
   h ← narrowed hat (← fat_line_zeros ξ (← axis dim k e points))
-  elim h [ Missing ↦ fine Missing | Over h ↦ clip dim points ξ h (suc k) es ]
+  elim h [ None ↦ fine None | Some h ↦ clip dim points ξ h (suc k) es ]
 
 -- The box of a piece is made when the piece is: at the end of sub_curve.
 unfoldable pub hand_on : ℕ → Restricted → Tested Visit
@@ -322,8 +321,8 @@ hand_both dim hat (both l r) = do
 
 -- The visit, once there is a hat or none.
 unfoldable pub shrink : Question → Piece → Hat → Tested Visit
-shrink q c Missing = fine dropped
-shrink q c (Over hat) = do
+shrink q c None = fine dropped
+shrink q c (Some hat) = do
   let p = q.degree
   let size = extent q.dim c.points
   w ← carried q.dim q.box c.points

@@ -6,16 +6,15 @@ use Rattle.std.specs.Float.{binary64}
 use Rattle.std.specs.Float.Ieee.{add, sub, mul, div, of_int}
 use Rattle.lists.specs.Lists.{part, tab, last_d, foldl}
 use Rattle.math.specs.declared.scalars.Scalar.{Scalar}
-use Rattle.math.specs.declared.scalars.Divided.{Divided}
-use Rattle.math.specs.declared.scalars.Divided.TheVariants.{Value, Failed}
+use Rattle.math.specs.Divided.{Divided}
+use Rattle.std.specs.Prelude.{Some, None}
 use Rattle.math.specs.Picks.{max_f}
 use Rattle.math.specs.Root.{sqrt_f}
 use Rattle.math.specs.Scalars.{Arithmetic, zero_f, sharp, absent, ZERO, ENTIRE, could_be_equal, definitely_greater, definitely_less, union_s, middle, width_s, value_or}
 use Rattle.model.specs.Vector.{Vector, coordinate}
 use Rattle.model.specs.NurbCurve.{domain, in_domain}
 use Rattle.model.specs.Aabb.{unions}
-use Rattle.model.specs.declared.fat_line.Hat.{Hat}
-use Rattle.model.specs.declared.fat_line.Hat.TheVariants.{Over, Missing}
+use Rattle.model.specs.Hat.{Hat}
 
 -- ---- greville_abscissae
 
@@ -40,17 +39,17 @@ offset ar slope ξ₀ d₀ ξ d = ar.sub d (ar.add d₀ (ar.mul slope (ar.sub ξ
 
 -- Where the band crosses zero: anywhere, if the chord could be level.
 unfoldable pub crossing : Arithmetic → Scalar → Divided → Hat
-crossing ar ξ₀ (Value q) = Over (ar.sub ξ₀ q)
-crossing ar ξ₀ Failed = Over ENTIRE
+crossing ar ξ₀ (Some q) = Some (ar.sub ξ₀ q)
+crossing ar ξ₀ None = Some ENTIRE
 
 -- The zeros, where the chord's slope is known, or is known to have failed. The band holds every offset, the first too.
 unfoldable pub zeros_by : Arithmetic → List Scalar → List Scalar → Scalar → Scalar → Divided → Hat
-zeros_by ar ξ d ξ₀ d₀ Failed = cond (could_be_equal (unions d) ZERO) (Over ENTIRE) Missing
-zeros_by ar ξ d ξ₀ d₀ (Value slope) =
+zeros_by ar ξ d ξ₀ d₀ None = cond (could_be_equal (unions d) ZERO) (Some ENTIRE) None
+zeros_by ar ξ d ξ₀ d₀ (Some slope) =
     let band = unions (zip_with (λ x y. offset ar slope ξ₀ d₀ x y) ξ d) in
     cond (could_be_equal (ar.add (union_s d₀ (last_d d absent)) band) ZERO)
     (crossing ar ξ₀ (ar.div (ar.add d₀ band) slope))
-    Missing
+    None
 
 -- The zeros. The slope is that of the chord from the first point of the polygon to the last.
 unfoldable pub fat_line_zeros : Arithmetic → List Scalar → List Scalar → Hat

@@ -5,8 +5,8 @@ use mathlib.Core.List.{List, [], ◌∷◌, ◌++◌, map, reverse, zip_with}
 use Rattle.std.specs.Float.Ieee.{lt, eq}
 use Rattle.lists.specs.Lists.{tab, last_d, all, count, position}
 use Rattle.math.specs.declared.scalars.Scalar.{Scalar}
-use Rattle.math.specs.declared.scalars.Divided.{Divided}
-use Rattle.math.specs.declared.scalars.Divided.TheVariants.{Value, Failed}
+use Rattle.math.specs.Divided.{Divided}
+use Rattle.std.specs.Prelude.{Some, None}
 use Rattle.math.specs.Scalars.{Arithmetic, sharp, ZERO, ONE, is_same, value_or}
 use Rattle.model.specs.Vector.{Vector, interpolate_v}
 use Rattle.model.specs.NurbCurve.{Piece, knot, point}
@@ -115,8 +115,8 @@ boehm_cut ar p t c =
 
 -- The triangle is used where the piece is a Bezier span that t is no knot of, and where it can be said how far t lies along it.
 unfoldable pub cut_by : Arithmetic → ℕ → Float → Piece → Bool → Divided → Cut
-cut_by ar p t c true (Value α) = bezier_cut ar p t α c
-cut_by ar p t c true Failed = boehm_cut ar p t c
+cut_by ar p t c true (Some α) = bezier_cut ar p t α c
+cut_by ar p t c true None = boehm_cut ar p t c
 cut_by ar p t c false r = boehm_cut ar p t c
 
 -- The cut at t, which lies strictly inside the domain.

@@ -4,6 +4,7 @@ pub mod NurbCurve
 pub mod KnotInsertion
 pub mod Split
 pub mod Aabb
+pub mod Hat
 pub mod FatLine
 pub mod Subdivide
 pub mod Contains

@@ -4,8 +4,8 @@ use Rattle.std.proofs.Math.Option.{Option, none, some}
 use Rattle.math.specs.declared.scalars.Scalar.{Scalar}
 use Rattle.model.specs.declared.contains.Found.{Found}
 use Rattle.model.specs.declared.contains.Found.TheVariants.{Nothing, Enclosed, Spent, Refused}
-use Rattle.model.specs.declared.fat_line.Hat.{Hat}
-use Rattle.model.specs.declared.fat_line.Hat.TheVariants.{Over, Missing}
+use Rattle.model.specs.Hat.{Hat}
+use Rattle.std.specs.Prelude.{Some, None}
 
 -- The word behind `result=`: none, enclosed, spent or refused-N, with the number N of the refusal.
 pub data Result : Type 0 where
@@ -32,5 +32,5 @@ paper (Refused n v k d) = record { result = refused n; visited = v; cuts = k; de
 
 -- The answer of a clip: the hat, or no hat, which leaves the visit early.
 abbrev pub hat_of : Hat → Option Scalar
-hat_of (Over t) = some t
-hat_of Missing = none
+hat_of (Some t) = some t
+hat_of None = none

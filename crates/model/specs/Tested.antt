@@ -5,8 +5,8 @@ use Rattle.std.specs.Float.Ieee as ieee
 use Rattle.std.specs.Float.{binary64}
 use Rattle.std.specs.Float.Ieee.{le}
 use Rattle.math.specs.declared.scalars.Scalar.{Scalar}
-use Rattle.math.specs.declared.scalars.Divided.{Divided}
-use Rattle.math.specs.declared.scalars.Divided.TheVariants.{Value, Failed}
+use Rattle.math.specs.Divided.{Divided}
+use Rattle.std.specs.Prelude.{Some, None}
 use Rattle.math.specs.Neighbours.{next_up, next_down}
 use Rattle.math.specs.Picks.{min_f, max_f}
 use Rattle.math.specs.Scalars.{one_f, ONE, has_zero, corners, ratio_of, width_s, same_operands}
@@ -88,7 +88,7 @@ inverse y = widened (ieee.div binary64 one_f y.hi) (ieee.div binary64 one_f y.lo
 
 -- An error where the divisor holds zero, and nothing formed.
 unfoldable pub div : Scalar → Scalar → Tested Divided
-div x y = cond (has_zero y) (fine Failed) (do fine (Value (← mul x (← inverse y))))
+div x y = cond (has_zero y) (fine None) (do fine (Some (← mul x (← inverse y))))
 
 -- from_ratio(4, 5)
 unfoldable pub four_fifths : Tested Scalar

@@ -15,7 +15,7 @@ use Rattle.model.specs.Subdivide.{Question, Step, going, over, advance}
 use Rattle.model.specs.Contains.{clip, visit, begun}
 use Rattle.model.specs.Call.{Call, as_piece, question}
 use Rattle.model.specs.Enclosure.{Doubles, Accepted, Every}
-use Rattle.model.specs.declared.fat_line.Hat.TheVariants.{Over}
+use Rattle.std.specs.Prelude.{Some}
 
 -- An interval that holds an exact weight above 0.
 pub record Weighs (w : Scalar) : Type 0 where
@@ -36,7 +36,7 @@ pub record WeightsAbove (dim : ℕ) (points : List Vector) : Type 0 where
 pub record CutWeights (ar : Arithmetic) (q : Question) (s : Piece) : Type 0 where
   -- Cut down to the hat that a clip leaves of its domain, whatever the abscissae are.
   pub down : (ξ : List Scalar) (hat : Scalar)
-      → clip ar q.dim s.points ξ (domain (start q.degree s) (end s)) 0 q.box ≡ Over hat
+      → clip ar q.dim s.points ξ (domain (start q.degree s) (end s)) 0 q.box ≡ Some hat
       → WeightsAbove q.dim (restrict ar q.degree hat.lo hat.hi s).piece.points
   -- Cut in two.
   pub halves : (l r : Piece) → split_mid ar q.degree s ≡ both l r

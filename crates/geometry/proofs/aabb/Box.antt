@@ -1,5 +1,5 @@
 -- The box of a piece and the test before the search, over plain values: one turn of each loop, and what stands when it is done.
-use mathlib.Core.Path.{◌≡◌, refl, sym, ap, ◌∙◌, subst}
+use mathlib.Core.Path.{◌≡◌, refl, sym, ap, ◌∙◌}
 use mathlib.Core.Bool.{Bool, true, false}
 use mathlib.Core.List.{List, map}
 use Prim.Native.Nat.{ℕ, zero, suc, ◌+◌, ◌≤◌, ◌<◌}
@@ -12,16 +12,13 @@ use lib.Ieee.{Float}
 use borrow.Author.Tests.{eq-eqb, ne_eqb}
 use Rattle.lists.specs.Lists.{tab, all}
 use Rattle.lists.proofs.Tab.{length-tab, tab-cons, get_or-tab, map-tab}
-use Rattle.math.specs.Scalars.{Arithmetic, geop, absent, sharp, ZERO, ONE, could_be_equal, union_s, intersect_s}
-use Rattle.math.specs.Bounds.{widen_b, divisor_of, over_b}
+use Rattle.math.specs.Scalars.{Arithmetic, absent, ENTIRE, value_or, sharp, ZERO, ONE, could_be_equal, union_s, intersect_s}
 use Rattle.math.specs.declared.scalars.Scalar.{Scalar}
-use Rattle.math.specs.declared.scalars.Divided.{Divided}
-use Rattle.math.specs.declared.scalars.Divided.TheVariants.{Value, Failed}
+use Rattle.math.specs.Divided.{Divided}
+use Rattle.std.specs.Prelude.{Some, None}
 use Rattle.math.specs.declared.bounds.Bounds.{Bounds}
 use Rattle.math.specs.declared.bounds.Divisor.{Divisor}
-use Rattle.model.specs.declared.fat_line.Hat.{Hat}
-use Rattle.model.specs.declared.fat_line.Hat.TheVariants.{Over, Missing}
-use Rattle.math.proofs.Laws.{AreNumbers, over_numbers, widen_over_own}
+use Rattle.model.specs.Hat.{Hat}
 use Rattle.model.specs.Vector.{Vector, coordinate}
 use Rattle.model.specs.Layout.{scalar_at, scalars_of, point_at, points_of}
 use Rattle.model.specs.Aabb.{unions, place, aabb, could_overlap, along_by, along, meets, could_meet}
@@ -82,14 +79,12 @@ axis_of ar dim k n l = ap unions (sym (map-tab (λ q. place ar dim k q) n (λ i.
 pub axis_done : (ar : Arithmetic) (dim k n i : ℕ) (l : List Float) (r x : Scalar) → i ≡ n → x ≡ unions (tab i (place_at_lem ar dim k l)) → r ≡ x → r ≡ axis_at_lem ar dim n l k
 axis_done ar dim k n i l r x e h g = g ∙ h ∙ ap (λ (m : ℕ). unions (tab m (place_at_lem ar dim k l))) e ∙ axis_of ar dim k n l
 
--- the place of a point in revision 1: its coordinate over a divisor that was made of its weight, widened
-pub place-over : (dim k : ℕ) (q : Vector) (x w : Scalar) (d : Divisor) (b : Bounds) → x ≡ coordinate q k → w ≡ coordinate q dim → d ≡ divisor_of w → b ≡ over_b x d
-    → Gives AreNumbers widen_b (place geop dim k q) b
+-- the place of a point by bounds: its coordinate over a divisor whose value is its weight, closed
+pub place_by : (Kind : Bounds → Type 0) (close : Bounds → Scalar) (ar : Arithmetic) (dim k : ℕ) (q : Vector) (x w : Scalar) (d : Divisor) (b : Bounds)
+    → x ≡ coordinate q k → w ≡ coordinate q dim → d.value ≡ w → Kind b × (close b ≡ value_or (ar.div x d.value) ENTIRE) → Gives Kind close (place ar dim k q) b
 unfolding place
-place-over dim k q x w d b X W D B = record {
-  kind = subst AreNumbers (sym B) (over_numbers x d);
-  is = ap widen_b B ∙ (λ i. widen_b (over_b (X i) ((D ∙ ap divisor_of W) i))) ∙ widen_over_own (coordinate q k) (coordinate q dim);
-}
+place_by Kind close ar dim k q x w d b X W D B =
+    record { kind = B.0; is = B.1 ∙ (λ i. value_or (ar.div (X i) ((D ∙ W) i)) ENTIRE) }
 
 -- ---- a straight segment
 
@@ -98,36 +93,36 @@ module _ (ar : Arithmetic) (e a b d x : Scalar) (q : Divided) (hd : d ≡ ar.sub
   first : q ≡ ar.div (ar.sub (sharp e.lo) a) (ar.sub b a)
   first = hq ∙ (λ i. ar.div (hx i) (hd i))
 
-  pub along_first : q ≡ Failed → Missing ≡ along ar e a b
+  pub along_first : q ≡ None → None ≡ along ar e a b
   unfolding along along_by
   along_first h = rw (sym first ∙ h)
 
-  module _ (s : Scalar) (hs : q ≡ Value s) (y : Scalar) (r : Divided) (hy : y ≡ ar.sub (sharp e.hi) a) (hr : r ≡ ar.div y d) where
+  module _ (s : Scalar) (hs : q ≡ Some s) (y : Scalar) (r : Divided) (hy : y ≡ ar.sub (sharp e.hi) a) (hr : r ≡ ar.div y d) where
     second : r ≡ ar.div (ar.sub (sharp e.hi) a) (ar.sub b a)
     second = hr ∙ (λ i. ar.div (hy i) (hd i))
 
-    pub along_second : r ≡ Failed → Missing ≡ along ar e a b
+    pub along_second : r ≡ None → None ≡ along ar e a b
     unfolding along along_by
     along_second h = rw (sym first ∙ hs, sym second ∙ h)
 
-    pub along-both : (t u : Scalar) → r ≡ Value t → u ≡ union_s s t → Over u ≡ along ar e a b
+    pub along-both : (t u : Scalar) → r ≡ Some t → u ≡ union_s s t → Some u ≡ along ar e a b
     unfolding along along_by
     along-both t u h k = rw (sym first ∙ hs, sym second ∙ h, k)
 
 -- one turn over the axes es, from axis k on
 module _ (ar : Arithmetic) (dim : ℕ) (a b : Vector) (es : List Scalar) (range : Scalar) (k : ℕ) where
   module _ (h : k < length es) where
-    pub meets-skip : along ar (get_or es k absent) (place ar dim k a) (place ar dim k b) ≡ Missing
+    pub meets-skip : along ar (get_or es k absent) (place ar dim k a) (place ar dim k b) ≡ None
         → meets ar dim a b range k (drop k es) ≡ meets ar dim a b range (k + 1) (drop (k + 1) es)
     unfolding meets
     meets-skip e = rw (add-one, drop-cons es k absent h, meets, e)
 
-    pub meets-narrow : (t : Scalar) → along ar (get_or es k absent) (place ar dim k a) (place ar dim k b) ≡ Over t → could_be_equal t range ≡ true
+    pub meets-narrow : (t : Scalar) → along ar (get_or es k absent) (place ar dim k a) (place ar dim k b) ≡ Some t → could_be_equal t range ≡ true
         → meets ar dim a b range k (drop k es) ≡ meets ar dim a b (intersect_s t range) (k + 1) (drop (k + 1) es)
     unfolding meets
     meets-narrow t e f = rw (add-one, drop-cons es k absent h, meets, e, f)
 
-    pub meets-stop : (t : Scalar) → along ar (get_or es k absent) (place ar dim k a) (place ar dim k b) ≡ Over t → could_be_equal t range ≡ false
+    pub meets-stop : (t : Scalar) → along ar (get_or es k absent) (place ar dim k a) (place ar dim k b) ≡ Some t → could_be_equal t range ≡ false
         → meets ar dim a b range k (drop k es) ≡ false
     unfolding meets
     meets-stop t e f = rw (drop-cons es k absent h, meets, e, f)
@@ -145,10 +140,10 @@ module _ (ar : Arithmetic) (dim : ℕ) (a b : Vector) (box : List Float) (range 
     found : along ar (get_or (scalars_of dim box) k absent) (place ar dim k a) (place ar dim k b) ≡ o
     found = rw (get_or-tab dim (scalar_at box) k absent h, ← he, ← hx, ← hy) (sym ho)
 
-    pub segment_skip : (r : Scalar) → o ≡ Missing → r ≡ range → meets ar dim a b r (k + 1) (drop (k + 1) (scalars_of dim box)) ≡ w
+    pub segment_skip : (r : Scalar) → o ≡ None → r ≡ range → meets ar dim a b r (k + 1) (drop (k + 1) (scalars_of dim box)) ≡ w
     segment_skip r m q = rw q (sym (meets-skip ar dim a b (scalars_of dim box) range k long (found ∙ m)) ∙ inv)
 
-    module _ (t : Scalar) (m : o ≡ Over t) (c : Bool) (hc : c ≡ could_be_equal t range) where
+    module _ (t : Scalar) (m : o ≡ Some t) (c : Bool) (hc : c ≡ could_be_equal t range) where
       pub segment_narrow : (n r : Scalar) → c ≡ true → n ≡ intersect_s t range → r ≡ n → meets ar dim a b r (k + 1) (drop (k + 1) (scalars_of dim box)) ≡ w
       segment_narrow n r q p f = rw (f, p) (sym (meets-narrow ar dim a b (scalars_of dim box) range k long t (found ∙ m) (sym hc ∙ q)) ∙ inv)
 

@@ -1,5 +1,5 @@
--- Unions of a family of intervals, one after the other: by intervals, and by bounds that are gathered first and widened once, at the end. Assumes nothing.
-use mathlib.Core.Path.{◌≡◌, refl, sym, ap, ◌∙◌, subst}
+-- Unions of a family of intervals, one after the other: by intervals, and by bounds that are gathered first and closed once, at the end. Assumes nothing.
+use mathlib.Core.Path.{◌≡◌, refl, sym, ◌∙◌}
 use mathlib.Core.List.{List, [], ◌∷◌, ◌++◌}
 use Prim.Native.Nat.{ℕ, ◌+◌, ◌≤◌}
 use native.Mathlib.Numerals.{add-one}
@@ -11,7 +11,6 @@ use Rattle.lists.proofs.Fold.{foldl-append}
 use Rattle.math.specs.declared.scalars.Scalar.{Scalar}
 use Rattle.math.specs.declared.bounds.Bounds.{Bounds}
 use Rattle.math.specs.Scalars.{union_s}
-use Rattle.math.proofs.Laws.{Gathers}
 use Rattle.model.specs.Aabb.{unions}
 
 -- ---- intervals
@@ -34,20 +33,19 @@ unions_turn f n all x r h e g k =
 
 -- ---- bounds
 
--- Bounds of some kind, which are the interval x once they are widened.
-pub record Gives (Kind : Bounds → Type 0) (widen : Bounds → Scalar) (x : Scalar) (b : Bounds) : Type 0 where
+-- Bounds of some kind, which are the interval x once they are closed.
+pub record Gives (Kind : Bounds → Type 0) (close : Bounds → Scalar) (x : Scalar) (b : Bounds) : Type 0 where
   pub kind : Kind b
-  pub is : widen b ≡ x
+  pub is : close b ≡ x
 
-module _ (Kind : Bounds → Type 0) (widen : Bounds → Scalar) (f : ℕ → Scalar) where
+module _ (Kind : Bounds → Type 0) (close : Bounds → Scalar) (f : ℕ → Scalar) where
   -- the first alone
-  pub joined_first : (b : Bounds) → Gives Kind widen (f 0) b → Gives Kind widen (unions (tab 1 f)) b
+  pub joined_first : (b : Bounds) → Gives Kind close (f 0) b → Gives Kind close (unions (tab 1 f)) b
   joined_first b B = record { kind = B.kind; is = B.is ∙ unions_first f }
 
-  -- one turn of a loop that has gathered the first n of them
-  pub joined_turn : (gather : Bounds → Bounds → Bounds) → Gathers gather Kind widen → (n : ℕ) (all b r : Bounds) → 1 ≤ n → Gives Kind widen (unions (tab n f)) all → Gives Kind widen (f n) b → r ≡ gather all b
-      → Gives Kind widen (unions (tab (n + 1) f)) r
-  joined_turn gather J n all b r h A B e = record {
-    kind = subst Kind (sym e) (J.keeps all b A.kind B.kind);
-    is = unions_turn f n (widen all) (widen b) (widen r) h A.is B.is (ap widen e ∙ J.union all b A.kind B.kind);
-  }
+  -- one turn of a loop that has gathered the first n of them, where the next two are put together to r
+  pub joined_turn : (n : ℕ) (all b r : Bounds) → 1 ≤ n → Gives Kind close (unions (tab n f)) all → Gives Kind close (f n) b
+      → (Kind all → Kind b → Kind r × (close r ≡ union_s (close all) (close b))) → Gives Kind close (unions (tab (n + 1) f)) r
+  joined_turn n all b r h A B e =
+      let p = e A.kind B.kind in
+      record { kind = p.0; is = unions_turn f n (close all) (close b) (close r) h A.is B.is p.1 }

@@ -13,8 +13,8 @@ use Rattle.lists.specs.Lists.{part, put, position}
 use Rattle.lists.proofs.Part.{get_or_part}
 use Rattle.lists.proofs.Put.{put-put}
 use Rattle.math.specs.declared.scalars.Scalar.{Scalar}
-use Rattle.math.specs.declared.scalars.Divided.{Divided}
-use Rattle.math.specs.declared.scalars.Divided.TheVariants.{Value, Failed}
+use Rattle.math.specs.Divided.{Divided}
+use Rattle.std.specs.Prelude.{Some, None}
 use Rattle.math.specs.Scalars.{Arithmetic, sharp}
 use Rattle.math.proofs.Bools.{and_yes, and_no}
 use Rattle.model.specs.Vector.{Vector}
@@ -226,11 +226,11 @@ module _ (p : ℕ) (t : Float) (c : Piece) where
     abbrev pub along : Divided
     along = ar.div (ar.sub (sharp t) (sharp (knot c.knots p))) (ar.sub (sharp (knot c.knots (suc p))) (sharp (knot c.knots p)))
 
-    pub full_bezier : (α : Scalar) → single ≡ true → along ≡ Value α → bezier_cut ar p t α c ≡ full_cut ar p t c
+    pub full_bezier : (α : Scalar) → single ≡ true → along ≡ Some α → bezier_cut ar p t α c ≡ full_cut ar p t c
     unfolding full_cut cut_by
     full_bezier α e f = sym (λ j. cut_by ar p t c (e j) (f j))
 
-    pub full_failed : single ≡ true → along ≡ Failed → boehm_cut ar p t c ≡ full_cut ar p t c
+    pub full_failed : single ≡ true → along ≡ None → boehm_cut ar p t c ≡ full_cut ar p t c
     unfolding full_cut cut_by
     full_failed e f = sym (λ j. cut_by ar p t c (e j) (f j))
 

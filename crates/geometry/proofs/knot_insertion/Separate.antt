@@ -11,8 +11,8 @@ use borrow.Author.Tests.{eq-eqb}
 use Rattle.lists.specs.Lists.{count, position}
 use Rattle.lists.proofs.Fold.{count_le}
 use Rattle.math.specs.declared.scalars.Scalar.{Scalar}
-use Rattle.math.specs.declared.scalars.Divided.{Divided}
-use Rattle.math.specs.declared.scalars.Divided.TheVariants.{Value, Failed}
+use Rattle.math.specs.Divided.{Divided}
+use Rattle.std.specs.Prelude.{Some, None}
 use Rattle.math.specs.Scalars.{Arithmetic}
 use Rattle.model.specs.NurbCurve.{Piece, in_domain}
 use Rattle.model.specs.KnotInsertion.{Cut, knots_with, insertion_span, insert_once, insert_times, multiplicity, bezier_cut, boehm_cut, cut_by, full_cut, left_of, right_of}
@@ -135,8 +135,8 @@ module _ (ar : Arithmetic) (s : Shape) (c : Piece) (t : Float) (f : Fits s c) (w
 
   sound_by : (b : Bool) (r : Divided) → (b ≡ true → length c.points ≡ suc s.degree) → Sound s c (cut_by ar s.degree t c b r)
   unfolding cut_by
-  sound_by true (Value α) h = bezier_sound α (h refl)
-  sound_by true Failed h = boehm_sound
+  sound_by true (Some α) h = bezier_sound α (h refl)
+  sound_by true None h = boehm_sound
   sound_by false r h = boehm_sound
 
   pub full-sound : Sound s c (full_cut ar s.degree t c)

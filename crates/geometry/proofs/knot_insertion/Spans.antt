@@ -2,7 +2,7 @@
 use mathlib.Core.Path.{◌≡◌, sym, ap, ◌∙◌}
 use mathlib.Core.Bool.{Bool, true, false, not}
 use mathlib.Core.List.{List}
-use Prim.Native.Nat.{ℕ, suc, ◌+◌, ◌-◌, ◌≤◌, ◌<◌}
+use Prim.Native.Nat.{ℕ, suc, ◌+◌, ◌-◌, ◌<◌}
 use native.Mathlib.Omega.{arith}
 use native.Mathlib.Numerals.{add-one}
 use borrow.Author.Tests.{not-true, not-false, eq-eqb, ne_eqb}
@@ -10,11 +10,10 @@ use lib.Dec.{eqb}
 use lib.ListN.{length, take, drop, get_or, length-drop}
 use lib.Seq.{take_all}
 use lib.Ieee.{Float, nan, eq}
-use Rattle.lists.specs.Lists.{count, all}
-use Rattle.lists.proofs.Fold.{count_turn, all_turn}
+use Rattle.lists.specs.Lists.{all}
+use Rattle.lists.proofs.Fold.{all_turn}
 use Rattle.math.specs.declared.scalars.Scalar.{Scalar}
-use Rattle.math.specs.declared.scalars.Divided.{Divided}
-use Rattle.math.specs.declared.scalars.Divided.TheVariants.{Value, Failed}
+use Rattle.math.specs.Divided.{Divided}
 use Rattle.math.specs.Scalars.{Arithmetic, sharp, ZERO, ONE, value_or}
 use Rattle.math.proofs.Bools.{pick_yes, pick_no}
 use Rattle.model.specs.NurbCurve.{knot}
@@ -63,33 +62,9 @@ module _ (ar : Arithmetic) (p : ℕ) (ks : List Float) (t : Float) (i : ℕ) whe
       let q : r ≡ ar.div (ar.sub (sharp t) (sharp (knot ks i))) (ar.sub (sharp (knot ks (i + p))) (sharp (knot ks i))) = er ∙ (λ j. ar.div (u j) (v j)) in
       ap (λ (d : Divided). value_or d ONE) q ∙ pick_no _ _ _ f ∙ pick_no _ _ _ e
 
-  pub alpha-value : (r : Divided) (v : Scalar) → r ≡ Value v → value_or r ONE ≡ alpha ar p ks t i → v ≡ alpha ar p ks t i
-  unfolding value_or
-  alpha-value r v e h = ap (λ (d : Divided). value_or d ONE) (sym e) ∙ h
-
-  pub alpha_failed : (r : Divided) → r ≡ Failed → value_or r ONE ≡ alpha ar p ks t i → ONE ≡ alpha ar p ks t i
-  unfolding value_or
-  alpha_failed r e h = ap (λ (d : Divided). value_or d ONE) (sym e) ∙ h
-
 -- ---- walks over the knots
 
 module _ (ks : List Float) (t : Float) (i : ℕ) where
-  -- one knot more, which is t
-  pub count_one : (n : ℕ) → 0 < i → i ≤ length ks → eq (get_or ks (i - 1) nan) t ≡ true → n ≡ count (λ u. eq u t) (drop i ks) → n + 1 ≡ count (λ u. eq u t) (drop (i - 1) ks)
-  count_one n h k e f =
-      let z : i - 1 + 1 ≡ i = omega arith in
-      let g : count (λ u. eq u t) (drop (i - 1) ks) ≡ 1 + count (λ u. eq u t) (drop i ks) =
-      rw (count_turn (λ u. eq u t) ks (i - 1) nan (omega arith), e, z) in
-      omega arith
-
-  -- one knot more, which is not
-  pub count_same : (n : ℕ) → 0 < i → i ≤ length ks → eq (get_or ks (i - 1) nan) t ≡ false → n ≡ count (λ u. eq u t) (drop i ks) → n ≡ count (λ u. eq u t) (drop (i - 1) ks)
-  count_same n h k e f =
-      let z : i - 1 + 1 ≡ i = omega arith in
-      let g : count (λ u. eq u t) (drop (i - 1) ks) ≡ 0 + count (λ u. eq u t) (drop i ks) =
-      rw (count_turn (λ u. eq u t) ks (i - 1) nan (omega arith), e, z) in
-      omega arith
-
   -- a knot that is not t
   pub all_off : i < length ks → not (eq (get_or ks i nan) t) ≡ true → false ≡ all (λ u. eq u t) (drop i ks)
   all_off h e = rw (all_turn (λ u. eq u t) ks i nan h, not-true (eq (get_or ks i nan) t) e)

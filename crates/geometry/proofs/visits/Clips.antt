@@ -9,17 +9,17 @@ use lib.ListN.{length, drop, drop_of_length-le}
 use lib.Seq.{drop-cons}
 use lib.Ieee.{Float}
 use Rattle.lists.specs.Lists.{put, tab}
+use Rattle.lists.proofs.Put.{put_whole}
 use Rattle.lists.proofs.Tab.{length-tab, get_or-tab, map-tab, tab-ext}
 use Rattle.math.specs.declared.scalars.Scalar.{Scalar}
 use Rattle.math.specs.Scalars.{Arithmetic, absent, could_be_equal, intersect_s}
 use Rattle.math.proofs.Bools.{pick_yes, pick_no}
 use Rattle.model.specs.Vector.{Vector, coordinate}
-use Rattle.model.specs.Layout.{scalar_at, scalars_of, point_at, points_of, flat}
+use Rattle.model.specs.Layout.{scalar_at, scalars_of, point_at, points_of}
 use Rattle.model.specs.FatLine.{fat_line_zeros}
 use Rattle.model.specs.Contains.{axis, narrowed, clip}
-use Rattle.model.specs.declared.fat_line.Hat.{Hat}
-use Rattle.model.specs.declared.fat_line.Hat.TheVariants.{Over, Missing}
-use Rattle.geometry.proofs.Lists.Flat.{length-put-flat, scalars-put}
+use Rattle.model.specs.Hat.{Hat}
+use Rattle.std.specs.Prelude.{Some, None}
 
 -- ---- the values of an axis
 
@@ -40,36 +40,31 @@ axis-tab ar points dim n k e h =
     at : (i a : ℕ) → a < suc dim → coordinate (point_at (suc dim) points i) a ≡ scalar_at points (suc dim * i + a)
     at i a h = get_or-tab (suc dim) (λ a. scalar_at points (suc dim * i + a)) a absent h
 
-pub axis_done : (ar : Arithmetic) (points l d : List Float) (dim n i k : ℕ) (e : Scalar) → k < dim → i ≡ n → d ≡ put l 0 (flat (tab i (axis_at_lem ar points dim k e))) → d ≡ put l 0 (flat (axis ar dim k e (points_of (suc dim) n points)))
-axis_done ar points l d dim n i k e h g D = D ∙ ap (λ (m : ℕ). put l 0 (flat (tab m (axis_at_lem ar points dim k e)))) g ∙ ap (λ (v : List Scalar). put l 0 (flat v)) (axis-tab ar points dim n k e h)
-
-pub axis_long : (ar : Arithmetic) (points : List Float) (dim n k : ℕ) (e : Scalar) → k < dim → length (axis ar dim k e (points_of (suc dim) n points)) ≡ n
-axis_long ar points dim n k e h = ap length (sym (axis-tab ar points dim n k e h)) ∙ length-tab n (axis_at_lem ar points dim k e)
-
--- the list that holds them keeps its length
-pub axis_kept : (ar : Arithmetic) (points l d : List Float) (dim n k m : ℕ) (e : Scalar) → k < dim → 2 * n ≤ length l → d ≡ put l 0 (flat (axis ar dim k e (points_of (suc dim) n points))) → length l ≡ m → length d ≡ m
-axis_kept ar points l d dim n k m e h g D L =
-    ap length (D ∙ ap (λ (v : List Scalar). put l 0 (flat v)) (sym (axis-tab ar points dim n k e h))) ∙ length-put-flat l n (axis_at_lem ar points dim k e) g ∙ L
+pub axis_done : (ar : Arithmetic) (points : List Float) (l d : List Scalar) (dim i k : ℕ) (e : Scalar) → k < dim → i ≡ length l → d ≡ put l 0 (tab i (axis_at_lem ar points dim k e)) → d ≡ axis ar dim k e (points_of (suc dim) (length l) points)
+axis_done ar points l d dim i k e h g D =
+    D
+    ∙ ap (λ (m : ℕ). put l 0 (tab m (axis_at_lem ar points dim k e))) g
+    ∙ put_whole l (tab (length l) (axis_at_lem ar points dim k e)) (length-tab (length l) (axis_at_lem ar points dim k e))
+    ∙ axis-tab ar points dim (length l) k e h
 
 -- ---- what one axis leaves
 
-pub narrowed-yes : (hat z s : Scalar) (t : Bool) (zeros : Hat) → zeros ≡ Over z → t ≡ could_be_equal z hat → s ≡ intersect_s hat z → t ≡ true → Over s ≡ narrowed hat zeros
+pub narrowed-yes : (hat z s : Scalar) (t : Bool) (zeros : Hat) → zeros ≡ Some z → t ≡ could_be_equal z hat → s ≡ intersect_s hat z → t ≡ true → Some s ≡ narrowed hat zeros
 unfolding narrowed
-narrowed-yes hat z s t zeros Z T S e = ap (λ (v : Scalar). Over v) S ∙ pick_yes _ _ _ (sym T ∙ e) ∙ sym (ap (narrowed hat) Z)
+narrowed-yes hat z s t zeros Z T S e = ap (λ (v : Scalar). Some v) S ∙ pick_yes _ _ _ (sym T ∙ e) ∙ sym (ap (narrowed hat) Z)
 
-pub narrowed-no : (hat z : Scalar) (t : Bool) (zeros : Hat) → zeros ≡ Over z → t ≡ could_be_equal z hat → t ≡ false → Missing ≡ narrowed hat zeros
+pub narrowed-no : (hat z : Scalar) (t : Bool) (zeros : Hat) → zeros ≡ Some z → t ≡ could_be_equal z hat → t ≡ false → None ≡ narrowed hat zeros
 unfolding narrowed
 narrowed-no hat z t zeros Z T e = pick_no _ _ _ (sym T ∙ e) ∙ sym (ap (narrowed hat) Z)
 
-pub narrowed_none : (hat : Scalar) (zeros : Hat) → zeros ≡ Missing → Missing ≡ narrowed hat zeros
+pub narrowed_none : (hat : Scalar) (zeros : Hat) → zeros ≡ None → None ≡ narrowed hat zeros
 unfolding narrowed
 narrowed_none hat zeros Z = sym (ap (narrowed hat) Z)
 
-pub axis-leaves : (ar : Arithmetic) (xi points l d : List Float) (dim n k : ℕ) (e hat : Scalar) (zeros r : Hat) → k < dim → d ≡ put l 0 (flat (axis ar dim k e (points_of (suc dim) n points)))
-    → zeros ≡ fat_line_zeros ar (scalars_of n xi) (scalars_of n d) → r ≡ narrowed hat zeros → r ≡ narrowed hat (fat_line_zeros ar (scalars_of n xi) (axis ar dim k e (points_of (suc dim) n points)))
-axis-leaves ar xi points l d dim n k e hat zeros r h D Z R =
-    let v : List Scalar = axis ar dim k e (points_of (suc dim) n points) in
-    R ∙ ap (narrowed hat) (Z ∙ ap (fat_line_zeros ar (scalars_of n xi)) (ap (scalars_of n) D ∙ scalars-put l v n (axis_long ar points dim n k e h)))
+pub axis-leaves : (ar : Arithmetic) (ξ d : List Scalar) (points : List Float) (dim m k : ℕ) (e hat : Scalar) (zeros r : Hat) → m ≡ length ξ → d ≡ axis ar dim k e (points_of (suc dim) m points)
+    → zeros ≡ fat_line_zeros ar ξ d → r ≡ narrowed hat zeros → r ≡ narrowed hat (fat_line_zeros ar ξ (axis ar dim k e (points_of (suc dim) (length ξ) points)))
+axis-leaves ar ξ d points dim m k e hat zeros r L D Z R =
+    R ∙ ap (narrowed hat) (Z ∙ ap (fat_line_zeros ar ξ) (D ∙ ap (λ (n : ℕ). axis ar dim k e (points_of (suc dim) n points)) L))
 
 -- ---- the axes, one after the other
 module _ (ar : Arithmetic) (dim : ℕ) (ps : List Vector) (ξ : List Scalar) (box : List Float) where
@@ -79,7 +74,7 @@ module _ (ar : Arithmetic) (dim : ℕ) (ps : List Vector) (ξ : List Scalar) (bo
 
   module _ (hat e : Scalar) (r : Hat) (k : ℕ) (h : k < dim) (E : e ≡ scalar_at box k) (R : r ≡ narrowed hat (fat_line_zeros ar ξ (axis ar dim k e ps))) where
     abbrev go : Hat → Hat
-    go z = elim z [ Missing ↦ Missing | Over g ↦ clip ar dim ps ξ g (suc k) (drop (suc k) (scalars_of dim box)) ]
+    go z = elim z [ None ↦ None | Some g ↦ clip ar dim ps ξ g (suc k) (drop (suc k) (scalars_of dim box)) ]
 
     opened : go r ≡ left hat k
     unfolding clip
@@ -88,12 +83,12 @@ module _ (ar : Arithmetic) (dim : ℕ) (ps : List Vector) (ξ : List Scalar) (bo
         ∙ ap (λ (v : Scalar). v ∷ drop (suc k) (scalars_of dim box)) (get_or-tab dim (λ j. scalar_at box j) k absent h ∙ sym E) in
         ap go R ∙ sym (ap (clip ar dim ps ξ hat k) f)
 
-    pub left_none : (w : Hat) → r ≡ Missing → left hat k ≡ w → Missing ≡ w
+    pub left_none : (w : Hat) → r ≡ None → left hat k ≡ w → None ≡ w
     left_none w e q = sym (ap go e) ∙ opened ∙ q
 
-    pub left_next : (g : Scalar) (w : Hat) → r ≡ Over g → left hat k ≡ w → left g (k + 1) ≡ w
+    pub left_next : (g : Scalar) (w : Hat) → r ≡ Some g → left hat k ≡ w → left g (k + 1) ≡ w
     left_next g w e q = ap (λ (m : ℕ). left g m) (add-one k) ∙ sym (ap go e) ∙ opened ∙ q
 
-  pub left_done : (hat : Scalar) (k : ℕ) (w : Hat) → dim ≤ k → left hat k ≡ w → Over hat ≡ w
+  pub left_done : (hat : Scalar) (k : ℕ) (w : Hat) → dim ≤ k → left hat k ≡ w → Some hat ≡ w
   unfolding clip
   left_done hat k w h q = sym (ap (clip ar dim ps ξ hat k) (drop_of_length-le (scalars_of dim box) {i = k} (rw (length-tab dim (λ j. scalar_at box j)) h))) ∙ q

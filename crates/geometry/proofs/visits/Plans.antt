@@ -3,7 +3,7 @@ use mathlib.Core.Path.{◌≡◌, refl, sym, ap, ◌∙◌}
 use mathlib.Core.Bool.{Bool, true, false, cond}
 use mathlib.Core.List.{List}
 use mathlib.Core.Option.{Option, none, some}
-use Prim.Native.Nat.{ℕ, zero, suc}
+use Prim.Native.Nat.{ℕ, suc}
 use lib.ListN.{length, get_or}
 use lib.Ieee.{Float, nan}
 use Rattle.math.specs.declared.scalars.Scalar.{Scalar}
@@ -13,18 +13,15 @@ use Rattle.model.specs.Vector.{Vector}
 use Rattle.model.specs.NurbCurve.{Piece, start, end, domain}
 use Rattle.model.specs.Aabb.{aabb, could_overlap}
 use Rattle.model.specs.FatLine.{greville, extent, restricts, halves}
-use Rattle.geometry.specs.Abscissae.{held}
-use Rattle.model.specs.Layout.{scalars_of, points_of}
+use Rattle.model.specs.Layout.{points_of}
 use Rattle.model.specs.Subdivide.{Question, Visit, dropped}
 use Rattle.model.specs.Split.{restrict}
 use Rattle.model.specs.Contains.{clip, carried, hand_on, shrink, clipped, visit}
 use Rattle.geometry.specs.Plan.{plan_hat, plan_shrink, plan_clip, planned, carried_out}
-use Rattle.model.specs.declared.fat_line.Hat.{Hat}
-use Rattle.model.specs.declared.fat_line.Hat.TheVariants.{Over, Missing}
-use Rattle.geometry.specs.declared.fat_line.Abscissae.{Abscissae}
+use Rattle.model.specs.Hat.{Hat}
+use Rattle.std.specs.Prelude.{Some, None}
 use Rattle.geometry.specs.declared.visits.Plan.{Plan}
 use Rattle.geometry.specs.declared.visits.Plan.TheVariants.{Skip, Report, Restrict, Halve}
-use Rattle.geometry.proofs.fat_line.Zeros.{some_greville}
 use Rattle.geometry.proofs.Lists.Numbers.{length-points}
 
 -- ---- a visit does what its plan says
@@ -36,8 +33,8 @@ module _ (ar : Arithmetic) (q : Question) (c : Piece) where
 
   shrink_plan : (h : Hat) → carried_out ar q c (plan_shrink ar q.dim q.degree q.box q.resolution c h) ≡ shrink ar q c h
   unfolding plan_shrink plan_hat shrink carried_out
-  shrink_plan Missing = refl
-  shrink_plan (Over hat) =
+  shrink_plan None = refl
+  shrink_plan (Some hat) =
       let p = q.degree in
       let size = extent q.dim c.points in
       let w = carried q.dim q.box c.points in
@@ -99,12 +96,6 @@ module _ (ar : Arithmetic) (dim : ℕ) (box : List Scalar) (resolution a b w : F
 
 -- ---- with abscissae
 
--- where the degree is not 0 there are some, and they are held
-some_held : (ar : Arithmetic) (p n : ℕ) (knots : List Float) (x : Abscissae) → (p ≡ 0 → ⊥) → x ≡ held (greville ar p n knots) → greville ar p n knots ≡ some (scalars_of n x.at)
-unfolding held greville
-some_held ar zero n knots x h e = absurd (h refl)
-some_held ar (suc p) n knots x h e = some_greville ar (suc p) n knots x e (ap (λ (y : Abscissae). y.has) e)
-
 module _ (ar : Arithmetic) (dim p n : ℕ) (box : List Scalar) (resolution : Float) (knots points : List Float) where
   -- The piece.
   abbrev pub piece_by : Piece
@@ -113,25 +104,26 @@ module _ (ar : Arithmetic) (dim p n : ℕ) (box : List Scalar) (resolution : Flo
   ends : get_or knots n nan ≡ end piece_by
   ends = ap (λ (m : ℕ). get_or knots m nan) (sym (length-points (suc dim) n points))
 
-  -- degree 0 has none
-  pub clip_report : (d : Scalar) → p ≡ 0 → d ≡ domain (get_or knots p nan) (get_or knots n nan) → Report d ≡ plan_clip ar dim p box resolution piece_by (greville ar p n knots)
-  unfolding plan_clip greville
-  clip_report d e D = ap (λ (v : Scalar). Report v) (D ∙ ap (domain (get_or knots p nan)) ends) ∙ sym (ap (λ (m : ℕ). plan_clip ar dim p box resolution piece_by (greville ar m n knots)) e)
+  -- without abscissae
+  pub clip_report : (d : Scalar) → greville ar p n knots ≡ none → d ≡ domain (get_or knots p nan) (get_or knots n nan) → Report d ≡ plan_clip ar dim p box resolution piece_by (greville ar p n knots)
+  unfolding plan_clip
+  clip_report d G D = ap (λ (v : Scalar). Report v) (D ∙ ap (domain (get_or knots p nan)) ends) ∙ sym (ap (plan_clip ar dim p box resolution piece_by) G)
 
-  module _ (x : Abscissae) (h : Hat) (no : p ≡ 0 → ⊥) (X : x ≡ held (greville ar p n knots))
-      (H : h ≡ clip ar dim (points_of (suc dim) n points) (scalars_of n x.at) (domain (get_or knots p nan) (get_or knots n nan)) 0 box) where
+  -- with them
+  module _ (ξ : List Scalar) (h : Hat) (L : length ξ ≡ n) (G : greville ar p n knots ≡ some ξ)
+      (H : h ≡ clip ar dim (points_of (suc dim) (length ξ) points) ξ (domain (get_or knots p nan) (get_or knots n nan)) 0 box) where
     opened : plan_shrink ar dim p box resolution piece_by h ≡ plan_clip ar dim p box resolution piece_by (greville ar p n knots)
     unfolding plan_clip
     opened =
         ap (plan_shrink ar dim p box resolution piece_by)
-        (H ∙ ap (λ (e : Float). clip ar dim (points_of (suc dim) n points) (scalars_of n x.at) (domain (get_or knots p nan) e) 0 box) ends)
-        ∙ sym (ap (plan_clip ar dim p box resolution piece_by) (some_held ar p n knots x no X))
+        (H ∙ (λ i. clip ar dim (points_of (suc dim) (L i) points) ξ (domain (get_or knots p nan) (ends i)) 0 box))
+        ∙ sym (ap (plan_clip ar dim p box resolution piece_by) G)
 
-    pub clip-skip : h ≡ Missing → Skip ≡ plan_clip ar dim p box resolution piece_by (greville ar p n knots)
+    pub clip-skip : h ≡ None → Skip ≡ plan_clip ar dim p box resolution piece_by (greville ar p n knots)
     unfolding plan_shrink
     clip-skip e = ap (plan_shrink ar dim p box resolution piece_by) (sym e) ∙ opened
 
-    pub clip-go : (hat : Scalar) (r : Plan) → h ≡ Over hat → r ≡ plan_hat ar dim box resolution (get_or knots p nan) (get_or knots n nan) (points_of (suc dim) n points) hat
+    pub clip-go : (hat : Scalar) (r : Plan) → h ≡ Some hat → r ≡ plan_hat ar dim box resolution (get_or knots p nan) (get_or knots n nan) (points_of (suc dim) n points) hat
         → r ≡ plan_clip ar dim p box resolution piece_by (greville ar p n knots)
     unfolding plan_shrink
     clip-go hat r e R = R ∙ ap (λ (b : Float). plan_hat ar dim box resolution (get_or knots p nan) b (points_of (suc dim) n points) hat) ends ∙ ap (plan_shrink ar dim p box resolution piece_by) (sym e) ∙ opened

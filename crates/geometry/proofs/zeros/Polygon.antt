@@ -9,8 +9,8 @@ use lib.ListN.{length, get_or}
 use Rattle.lists.specs.Lists.{tab, last_d}
 use Rattle.lists.proofs.Tab.{tab-whole, zip_with-tab}
 use Rattle.math.specs.declared.scalars.Scalar.{Scalar}
-use Rattle.math.specs.declared.scalars.Divided.{Divided}
-use Rattle.math.specs.declared.scalars.Divided.TheVariants.{Value, Failed}
+use Rattle.math.specs.Divided.{Divided}
+use Rattle.std.specs.Prelude.{Some, None}
 use Rattle.math.specs.Revision.{arithmetic}
 use Rattle.math.specs.Scalars.{Arithmetic, absent, ENTIRE}
 use Rattle.math.proofs.Bools.{and_l, and_r}
@@ -18,22 +18,21 @@ use Rattle.model.specs.Aabb.{unions}
 use Rattle.model.specs.Call.{revision_fits}
 use Rattle.model.specs.FatLine.{offset, zeros_by, fat_line_zeros}
 use Rattle.model.specs.Paper.{hat_of}
-use Rattle.model.specs.declared.fat_line.Hat.{Hat}
-use Rattle.model.specs.declared.fat_line.Hat.TheVariants.{Over}
+use Rattle.model.specs.Hat.{Hat}
 use Rattle.geometry.specs.Zeros.{paired, answerable, polygon_zeros, ZerosFound, level_zeros, sloped_zeros, off_by, begun, taken, zeros_of}
 use Rattle.geometry.specs.declared.zeros.Line.{Line}
 use Rattle.geometry.proofs.aabb.Unions.{unions_first, unions_turn}
 
 -- ---- where there is nothing to answer, and where the lists are a polygon
 
-pub no_polygon : (rev : ℕ) (ξ d : List Scalar) (t : Bool) → t ≡ answerable rev (length ξ) (length d) → T (not t) → Over ENTIRE ≡ polygon_zeros rev ξ d
+pub no_polygon : (rev : ℕ) (ξ d : List Scalar) (t : Bool) → t ≡ answerable rev (length ξ) (length d) → T (not t) → Some ENTIRE ≡ polygon_zeros rev ξ d
 unfolding polygon_zeros
 no_polygon rev ξ d true e h = absurd h
-no_polygon rev ξ d false e h = ap (λ (b : Bool). cond b (fat_line_zeros (arithmetic (eqb rev 2)) ξ d) (Over ENTIRE)) e
+no_polygon rev ξ d false e h = ap (λ (b : Bool). cond b (fat_line_zeros (arithmetic (eqb rev 2)) ξ d) (Some ENTIRE)) e
 
 pub a_polygon : (rev : ℕ) (ξ d : List Scalar) (t : Bool) → t ≡ answerable rev (length ξ) (length d) → T t → fat_line_zeros (arithmetic (eqb rev 2)) ξ d ≡ polygon_zeros rev ξ d
 unfolding polygon_zeros
-a_polygon rev ξ d true e h = ap (λ (b : Bool). cond b (fat_line_zeros (arithmetic (eqb rev 2)) ξ d) (Over ENTIRE)) e
+a_polygon rev ξ d true e h = ap (λ (b : Bool). cond b (fat_line_zeros (arithmetic (eqb rev 2)) ξ d) (Some ENTIRE)) e
 a_polygon rev ξ d false e h = absurd h
 
 -- the definition's answer, on paper
@@ -41,7 +40,7 @@ pub zeros-found : (rev : ℕ) (ξ d : List Scalar) (r : Hat) → r ≡ polygon_z
 unfolding polygon_zeros
 zeros-found rev ξ d r e = record { result = e; paper = ap hat_of e ∙ on-paper (answerable rev (length ξ) (length d)) (fat_line_zeros (arithmetic (eqb rev 2)) ξ d) }
   where
-    on-paper : (t : Bool) (h : Hat) → hat_of (cond t h (Over ENTIRE)) ≡ cond t (hat_of h) (some ENTIRE)
+    on-paper : (t : Bool) (h : Hat) → hat_of (cond t h (Some ENTIRE)) ≡ cond t (hat_of h) (some ENTIRE)
     on-paper true h = refl
     on-paper false h = refl
 
@@ -60,11 +59,7 @@ not-empty m n h = ltb→lt 0 n (and_r (eqb m n) (ltb 0 n) h)
 
 -- ---- what the turns keep
 
-module _ (rev : ℕ) (ξ d : List Scalar) where
-  -- the revision's arithmetic
-  abbrev ar : Arithmetic
-  ar = arithmetic (eqb rev 2)
-
+module _ (ar : Arithmetic) (ξ d : List Scalar) where
   abbrev x₀ : Scalar
   x₀ = get_or ξ 0 absent
 
@@ -80,18 +75,18 @@ module _ (rev : ℕ) (ξ d : List Scalar) where
 
   -- The line with the first i points taken in.
   abbrev pub line_of : ℕ → Line
-  line_of i = record { second = eqb rev 2; x0 = x₀; y0 = y₀; last = last_d d absent; slope = slope; band = unions (tab i off) }
+  line_of i = record { x0 = x₀; y0 = y₀; last = last_d d absent; slope = slope; band = unions (tab i off) }
 
-  pub line_first : (r : Line) → length ξ ≡ length d → r ≡ begun rev x₀ y₀ (get_or ξ (length d - 1) absent) (last_d d absent) → r ≡ line_of 1
+  pub line_first : (r : Line) → length ξ ≡ length d → r ≡ begun ar x₀ y₀ (get_or ξ (length d - 1) absent) (last_d d absent) → r ≡ line_of 1
   unfolding begun
-  line_first r h e = e ∙ ap (λ (n : ℕ). begun rev x₀ y₀ (get_or ξ (n - 1) absent) (last_d d absent)) (sym h) ∙ ap (λ (b : Scalar). record { second = eqb rev 2; x0 = x₀; y0 = y₀; last = last_d d absent; slope = slope; band = b }) (unions_first off)
+  line_first r h e = e ∙ ap (λ (n : ℕ). begun ar x₀ y₀ (get_or ξ (n - 1) absent) (last_d d absent)) (sym h) ∙ ap (λ (b : Scalar). record { x0 = x₀; y0 = y₀; last = last_d d absent; slope = slope; band = b }) (unions_first off)
 
-  pub line_turn : (i : ℕ) (l r : Line) → 0 < i → l ≡ line_of i → r ≡ taken l (get_or ξ i absent) (get_or d i absent) → r ≡ line_of (i + 1)
+  pub line_turn : (i : ℕ) (l r : Line) → 0 < i → l ≡ line_of i → r ≡ taken ar l (get_or ξ i absent) (get_or d i absent) → r ≡ line_of (i + 1)
   unfolding taken
   line_turn i l r h e g =
       g
-      ∙ ap (λ (k : Line). taken k (get_or ξ i absent) (get_or d i absent)) e
-      ∙ ap (λ (b : Scalar). record { second = eqb rev 2; x0 = x₀; y0 = y₀; last = last_d d absent; slope = slope; band = b }) (unions_turn off i _ _ _ h refl refl refl)
+      ∙ ap (λ (k : Line). taken ar k (get_or ξ i absent) (get_or d i absent)) e
+      ∙ ap (λ (b : Scalar). record { x0 = x₀; y0 = y₀; last = last_d d absent; slope = slope; band = b }) (unions_turn off i _ _ _ h refl refl refl)
 
   -- ---- at the end
 
@@ -103,14 +98,14 @@ module _ (rev : ℕ) (ξ d : List Scalar) where
 
   zeros_by_lem : length ξ ≡ length d → (q : Divided) → zeros_of ar x₀ y₀ (last_d d absent) (unions (tab (length d) (λ j. off_by ar q x₀ y₀ (get_or ξ j absent) (get_or d j absent)))) q ≡ zeros_by ar ξ d x₀ y₀ q
   unfolding zeros_of zeros_by off_by
-  zeros_by_lem h Failed = ap (λ (l : List Scalar). level_zeros (unions l)) (tab-whole d absent)
-  zeros_by_lem h (Value s) =
+  zeros_by_lem h None = ap (λ (l : List Scalar). level_zeros (unions l)) (tab-whole d absent)
+  zeros_by_lem h (Some s) =
       ap (λ (l : List Scalar). sloped_zeros ar s x₀ y₀ (last_d d absent) (unions l))
       (zip-off h (λ x y. offset ar s x₀ y₀ x y))
 
-  pub line_done : (i : ℕ) (l : Line) (r : Hat) → length ξ ≡ length d → i ≡ length d → l ≡ line_of i → r ≡ zeros_of (arithmetic l.second) l.x0 l.y0 l.last l.band l.slope → r ≡ fat_line_zeros (arithmetic (eqb rev 2)) ξ d
+  pub line_done : (i : ℕ) (l : Line) (r : Hat) → length ξ ≡ length d → i ≡ length d → l ≡ line_of i → r ≡ zeros_of ar l.x0 l.y0 l.last l.band l.slope → r ≡ fat_line_zeros ar ξ d
   unfolding fat_line_zeros
   line_done i l r h n e g =
       g
-      ∙ ap (λ (k : Line). zeros_of (arithmetic k.second) k.x0 k.y0 k.last k.band k.slope) (e ∙ ap (λ (m : ℕ). line_of m) n)
+      ∙ ap (λ (k : Line). zeros_of ar k.x0 k.y0 k.last k.band k.slope) (e ∙ ap (λ (m : ℕ). line_of m) n)
       ∙ zeros_by_lem h slope

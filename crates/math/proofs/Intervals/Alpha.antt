@@ -17,7 +17,7 @@ use Rattle.exact.proofs.Order.{le_by, le_refl as ≤-refl, lt_le_trans}
 use Rattle.exact.proofs.Embed.{÷_pos}
 use Rattle.math.specs.Neighbours.{next_up, next_down}
 use Rattle.math.specs.declared.scalars.Scalar.{Scalar}
-use Rattle.math.specs.declared.scalars.Divided.TheVariants.{Value, Failed}
+use Rattle.std.specs.Prelude.{Some, None}
 use Rattle.math.specs.Scalars.{sharp, zero_f, one_f, ONE, sub_s, mul_s, div_s, inverse_s, has_zero}
 use Rattle.math.specs.Values.{value, Below, Holds}
 use Rattle.math.specs.Encloses.{Between}
@@ -114,7 +114,7 @@ module _ (a t b : Float) (w : Between a t b) where
   num-ordered : T (le (sub_s (sharp t) (sharp a)).lo (sub_s (sharp t) (sharp a)).hi)
   num-ordered = meet_le _ _ _ num_holds.low num_holds.high
 
-  module _ (f : Scalar) (e : div_s (sub_s (sharp t) (sharp a)) (sub_s (sharp b) (sharp a)) ≡ Value f) where
+  module _ (f : Scalar) (e : div_s (sub_s (sharp t) (sharp a)) (sub_s (sharp b) (sharp a)) ≡ Some f) where
     clear_zero : has_zero (sub_s (sharp b) (sharp a)) ≡ false
     clear_zero = go (has_zero (sub_s (sharp b) (sharp a))) refl
       where
@@ -123,9 +123,9 @@ module _ (a t b : Float) (w : Between a t b) where
         go false p = p
 
     quotient_is : mul_s (sub_s (sharp t) (sharp a)) (inverse_s (sub_s (sharp b) (sharp a))) ≡ f
-    quotient_is = value_inj (unfold div_s in (sym (ap (λ (z : Bool). cond z Failed (Value (mul_s (sub_s (sharp t) (sharp a)) (inverse_s (sub_s (sharp b) (sharp a)))))) clear_zero) ∙ e))
+    quotient_is = value_inj (unfold div_s in (sym (ap (λ (z : Bool). cond z None (Some (mul_s (sub_s (sharp t) (sharp a)) (inverse_s (sub_s (sharp b) (sharp a)))))) clear_zero) ∙ e))
       where
-        value_inj : {x y : Scalar} → Value x ≡ Value y → x ≡ y
+        value_inj : {x y : Scalar} → Some x ≡ Some y → x ≡ y
         value_inj {x} {y} h = cc
 
     inv_low : T (le minus_one (inverse_s (sub_s (sharp b) (sharp a))).lo)

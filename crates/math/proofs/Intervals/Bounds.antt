@@ -8,7 +8,7 @@ use Rattle.math.specs.Neighbours.{next_up, next_down}
 use Rattle.math.specs.Scalars.{ENTIRE, has_zero, union_s, value_or, sub_s, corners, mul_s, inverse_s, div_s}
 use Rattle.math.specs.Bounds.{widen_b, whole_b, difference_b, join_b, pick_b, divisor_of, over_s, over_b}
 use Rattle.math.specs.declared.scalars.Scalar.{Scalar}
-use Rattle.math.specs.declared.scalars.Divided.TheVariants.{Value, Failed}
+use Rattle.std.specs.Prelude.{Some, None}
 use Rattle.math.specs.declared.bounds.Bounds.{Bounds}
 use Rattle.math.specs.declared.bounds.Divisor.{Divisor}
 use Rattle.math.proofs.Bools.{pick}
@@ -45,7 +45,7 @@ pub over_own : (x w : Scalar) → over_s x (divisor_of w) ≡ value_or (div_s x 
 unfolding over_s divisor_of div_s value_or
 over_own x w = by (has_zero w)
   where
-    by : (t : Bool) → cond t ENTIRE (mul_s x (inverse_s w)) ≡ value_or (cond t Failed (Value (mul_s x (inverse_s w)))) ENTIRE
+    by : (t : Bool) → cond t ENTIRE (mul_s x (inverse_s w)) ≡ value_or (cond t None (Some (mul_s x (inverse_s w)))) ENTIRE
     by true = refl
     by false = refl
 

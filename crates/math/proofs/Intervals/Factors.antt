@@ -14,7 +14,7 @@ use Rattle.math.specs.Picks.{lesser_f, greater_f, min_f, max_f}
 use Rattle.math.specs.Scalars.{Arithmetic, zero_f, least4, most4, add_s, sub_s, corners, mul_s, intersect_s, interpolate_s, widened}
 use Rattle.math.specs.Factors.{is_factor, in_order, all_in_order, fraction_of, both_ways, between_s}
 use Rattle.math.specs.declared.scalars.Scalar.{Scalar}
-use Rattle.math.specs.declared.scalars.Fraction.{Fraction}
+use Rattle.math.specs.declared.revision.Fraction.{Fraction}
 use Rattle.math.proofs.Bools.{yes, and_l, and_r}
 use Rattle.math.proofs.Picks.{lesser_is, greater_is}
 use Rattle.math.proofs.Doubles.Order.{number, le_number_l, le_number_r, le_trans, lt_le, le_lt, neg_le}

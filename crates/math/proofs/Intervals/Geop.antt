@@ -15,7 +15,7 @@ use Rattle.exact.proofs.Field.{ℚring}
 use Rattle.exact.proofs.Embed.{÷_inv, ÷_mul}
 use mathlib.Core.List.{[], ◌∷◌}
 use Rattle.math.specs.declared.scalars.Scalar.{Scalar}
-use Rattle.math.specs.declared.scalars.Divided.TheVariants.{Value, Failed}
+use Rattle.std.specs.Prelude.{Some, None}
 use Rattle.math.specs.Scalars.{add_s, sub_s, corners, mul_s, div_s, inverse_s, four_fifths_s, ratio_of, zero_f, has_zero, is_same, ZERO, ENTIRE}
 use Rattle.math.specs.Values.{value, Below, Above, Holds}
 use Rattle.math.specs.Encloses.{is_clash}
@@ -94,17 +94,17 @@ quotient-clear a b y k e = record {
         zero-times : (y i : ℚ) → i ≡ 0ℚ → y *ℚ i ≡ 0ℚ
         zero-times y i h = by_eq ℚring y h (by_rep ℚring (y ∷ i ∷ []) (search read) (search read) tt)
 
-pub div-strict : (a b c : Scalar) (x y : ℚ) → div_s a b ≡ Value c → Holds a x → Holds b y → Strict c (x *ℚ invℚ y)
+pub div-strict : (a b c : Scalar) (x y : ℚ) → div_s a b ≡ Some c → Holds a x → Holds b y → Strict c (x *ℚ invℚ y)
 unfolding div_s
 div-strict a b c x y e h k = go (has_zero b) refl e
   where
-    go : (t : Bool) → has_zero b ≡ t → cond t Failed (Value (mul_s a (inverse_s b))) ≡ Value c → Strict c (x *ℚ invℚ y)
+    go : (t : Bool) → has_zero b ≡ t → cond t None (Some (mul_s a (inverse_s b))) ≡ Some c → Strict c (x *ℚ invℚ y)
     go true p q = let z : ◌≡◌ {A = ℕ} 0 1 = cc in absurd (omega arith)
     go false p q =
         let z : mul_s a (inverse_s b) ≡ c = cc in
         subst (λ (s : Scalar). Strict s (x *ℚ invℚ y)) z (product-strict a (inverse_s b) x (invℚ y) (quotient-clear a b y k p) h (strict_holds (inverse_s b) (invℚ y) (inverse-strict b y k p)))
 
-pub div_holds : (a b c : Scalar) (x y : ℚ) → div_s a b ≡ Value c → Holds a x → Holds b y → Holds c (x *ℚ invℚ y)
+pub div_holds : (a b c : Scalar) (x y : ℚ) → div_s a b ≡ Some c → Holds a x → Holds b y → Holds c (x *ℚ invℚ y)
 div_holds a b c x y e h k = strict_holds c (x *ℚ invℚ y) (div-strict a b c x y e h k)
 
 -- the divisor holds zero exactly where the test says so
@@ -126,11 +126,11 @@ zero_held b = (
   λ h. and_i (le b.lo zero_f) (le zero_f b.hi) ((low_zero b.lo).1 h.low) ((high_zero b.hi).1 h.high),
 )
 
-pub div_fails : (a b : Scalar) → div_s a b ≡ Failed ↔ Holds b 0ℚ
+pub div_fails : (a b : Scalar) → div_s a b ≡ None ↔ Holds b 0ℚ
 unfolding div_s
-div_fails a b = (λ e. (zero_held b).0 (test (has_zero b) e), λ h. ap (λ (t : Bool). cond t Failed (Value (mul_s a (inverse_s b)))) (is_true (has_zero b) ((zero_held b).1 h)))
+div_fails a b = (λ e. (zero_held b).0 (test (has_zero b) e), λ h. ap (λ (t : Bool). cond t None (Some (mul_s a (inverse_s b)))) (is_true (has_zero b) ((zero_held b).1 h)))
   where
-    test : (t : Bool) → cond t Failed (Value (mul_s a (inverse_s b))) ≡ Failed → T t
+    test : (t : Bool) → cond t None (Some (mul_s a (inverse_s b))) ≡ None → T t
     test true e = tt
     test false e = let z : ◌≡◌ {A = ℕ} 0 1 = cc in absurd (omega arith)
 

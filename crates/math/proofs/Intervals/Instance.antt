@@ -7,7 +7,7 @@ use lib.Dec.{T, not_T}
 use lib.Ieee.{Float, nan, inf, fin, binary64, eq, le, fits, sub}
 use Rattle.exact.specs.Rational.{ℚ}
 use Rattle.math.specs.declared.scalars.Scalar.{Scalar}
-use Rattle.math.specs.declared.scalars.Divided.TheVariants.{Value}
+use Rattle.std.specs.Prelude.{Some}
 use Rattle.math.specs.Scalars.{geop, sharp, sub_s, div_s, ZERO, ONE, ENTIRE, is_same}
 use Rattle.math.specs.Values.{Holds}
 use Rattle.math.specs.Encloses.{Encloses, is_clash, Between}
@@ -43,10 +43,10 @@ high_kept (inf true) h t = unfold eq in t
 high_kept (inf false) h t = unfold le in h
 high_kept (fin s m e) h t = unfold eq in t
 
-slope_clear : (a b s c d : Scalar) (x y z w : ℚ) → div_s a b ≡ Value s → Holds a x → Holds b y → Holds c z → Holds d w → T (not (is_clash s (sub_s c d)))
+slope_clear : (a b s c d : Scalar) (x y z w : ℚ) → div_s a b ≡ Some s → Holds a x → Holds b y → Holds c z → Holds d w → T (not (is_clash s (sub_s c d)))
 slope_clear a b s c d x y z w e A B C D = clear_thick s (sub_s c d) (strict_thick s _ (div-strict a b s x y e A B)) (strict_thick (sub_s c d) _ (sub-strict c d z w C D))
 
-module _ (a t b : Float) (f s : Scalar) (w : Between a t b) (e : div_s (sub_s (sharp t) (sharp a)) (sub_s (sharp b) (sharp a)) ≡ Value f) where
+module _ (a t b : Float) (f s : Scalar) (w : Between a t b) (e : div_s (sub_s (sharp t) (sharp a)) (sub_s (sharp b) (sharp a)) ≡ Some f) where
   alpha_clear : T (not (is_clash f s))
   alpha_clear = clear-factor f s (strict_thick f _ (alpha-strict a t b w f e)) (λ (k : T (is_same f ENTIRE)). low_kept f.lo (alpha_low a t b w f e) (and_l (eq f.lo (inf true)) (eq f.hi (inf false)) k))
 

@@ -6,8 +6,8 @@ use lib.Ieee.{Float, nan, inf, fin, binary64, sub, lt, le}
 use Rattle.exact.specs.Rational.{0ℚ}
 use Rattle.math.specs.Picks.{min_f, max_f}
 use Rattle.math.specs.declared.scalars.Scalar.{Scalar}
-use Rattle.math.specs.declared.scalars.Divided.{Divided}
-use Rattle.math.specs.declared.scalars.Divided.TheVariants.{Value, Failed}
+use Rattle.math.specs.Divided.{Divided}
+use Rattle.std.specs.Prelude.{Some, None}
 use Rattle.math.specs.Scalars.{Arithmetic, geop, ZERO, ONE, ENTIRE, union_s, intersect_s, value_or, same_operands, via_delta, via_weights, interpolate_s}
 use Rattle.math.specs.Values.{Proper}
 use Rattle.math.specs.Encloses.{Encloses, InOrder, Tame, is_moderate}
@@ -72,8 +72,8 @@ module _ (ar : Arithmetic) (E : Encloses ar) where
   quotient_proper a b d A B D = go (ar.div a b) refl
     where
       go : (r : Divided) → ar.div a b ≡ r → Proper (value_or r d)
-      go (Value c) e = (in_order_lem ar E).div_proper a b c A B e
-      go Failed e = D
+      go (Some c) e = (in_order_lem ar E).div_proper a b c A B e
+      go None e = D
 
   -- a point between two
   module _ (a b t : Scalar) (A : Proper a) (B : Proper b) (P : Proper t) (w : Tame ar E a b t) where

@@ -21,7 +21,7 @@ use Rattle.math.specs.Scalars.{zero_f, has_zero, sharp}
 use Rattle.math.specs.Values.{value, Below, Above, Holds}
 use Rattle.math.specs.Encloses.{Encloses, Between}
 use Rattle.math.specs.declared.scalars.Scalar.{Scalar}
-use Rattle.math.specs.declared.scalars.Divided.TheVariants.{Value, Failed}
+use Rattle.std.specs.Prelude.{Some, None}
 use Rattle.math.proofs.Bools.{never, pick, and_i}
 use Rattle.math.proofs.Doubles.Values.{value_zero, value-neg, value-above, value_nonpos, le→value, value→le, lt→value}
 use Rattle.math.proofs.Doubles.Order.{below_number, below-neg, above-neg, below-mono, le_below, meet_le, total-order, lt_le, lt→le_f, neg_le, le_trans as ≤_trans}
@@ -234,19 +234,19 @@ pub quotient_holds : (a b : Scalar) (x y : ℚ) → Holds a x → Holds b y → 
 unfolding quotient
 quotient_holds a b x y h k e = pick (λ (r : Scalar). Holds r (x *ℚ invℚ y)) (le zero_f b.lo) _ _ (above_case a b x y h k e) (below_case a b x y h k e)
 
-pub div_holds : (a b c : Scalar) (x y : ℚ) → div_t a b ≡ Value c → Holds a x → Holds b y → Holds c (x *ℚ invℚ y)
+pub div_holds : (a b c : Scalar) (x y : ℚ) → div_t a b ≡ Some c → Holds a x → Holds b y → Holds c (x *ℚ invℚ y)
 unfolding div_t
 div_holds a b c x y e h k = go (has_zero b) refl e
   where
-    go : (t : Bool) → has_zero b ≡ t → cond t Failed (Value (quotient a b)) ≡ Value c → Holds c (x *ℚ invℚ y)
+    go : (t : Bool) → has_zero b ≡ t → cond t None (Some (quotient a b)) ≡ Some c → Holds c (x *ℚ invℚ y)
     go true p q = let z : ◌≡◌ {A = ℕ} 0 1 = cc in absurd (omega arith)
     go false p q = let z : quotient a b ≡ c = cc in subst (λ (s : Scalar). Holds s (x *ℚ invℚ y)) z (quotient_holds a b x y h k p)
 
-pub div_fails : (a b : Scalar) → div_t a b ≡ Failed ↔ Holds b 0ℚ
+pub div_fails : (a b : Scalar) → div_t a b ≡ None ↔ Holds b 0ℚ
 unfolding div_t
-div_fails a b = (λ e. (zero_held b).0 (test (has_zero b) e), λ h. ap (λ (t : Bool). cond t Failed (Value (quotient a b))) (is_true (has_zero b) ((zero_held b).1 h)))
+div_fails a b = (λ e. (zero_held b).0 (test (has_zero b) e), λ h. ap (λ (t : Bool). cond t None (Some (quotient a b))) (is_true (has_zero b) ((zero_held b).1 h)))
   where
-    test : (t : Bool) → cond t Failed (Value (quotient a b)) ≡ Failed → T t
+    test : (t : Bool) → cond t None (Some (quotient a b)) ≡ None → T t
     test true e = tt
     test false e = let z : ◌≡◌ {A = ℕ} 0 1 = cc in absurd (omega arith)
 

@@ -18,7 +18,7 @@ use Rattle.exact.proofs.Embed.{signed-inv}
 use Rattle.math.specs.Scalars.{zero_f, has_zero}
 use Rattle.math.specs.Values.{value, Below, Above, Holds, Proper}
 use Rattle.math.specs.declared.scalars.Scalar.{Scalar}
-use Rattle.math.specs.declared.scalars.Divided.TheVariants.{Value, Failed}
+use Rattle.std.specs.Prelude.{Some, None}
 use Rattle.math.proofs.Bools.{pick}
 use Rattle.math.proofs.Doubles.Values.{value_zero, value-neg, value-above, value-under, value→le}
 use Rattle.math.proofs.Intervals.Geop.{zero_held}
@@ -171,9 +171,9 @@ ratio_hull = record {
 pub tight_tightest : Tightest tight
 tight_tightest = record { sum = sum_hull; difference = difference_hull; product = product_hull; quotient = divided; fails = div_fails; ratio = ratio_hull }
   where
-    divided : (a b c : Scalar) → Proper a → Proper b → div_t a b ≡ Value c → Hull c (Quotients a b)
+    divided : (a b c : Scalar) → Proper a → Proper b → div_t a b ≡ Some c → Hull c (Quotients a b)
     divided a b c A B e = go (has_zero b) refl (unfold div_t in e)
       where
-        go : (t : Bool) → has_zero b ≡ t → cond t Failed (Value (quotient a b)) ≡ Value c → Hull c (Quotients a b)
+        go : (t : Bool) → has_zero b ≡ t → cond t None (Some (quotient a b)) ≡ Some c → Hull c (Quotients a b)
         go true p q = let y : ◌≡◌ {A = ℕ} 0 1 = cc in absurd (omega arith)
         go false p q = let y : quotient a b ≡ c = cc in subst (λ (s : Scalar). Hull s (Quotients a b)) y (quotient_hull a b A B p)

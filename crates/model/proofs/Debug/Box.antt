@@ -7,8 +7,8 @@ use native.Mathlib.Omega.{arith}
 use lib.Dec.{T, eqb, eqb→eq}
 use lib.ListN.{length}
 use Rattle.math.specs.declared.scalars.Scalar.{Scalar}
-use Rattle.math.specs.declared.scalars.Divided.{Divided}
-use Rattle.math.specs.declared.scalars.Divided.TheVariants.{Value, Failed}
+use Rattle.math.specs.Divided.{Divided}
+use Rattle.std.specs.Prelude.{Some, None}
 use Rattle.math.specs.Scalars.{geop, sharp, ZERO, ONE, ENTIRE, could_be_equal, has_zero, union_s, intersect_s, sub_s, div_s, mul_s, inverse_s}
 use Rattle.math.specs.Values.{Proper}
 use Rattle.math.proofs.Bools.{pick, and_r}
@@ -18,8 +18,7 @@ use Rattle.model.specs.Vector.{Vector, coordinate}
 use Rattle.model.specs.NurbCurve.{point, weights_positive}
 use Rattle.model.specs.Aabb.{unions, place, aabb, could_overlap, along_by, along, meets, could_meet}
 use Rattle.model.specs.Enclosure.{Every}
-use Rattle.model.specs.declared.fat_line.Hat.{Hat}
-use Rattle.model.specs.declared.fat_line.Hat.TheVariants.{Over, Missing}
+use Rattle.model.specs.Hat.{Hat}
 use Rattle.model.specs.Tested as tested
 use Rattle.model.specs.Tested.{Tested, fine, ◌>>=◌}
 use Rattle.model.specs.Debug as debug
@@ -38,9 +37,9 @@ unions_fine [] S = refl
 unions_fine (x ∷ xs) S = fold_fine Proper Proper tested.union union_s union_fine union_proper x xs S.0 S.1
 
 -- a divisor that holds zero
-fails : (x y : Scalar) → has_zero y ≡ true → div_s x y ≡ Failed
+fails : (x y : Scalar) → has_zero y ≡ true → div_s x y ≡ None
 unfolding div_s
-fails x y h = ap (λ (b : Bool). cond b Failed (Value (mul_s x (inverse_s y)))) h
+fails x y h = ap (λ (b : Bool). cond b None (Some (mul_s x (inverse_s y)))) h
 
 module _ (dim : ℕ) where
   -- ---- the box
@@ -91,9 +90,9 @@ module _ (dim : ℕ) where
 
     by_kept : (s t : Divided) → first ≡ s → second ≡ t → OfHat Proper (along_by s t)
     unfolding along_by
-    by_kept Failed t p q = tt
-    by_kept (Value s) Failed p q = tt
-    by_kept (Value s) (Value t) p q = union_proper s t (geop_in_order.div_proper (sub_s (sharp e.lo) a) d s from-lo moved p) (geop_in_order.div_proper (sub_s (sharp e.hi) a) d t from-hi moved q)
+    by_kept None t p q = tt
+    by_kept (Some s) None p q = tt
+    by_kept (Some s) (Some t) p q = union_proper s t (geop_in_order.div_proper (sub_s (sharp e.lo) a) d s from-lo moved p) (geop_in_order.div_proper (sub_s (sharp e.hi) a) d t from-hi moved q)
 
     along_kept : OfHat Proper (along geop e a b)
     unfolding along
@@ -101,16 +100,16 @@ module _ (dim : ℕ) where
 
     by_fine : (s t : Divided) → first ≡ s → second ≡ t → debug.along_by s t ≡ fine (along_by s t)
     unfolding debug.along_by along_by
-    by_fine Failed t p q = refl
-    by_fine (Value s) Failed p q = refl
-    by_fine (Value s) (Value t) p q = rw (union_fine s t (geop_in_order.div_proper (sub_s (sharp e.lo) a) d s from-lo moved p) (geop_in_order.div_proper (sub_s (sharp e.hi) a) d t from-hi moved q)) refl
+    by_fine None t p q = refl
+    by_fine (Some s) None p q = refl
+    by_fine (Some s) (Some t) p q = rw (union_fine s t (geop_in_order.div_proper (sub_s (sharp e.lo) a) d s from-lo moved p) (geop_in_order.div_proper (sub_s (sharp e.hi) a) d t from-hi moved q)) refl
 
     along_fine : debug.along e a b ≡ fine (along geop e a b)
     unfolding debug.along along along_by
     along_fine = rw (sub_fine b a C A) (go (has_zero d) refl)
       where
         go : (z : Bool) → has_zero d ≡ z
-            → cond z (fine Missing) (tested.sharp e.lo >>= λ u. tested.sub u a >>= λ m. tested.div m d >>= λ s. tested.sharp e.hi >>= λ v. tested.sub v a >>= λ n. tested.div n d >>= λ t. debug.along_by s t)
+            → cond z (fine None) (tested.sharp e.lo >>= λ u. tested.sub u a >>= λ m. tested.div m d >>= λ s. tested.sharp e.hi >>= λ v. tested.sub v a >>= λ n. tested.div n d >>= λ t. debug.along_by s t)
             ≡ fine (along_by first second)
         go true h = rw (fails (sub_s (sharp e.lo) a) d h) refl
         go false h = rw (
@@ -141,10 +140,10 @@ module _ (dim : ℕ) where
         on t S rest false = refl
 
         go : (h : Hat) → OfHat Proper h → Rest
-            → ◌≡◌ {A = Tested Bool} (elim h [ Missing ↦ debug.meets dim a b range (suc k) es | Over t ↦ elim (could_be_equal t range) [ true ↦ (tested.intersect t range >>= λ r. debug.meets dim a b r (suc k) es) | false ↦ fine false ] ])
-            (fine (elim h [ Missing ↦ meets geop dim a b range (suc k) es | Over t ↦ elim (could_be_equal t range) [ true ↦ meets geop dim a b (intersect_s t range) (suc k) es | false ↦ false ] ]))
-        go Missing S rest = rest range R
-        go (Over t) S rest = on t S rest (could_be_equal t range)
+            → ◌≡◌ {A = Tested Bool} (elim h [ None ↦ debug.meets dim a b range (suc k) es | Some t ↦ elim (could_be_equal t range) [ true ↦ (tested.intersect t range >>= λ r. debug.meets dim a b r (suc k) es) | false ↦ fine false ] ])
+            (fine (elim h [ None ↦ meets geop dim a b range (suc k) es | Some t ↦ elim (could_be_equal t range) [ true ↦ meets geop dim a b (intersect_s t range) (suc k) es | false ↦ false ] ]))
+        go None S rest = rest range R
+        go (Some t) S rest = on t S rest (could_be_equal t range)
 
   -- THE DOOR
   pub door_fine : (p : ℕ) (points : List Vector) (box : List Scalar) → Every (Solid dim) points → length box ≡ dim → Every Bounded box → debug.could_meet dim p points box ≡ fine (could_meet geop dim p points box)

@@ -9,8 +9,8 @@ use lib.ListN.{length, get_or}
 use lib.Ieee.{Float, binary64, of_int}
 use Rattle.lists.specs.Lists.{last_d, foldl}
 use Rattle.math.specs.declared.scalars.Scalar.{Scalar}
-use Rattle.math.specs.declared.scalars.Divided.{Divided}
-use Rattle.math.specs.declared.scalars.Divided.TheVariants.{Value, Failed}
+use Rattle.math.specs.Divided.{Divided}
+use Rattle.std.specs.Prelude.{Some, None}
 use Rattle.math.specs.Scalars.{geop, sharp, absent, ZERO, could_be_equal, union_s, intersect_s, add_s, sub_s, mul_s, div_s}
 use Rattle.math.specs.Values.{Proper}
 use Rattle.math.proofs.Doubles.Order.{le_number_l}
@@ -21,8 +21,7 @@ use Rattle.model.specs.Aabb.{unions}
 use Rattle.model.specs.FatLine.{window, abscissa, greville, offset, crossing, zeros_by, fat_line_zeros}
 use Rattle.model.specs.Contains.{axis, narrowed, clip}
 use Rattle.model.specs.Enclosure.{Every}
-use Rattle.model.specs.declared.fat_line.Hat.{Hat}
-use Rattle.model.specs.declared.fat_line.Hat.TheVariants.{Over, Missing}
+use Rattle.model.specs.Hat.{Hat}
 use Rattle.model.specs.Tested as tested
 use Rattle.model.specs.Tested.{Tested, fine, ◌>>=◌}
 use Rattle.model.specs.Debug as debug
@@ -82,7 +81,7 @@ module _ (ξs ds : List Scalar) (P : Polygon ξs ds) where
   yₙ = last_d_lem geop geop_encloses ξs ds P
 
   -- where the chord has a slope s
-  module _ (s : Scalar) (es : div_s (sub_s (last_d ds absent) (get_or ds 0 absent)) (sub_s (last_d ξs absent) (get_or ξs 0 absent)) ≡ Value s) where
+  module _ (s : Scalar) (es : div_s (sub_s (last_d ds absent) (get_or ds 0 absent)) (sub_s (last_d ξs absent) (get_or ξs 0 absent)) ≡ Some s) where
     steep : Proper s
     steep = slope geop geop_encloses ξs ds P s es
 
@@ -103,10 +102,10 @@ module _ (ξs ds : List Scalar) (P : Polygon ξs ds) where
 
     crossing_fine : (q : Divided) → div_s (add_s (get_or ds 0 absent) (unions offs)) s ≡ q → debug.crossing (get_or ξs 0 absent) q ≡ fine (crossing geop (get_or ξs 0 absent) q)
     unfolding debug.crossing crossing
-    crossing_fine (Value q) e = rw (sub_fine ξ₀ q x₀ (geop_in_order.div_proper (add_s d₀ (unions offs)) s q (reach_proper geop geop_encloses ξs ds P s es) steep e)) refl
-    crossing_fine Failed e = refl
+    crossing_fine (Some q) e = rw (sub_fine ξ₀ q x₀ (geop_in_order.div_proper (add_s d₀ (unions offs)) s q (reach_proper geop geop_encloses ξs ds P s es) steep e)) refl
+    crossing_fine None e = refl
 
-    sloped_fine : debug.zeros_by ξs ds (get_or ξs 0 absent) (get_or ds 0 absent) (Value s) ≡ fine (zeros_by geop ξs ds (get_or ξs 0 absent) (get_or ds 0 absent) (Value s))
+    sloped_fine : debug.zeros_by ξs ds (get_or ξs 0 absent) (get_or ds 0 absent) (Some s) ≡ fine (zeros_by geop ξs ds (get_or ξs 0 absent) (get_or ds 0 absent) (Some s))
     unfolding debug.zeros_by zeros_by
     sloped_fine = rw (
       zip_fine Proper Proper (λ x y. debug.offset s ξ₀ d₀ x y) (λ x y. offset geop s ξ₀ d₀ x y) offset_fine ξs ds P.abscissae P.values,
@@ -115,7 +114,7 @@ module _ (ξs ds : List Scalar) (P : Polygon ξs ds) where
       add_fine (union_s d₀ dₙ) (unions offs) (union_proper d₀ dₙ y₀ yₙ) band,
     ) (go (could_be_equal (add_s (union_s d₀ dₙ) (unions offs)) ZERO))
       where
-        go : (z : Bool) → cond z (tested.add d₀ (unions offs) >>= λ n. tested.div n s >>= λ q. debug.crossing ξ₀ q) (fine Missing) ≡ fine (cond z (crossing geop ξ₀ (div_s (add_s d₀ (unions offs)) s)) Missing)
+        go : (z : Bool) → cond z (tested.add d₀ (unions offs) >>= λ n. tested.div n s >>= λ q. debug.crossing ξ₀ q) (fine None) ≡ fine (cond z (crossing geop ξ₀ (div_s (add_s d₀ (unions offs)) s)) None)
         go true = rw (add_fine d₀ (unions offs) y₀ band, div_fine (add_s d₀ (unions offs)) s (reach_proper geop geop_encloses ξs ds P s es) steep) (crossing_fine (div_s (add_s d₀ (unions offs)) s) refl)
         go false = refl
 
@@ -129,16 +128,16 @@ module _ (ξs ds : List Scalar) (P : Polygon ξs ds) where
   ) (go (div_s rise run) refl)
     where
       go : (r : Divided) → div_s rise run ≡ r → debug.zeros_by ξs ds ξ₀ d₀ r ≡ fine (zeros_by geop ξs ds ξ₀ d₀ r)
-      go (Value s) e = sloped_fine s e
-      go Failed e = unfold debug.zeros_by zeros_by in rw (unions_fine ds P.values) refl
+      go (Some s) e = sloped_fine s e
+      go None e = unfold debug.zeros_by zeros_by in rw (unions_fine ds P.values) refl
 
 -- ---- the clip
 narrowed_fine : (hat : Scalar) (z : Hat) → debug.narrowed hat z ≡ fine (narrowed hat z)
 unfolding debug.narrowed narrowed
-narrowed_fine hat Missing = refl
-narrowed_fine hat (Over z) = go (could_be_equal z hat)
+narrowed_fine hat None = refl
+narrowed_fine hat (Some z) = go (could_be_equal z hat)
   where
-    go : (b : Bool) → cond b (tested.intersect hat z >>= λ h. fine (Over h)) (fine Missing) ≡ fine (cond b (Over (intersect_s hat z)) Missing)
+    go : (b : Bool) → cond b (tested.intersect hat z >>= λ h. fine (Some h)) (fine None) ≡ fine (cond b (Some (intersect_s hat z)) None)
     go true = rw (intersect_fine hat z) refl
     go false = refl
 
@@ -163,6 +162,6 @@ module _ (dim : ℕ) (points : List Vector) (S : Every (Weighty dim) points) whe
       (go (narrowed hat (fat_line_zeros geop ξs ds)) (narrowed_proper geop geop_encloses hat (fat_line_zeros geop ξs ds) h (zeros_proper geop geop_encloses ξs ds P)) (λ g p. clip_fine ξs G some-p es (suc k) g (omega arith) B.1 p))
     where
       go : (z : Hat) → OfHat Proper z → ((g : Scalar) → Proper g → debug.clip dim points ξs g (suc k) es ≡ fine (clip geop dim points ξs g (suc k) es))
-          → ◌≡◌ {A = Tested Hat} (elim z [ Missing ↦ fine Missing | Over h ↦ debug.clip dim points ξs h (suc k) es ]) (fine (elim z [ Missing ↦ Missing | Over h ↦ clip geop dim points ξs h (suc k) es ]))
-      go Missing y rest = refl
-      go (Over g) y rest = rest g y
+          → ◌≡◌ {A = Tested Hat} (elim z [ None ↦ fine None | Some h ↦ debug.clip dim points ξs h (suc k) es ]) (fine (elim z [ None ↦ None | Some h ↦ clip geop dim points ξs h (suc k) es ]))
+      go None y rest = refl
+      go (Some g) y rest = rest g y

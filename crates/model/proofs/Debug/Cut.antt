@@ -8,8 +8,8 @@ use lib.ListN.{length}
 use lib.Ieee.{Float}
 use Rattle.exact.specs.Rational.{0ℚ}
 use Rattle.math.specs.declared.scalars.Scalar.{Scalar}
-use Rattle.math.specs.declared.scalars.Divided.{Divided}
-use Rattle.math.specs.declared.scalars.Divided.TheVariants.{Value, Failed}
+use Rattle.math.specs.Divided.{Divided}
+use Rattle.std.specs.Prelude.{Some, None}
 use Rattle.math.specs.Scalars.{geop, sharp, sub_s, div_s}
 use Rattle.math.proofs.Bools.{and_r}
 use Rattle.math.proofs.Intervals.Instance.{geop_encloses}
@@ -64,8 +64,8 @@ module _ (dim : ℕ) where
 
     by_fine : T (is_bezier p (length c.points) c.knots) → (r : Divided) → along ≡ r → debug.cut_by p x c r ≡ fine (cut_by geop p x c true r)
     unfolding debug.cut_by cut_by
-    by_fine t (Value α) e = bezier_fine α (fraction_gentle geop geop_encloses a x b (known_a p x c K i t) i.known (known_b p x c K i t) i.from (before_b p x c K i t) α e) p x c S
-    by_fine t Failed e = boehm_fine
+    by_fine t (Some α) e = bezier_fine α (fraction_gentle geop geop_encloses a x b (known_a p x c K i t) i.known (known_b p x c K i t) i.from (before_b p x c K i t) α e) p x c S
+    by_fine t None e = boehm_fine
 
     -- THE CUT
     pub cut_fine : debug.full_cut p x c ≡ fine (full_cut geop p x c)

@@ -9,8 +9,8 @@ use lib.Ieee.{Float, eq}
 use Rattle.exact.specs.Rational.{ℚ, ◌≤ℚ◌, ◌<ℚ◌}
 use Rattle.exact.specs.Cut.{Good}
 use Rattle.math.specs.declared.scalars.Scalar.{Scalar}
-use Rattle.math.specs.declared.scalars.Divided.{Divided}
-use Rattle.math.specs.declared.scalars.Divided.TheVariants.{Value, Failed}
+use Rattle.math.specs.Divided.{Divided}
+use Rattle.std.specs.Prelude.{Some, None}
 use Rattle.math.specs.Scalars.{geop, sharp, ZERO, ONE, is_same, has_zero, could_be_equal, value_or, sub_s, mul_s, inverse_s, div_s, interpolate_s}
 use Rattle.math.specs.Values.{value, Proper}
 use Rattle.math.proofs.Intervals.Instance.{geop_encloses}
@@ -44,19 +44,19 @@ vector_fine α g a b A B =
     (λ x y X Y. interpolate_fine x y α X Y (gentle_proper geop geop_encloses α g) (g.tame x y)) a b A B
 
 -- a division that succeeds has a divisor without zero
-no_zero : (x y f : Scalar) → div_s x y ≡ Value f → has_zero y ≡ false
+no_zero : (x y f : Scalar) → div_s x y ≡ Some f → has_zero y ≡ false
 unfolding div_s
 no_zero x y f e = go (has_zero y) refl e
   where
-    go : (z : Bool) → has_zero y ≡ z → cond z Failed (Value (mul_s x (inverse_s y))) ≡ Value f → has_zero y ≡ false
+    go : (z : Bool) → has_zero y ≡ z → cond z None (Some (mul_s x (inverse_s y))) ≡ Some f → has_zero y ≡ false
     go false h e = h
     go true h e = absurd (apart e)
       where
         IsValue : Divided → Type 0
-        IsValue (Value c) = Unit {0}
-        IsValue Failed = ⊥
+        IsValue (Some c) = Unit {0}
+        IsValue None = ⊥
 
-        apart : Failed ≡ Value f → ⊥
+        apart : None ≡ Some f → ⊥
         apart e = subst IsValue (sym e) tt
 
 -- ---- the fraction: t is at knot a or after it, and before knot b

@@ -13,8 +13,8 @@ use Rattle.exact.proofs.Order.{le_by, cone, add-mono}
 use Rattle.exact.proofs.Embed.{÷_one}
 use Rattle.math.specs.Neighbours.{next_up, next_down}
 use Rattle.math.specs.declared.scalars.Scalar.{Scalar}
-use Rattle.math.specs.declared.scalars.Divided.{Divided}
-use Rattle.math.specs.declared.scalars.Divided.TheVariants.{Value}
+use Rattle.math.specs.Divided.{Divided}
+use Rattle.std.specs.Prelude.{Some}
 use Rattle.math.specs.Scalars.{geop, zero_f, one_f, two_f, sharp, TWO, ENTIRE, middle, value_or, add_s, corners, mul_s, inverse_s, div_s, least4}
 use Rattle.math.specs.Values.{value, Below, Above, Holds, Proper}
 use Rattle.math.proofs.Doubles.Values.{value_zero, le→value}
@@ -141,7 +141,7 @@ module _ (a b : Float) (ka : Known a) (kb : Known b) where
   whole (fin t m e) (inf false) q k u w = unfold add is_nan in tt
   whole (fin t m e) (fin t' m' e') q k u w = (add_rounds t m e t' m' e').lows.is_number
 
-  quotient : div_s (add_s (sharp a) (sharp b)) TWO ≡ Value (mul_s (add_s (sharp a) (sharp b)) (inverse_s TWO))
+  quotient : div_s (add_s (sharp a) (sharp b)) TWO ≡ Some (mul_s (add_s (sharp a) (sharp b)) (inverse_s TWO))
   unfolding div_s le
   quotient = refl
 

@@ -5,7 +5,7 @@ use lib.Dec.{T}
 use lib.Ieee.{Float, nan, binary64, sub, lt, le, is_nan}
 use lib.Ieee.Bits.{is_true}
 use Rattle.math.specs.declared.scalars.Scalar.{Scalar}
-use Rattle.math.specs.declared.scalars.Divided.TheVariants.{Value, Failed}
+use Rattle.std.specs.Prelude.{Some, None}
 use Rattle.math.specs.Neighbours.{next_up, next_down}
 use Rattle.math.specs.Picks.{min_f, max_f}
 use Rattle.math.specs.Scalars.{geop, zero_f, one_f, sharp, ZERO, ONE, ENTIRE, has_zero, width_s, union_s, intersect_s, interpolate_s, same_operands, via_delta, via_weights, add_s, sub_s, corners, mul_s, inverse_s, div_s, four_fifths_s}
@@ -57,13 +57,13 @@ module _ (a b : Scalar) (A : Proper a) (B : Proper b) where
 
   over_fine : has_zero b ≡ false → tested.mul a (inverse_s b) ≡ fine (mul_s a (inverse_s b))
   unfolding tested.mul mul_s div_s
-  over_fine e = proper_fine (mul_s a (inverse_s b)) (o.div_proper a b (mul_s a (inverse_s b)) A B (ap (λ (z : Bool). cond z Failed (Value (mul_s a (inverse_s b)))) e))
+  over_fine e = proper_fine (mul_s a (inverse_s b)) (o.div_proper a b (mul_s a (inverse_s b)) A B (ap (λ (z : Bool). cond z None (Some (mul_s a (inverse_s b)))) e))
 
   pub div_fine : tested.div a b ≡ fine (div_s a b)
   unfolding tested.div div_s
   div_fine = go (has_zero b) refl
     where
-      go : (z : Bool) → has_zero b ≡ z → cond z (fine Failed) (tested.inverse b >>= λ i. tested.mul a i >>= λ c. fine (Value c)) ≡ fine (cond z Failed (Value (mul_s a (inverse_s b))))
+      go : (z : Bool) → has_zero b ≡ z → cond z (fine None) (tested.inverse b >>= λ i. tested.mul a i >>= λ c. fine (Some c)) ≡ fine (cond z None (Some (mul_s a (inverse_s b))))
       go true e = refl
       go false e = rw (inverse_fine e, over_fine e) refl
 

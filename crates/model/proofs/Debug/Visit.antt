@@ -19,8 +19,8 @@ use Rattle.model.specs.FatLine.{greville, extent, restricts, halves}
 use Rattle.model.specs.Subdivide.{Question, dropped, reported, halved, bad_weight}
 use Rattle.model.specs.Contains.{clip, carried, hand_on, hand_both, shrink, clipped, visit}
 use Rattle.model.specs.Enclosure.{Every}
-use Rattle.model.specs.declared.fat_line.Hat.{Hat}
-use Rattle.model.specs.declared.fat_line.Hat.TheVariants.{Over, Missing}
+use Rattle.model.specs.Hat.{Hat}
+use Rattle.std.specs.Prelude.{Some, None}
 use Rattle.model.specs.Tested.{fine, ◌>>=◌}
 use Rattle.model.specs.Debug as debug
 use Rattle.model.proofs.Sound.Base.{Known, Knots}
@@ -62,7 +62,7 @@ module _ (q : Question) (Q : Asked q) (R : T (number q.resolution)) (c : Piece) 
   b = end c
 
   -- ---- what a hat makes of the piece
-  hat_fine : (hat : Scalar) → Within (start q.degree c) (end c) hat → debug.shrink q c (Over hat) ≡ fine (shrink geop q c (Over hat))
+  hat_fine : (hat : Scalar) → Within (start q.degree c) (end c) hat → debug.shrink q c (Some hat) ≡ fine (shrink geop q c (Some hat))
   unfolding debug.shrink shrink
   hat_fine hat at = rw (carried_fine dim q.box c.points, restricts_fine a b ka kb size wide s v hat lo hi) (go (restricts geop a b hat size wide))
     where
@@ -101,9 +101,9 @@ module _ (q : Question) (Q : Asked q) (R : T (number q.resolution)) (c : Piece) 
           (on_fine dim (restrict geop p hat.lo hat.hi c) (restrict_solid geop geop_encloses dim p c K S hat.lo hat.hi at.double-lo at.double-hi))
       go false = rw (halves_fine a b ka kb size wide s v q.resolution R) (half (halves a b size wide q.resolution))
 
-  shrink_fine : (z : Hat) → ((hat : Scalar) → z ≡ Over hat → Within (start q.degree c) (end c) hat) → debug.shrink q c z ≡ fine (shrink geop q c z)
-  shrink_fine Missing at = unfold debug.shrink shrink in refl
-  shrink_fine (Over hat) at = hat_fine hat (at hat refl)
+  shrink_fine : (z : Hat) → ((hat : Scalar) → z ≡ Some hat → Within (start q.degree c) (end c) hat) → debug.shrink q c z ≡ fine (shrink geop q c z)
+  shrink_fine None at = unfold debug.shrink shrink in refl
+  shrink_fine (Some hat) at = hat_fine hat (at hat refl)
 
   clipped_fine : (g : Option (List Scalar)) → Givens (length c.points) g → debug.clipped q c g ≡ fine (clipped geop q c g)
   unfolding debug.clipped clipped

@@ -12,8 +12,8 @@ use Rattle.exact.proofs.Order.{le_refl, le_antisym, lt→le, lt_le_trans, ratio_
 use Rattle.exact.proofs.Splines.Hull.{lerp-pos}
 use Rattle.lists.proofs.Each.{get_or_zip, length-zip}
 use Rattle.math.specs.declared.scalars.Scalar.{Scalar}
-use Rattle.math.specs.declared.scalars.Divided.{Divided}
-use Rattle.math.specs.declared.scalars.Divided.TheVariants.{Value}
+use Rattle.math.specs.Divided.{Divided}
+use Rattle.std.specs.Prelude.{Some}
 use Rattle.math.specs.Scalars.{Arithmetic, sharp, absent, ZERO, ONE, is_same, value_or, interpolate_s}
 use Rattle.math.specs.Values.{value, Holds, Proper}
 use Rattle.math.specs.Encloses.{Encloses, Between, Tame}
@@ -77,10 +77,10 @@ module _ (ar : Arithmetic) (E : Encloses ar) where
     w : Between a t b
     w = row ar E a t b ka kt kb at tb
 
-    pub fraction : (f : Scalar) × (ar.div (ar.sub (sharp t) (sharp a)) (ar.sub (sharp b) (sharp a)) ≡ Value f)
+    pub fraction : (f : Scalar) × (ar.div (ar.sub (sharp t) (sharp a)) (ar.sub (sharp b) (sharp a)) ≡ Some f)
     fraction = succeeds ar E a t b w (ar.sub (sharp t) (sharp a))
 
-    pub fraction_gentle : (f : Scalar) → ar.div (ar.sub (sharp t) (sharp a)) (ar.sub (sharp b) (sharp a)) ≡ Value f → Gentle f
+    pub fraction_gentle : (f : Scalar) → ar.div (ar.sub (sharp t) (sharp a)) (ar.sub (sharp b) (sharp a)) ≡ Some f → Gentle f
     fraction_gentle f e = record {
       number = ratio (value t) (value a) (value b);
       from = ratio_ge (lt_le_trans at (lt→le tb)) (lt→le at);

@@ -13,8 +13,8 @@ use lib.Ieee.{Float, binary64, of_int}
 use Rattle.lists.specs.Lists.{last_d, foldl}
 use Rattle.lists.proofs.Tab.{length-tab}
 use Rattle.math.specs.declared.scalars.Scalar.{Scalar}
-use Rattle.math.specs.declared.scalars.Divided.{Divided}
-use Rattle.math.specs.declared.scalars.Divided.TheVariants.{Value, Failed}
+use Rattle.math.specs.Divided.{Divided}
+use Rattle.std.specs.Prelude.{Some, None}
 use Rattle.math.specs.Scalars.{Arithmetic, sharp, absent, ZERO, ENTIRE, could_be_equal, union_s, intersect_s}
 use Rattle.math.specs.Values.{Proper}
 use Rattle.math.specs.Encloses.{Encloses, InOrder}
@@ -25,8 +25,7 @@ use Rattle.model.specs.Aabb.{unions}
 use Rattle.model.specs.FatLine.{window, abscissa, greville, offset, crossing, zeros_by, fat_line_zeros}
 use Rattle.model.specs.Contains.{axis, narrowed, clip}
 use Rattle.model.specs.Enclosure.{Every}
-use Rattle.model.specs.declared.fat_line.Hat.{Hat}
-use Rattle.model.specs.declared.fat_line.Hat.TheVariants.{Over, Missing}
+use Rattle.model.specs.Hat.{Hat}
 use Rattle.model.proofs.Sound.Base.{Known}
 use Rattle.model.proofs.Sound.Visit.Greville.{whole_holds}
 use Rattle.model.proofs.Sound.Visit.Keeps.{OfHat, of_hat_if, of_hat_or, clip-keeps}
@@ -119,7 +118,7 @@ module _ (ar : Arithmetic) (E : Encloses ar) where
     runs = o.sub_proper (last_d ξs absent) ξ₀ last_x first_x
 
     -- where the chord has a slope s
-    module _ (s : Scalar) (es : ar.div (ar.sub (last_d ds absent) (get_or ds 0 absent)) (ar.sub (last_d ξs absent) (get_or ξs 0 absent)) ≡ Value s) where
+    module _ (s : Scalar) (es : ar.div (ar.sub (last_d ds absent) (get_or ds 0 absent)) (ar.sub (last_d ξs absent) (get_or ξs 0 absent)) ≡ Some s) where
       pub slope : Proper s
       slope = o.div_proper rise run s rises runs es
 
@@ -155,8 +154,8 @@ module _ (ar : Arithmetic) (E : Encloses ar) where
 
       crossing_proper : (q : Divided) → ar.div (ar.add (get_or ds 0 absent) (unions offs)) s ≡ q → OfHat Proper (crossing ar (get_or ξs 0 absent) q)
       unfolding crossing
-      crossing_proper (Value q) e = o.sub_proper ξ₀ q first_x (o.div_proper (ar.add d₀ (unions offs)) s q reach_proper slope e)
-      crossing_proper Failed e = entire_proper
+      crossing_proper (Some q) e = o.sub_proper ξ₀ q first_x (o.div_proper (ar.add d₀ (unions offs)) s q reach_proper slope e)
+      crossing_proper None e = entire_proper
 
     -- THE FAT LINE
     pub zeros_proper : OfHat Proper (fat_line_zeros ar ξs ds)
@@ -164,14 +163,14 @@ module _ (ar : Arithmetic) (E : Encloses ar) where
     zeros_proper = go (ar.div rise run) refl
       where
         go : (r : Divided) → ar.div rise run ≡ r → OfHat Proper (zeros_by ar ξs ds ξ₀ d₀ r)
-        go (Value s) e = of_hat_or Proper (could_be_equal (ar.add (union_s d₀ (last_d ds absent)) (unions (offs s e))) ZERO) _ (crossing_proper s e (ar.div (ar.add d₀ (unions (offs s e))) s) refl)
-        go Failed e = of_hat_if Proper (could_be_equal (unions ds) ZERO) ENTIRE (λ _. entire_proper)
+        go (Some s) e = of_hat_or Proper (could_be_equal (ar.add (union_s d₀ (last_d ds absent)) (unions (offs s e))) ZERO) _ (crossing_proper s e (ar.div (ar.add d₀ (unions (offs s e))) s) refl)
+        go None e = of_hat_if Proper (could_be_equal (unions ds) ZERO) ENTIRE (λ _. entire_proper)
 
   -- ---- the clip
   pub narrowed_proper : (hat : Scalar) (z : Hat) → Proper hat → OfHat Proper z → OfHat Proper (narrowed hat z)
   unfolding narrowed
-  narrowed_proper hat Missing h k = tt
-  narrowed_proper hat (Over z) h k = of_hat_if Proper (could_be_equal z hat) (intersect_s hat z) (λ _. intersect_proper hat z h k)
+  narrowed_proper hat None h k = tt
+  narrowed_proper hat (Some z) h k = of_hat_if Proper (could_be_equal z hat) (intersect_s hat z) (λ _. intersect_proper hat z h k)
 
   module _ (dim : ℕ) (points : List Vector) (S : Every (Weighty dim) points) where
     -- one axis

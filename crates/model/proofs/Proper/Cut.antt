@@ -12,8 +12,8 @@ use Rattle.exact.specs.Cut.{Grouped}
 use Rattle.exact.proofs.Splines.Group.{group-find}
 use Rattle.lists.specs.Lists.{last_d}
 use Rattle.math.specs.declared.scalars.Scalar.{Scalar}
-use Rattle.math.specs.declared.scalars.Divided.{Divided}
-use Rattle.math.specs.declared.scalars.Divided.TheVariants.{Value, Failed}
+use Rattle.math.specs.Divided.{Divided}
+use Rattle.std.specs.Prelude.{Some, None}
 use Rattle.math.specs.Scalars.{Arithmetic, sharp}
 use Rattle.math.specs.Values.{value}
 use Rattle.math.specs.Encloses.{Encloses}
@@ -103,7 +103,7 @@ module _ (ar : Arithmetic) (E : Encloses ar) (dim : ℕ) where
       where
         go : (z : Bool) (r : Divided) → along ≡ r → (T z → T (is_bezier p (length c.points) c.knots)) → Every (Solid dim) (cut_by ar p x c z r).piece.points
         go false r e h = boehm_solid
-        go true Failed e h = boehm_solid
-        go true (Value α) e h =
+        go true None e h = boehm_solid
+        go true (Some α) e h =
             let ka = known_a p x c K i (h tt) in
             bezier_solid α (fraction_gentle ar E (knot c.knots p) x (knot c.knots (suc p)) ka i.known (known_b p x c K i (h tt)) i.from (before_b p x c K i (h tt)) α e) p x c (full p x c K i (h tt)) S

@@ -24,8 +24,8 @@ use Rattle.model.specs.FatLine.{greville}
 use Rattle.model.specs.Subdivide.{Question, dropped, restricted, halved, bad_weight}
 use Rattle.model.specs.Contains.{clip, hand_on, hand_both, shrink, clipped, visit}
 use Rattle.model.specs.Enclosure.{Every}
-use Rattle.model.specs.declared.fat_line.Hat.{Hat}
-use Rattle.model.specs.declared.fat_line.Hat.TheVariants.{Over, Missing}
+use Rattle.model.specs.Hat.{Hat}
+use Rattle.std.specs.Prelude.{Some, None}
 use Rattle.model.proofs.Sound.Base.{Known, Knots}
 use Rattle.model.proofs.Sound.Restrict.{Both}
 use Rattle.model.proofs.Sound.Search.{Fine, fine_both}
@@ -100,14 +100,14 @@ module _ (ar : Arithmetic) (E : Encloses ar) (q : Question) (Q : Asked q) where
     b = end c
 
     -- ---- what a hat makes of the piece
-    hat_held : (hat : Scalar) → Proper hat → Within (start q.degree c) (end c) hat → Fine Proper (Held q.dim) (shrink ar q c (Over hat))
+    hat_held : (hat : Scalar) → Proper hat → Within (start q.degree c) (end c) hat → Fine Proper (Held q.dim) (shrink ar q c (Some hat))
     hat_held hat h at = choices ar q c hat (Fine Proper (Held dim))
         (λ _. on-held (restrict ar p hat.lo hat.hi c) (restrict_solid ar E dim p c K S hat.lo hat.hi at.double-lo at.double-hi))
         (both-held hat (split_mid ar p c) h (split_solid ar E dim p c K S)) h
 
-    shrink-held : (z : Hat) → OfHat Proper z → ((hat : Scalar) → z ≡ Over hat → Within (start q.degree c) (end c) hat) → Fine Proper (Held q.dim) (shrink ar q c z)
-    shrink-held Missing h at = unfold shrink in tt
-    shrink-held (Over hat) h at = hat_held hat h (at hat refl)
+    shrink-held : (z : Hat) → OfHat Proper z → ((hat : Scalar) → z ≡ Some hat → Within (start q.degree c) (end c) hat) → Fine Proper (Held q.dim) (shrink ar q c z)
+    shrink-held None h at = unfold shrink in tt
+    shrink-held (Some hat) h at = hat_held hat h (at hat refl)
 
     -- ---- its hat
     hat_proper : (ξs : List Scalar) → Given (length c.points) ξs → OfHat Proper (clip ar q.dim c.points ξs (domain (start q.degree c) (end c)) 0 q.box)

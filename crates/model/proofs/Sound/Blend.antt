@@ -14,8 +14,8 @@ use Rattle.exact.proofs.Embed.{÷_one}
 use Rattle.exact.proofs.Splines.Smooth.{ratio-start}
 use Rattle.lists.proofs.Each.{get_or_zip}
 use Rattle.math.specs.declared.scalars.Scalar.{Scalar}
-use Rattle.math.specs.declared.scalars.Divided.{Divided}
-use Rattle.math.specs.declared.scalars.Divided.TheVariants.{Value, Failed}
+use Rattle.math.specs.Divided.{Divided}
+use Rattle.std.specs.Prelude.{Some, None}
 use Rattle.math.specs.Scalars.{Arithmetic, sharp, absent, ZERO, ONE, one_f, is_same, value_or, interpolate_s}
 use Rattle.math.specs.Values.{value, Holds}
 use Rattle.math.specs.Encloses.{Encloses, Between, Tame}
@@ -38,7 +38,7 @@ lerp_1 : (ρ x y : ℚ) → ρ ≡ 1ℚ → lerp ρ x y ≡ y
 unfolding lerp
 lerp_1 ρ x y e = by_eq ℚring (y -ℚ x) e (by_rep ℚring (ρ ∷ x ∷ y ∷ []) (search read depth 9) (search read depth 9) tt)
 
-pub value_of : (f d : Scalar) → value_or (Value f) d ≡ f
+pub value_of : (f d : Scalar) → value_or (Some f) d ≡ f
 unfolding value_or
 value_of f d = refl
 
@@ -61,7 +61,7 @@ module _ (ar : Arithmetic) (E : Encloses ar) where
 
   -- ---- a point between two at the computed fraction
   module _ (a t b : Float) (ka : Known a) (kt : Known t) (kb : Known b) (at : value a <ℚ value t) (tb : value t <ℚ value b) (f : Scalar)
-      (e : ar.div (ar.sub (sharp t) (sharp a)) (ar.sub (sharp b) (sharp a)) ≡ Value f) where
+      (e : ar.div (ar.sub (sharp t) (sharp a)) (ar.sub (sharp b) (sharp a)) ≡ Some f) where
     abbrev ρ : ℚ
     ρ = ratio (value t) (value a) (value b)
 
@@ -95,12 +95,12 @@ module _ (ar : Arithmetic) (E : Encloses ar) where
         (λ _. between_holds A B k X Y h l))
 
   -- the divisor is never zero where a double lies between
-  pub succeeds : (a t b : Float) → Between a t b → (c : Scalar) → (f : Scalar) × (ar.div c (ar.sub (sharp b) (sharp a)) ≡ Value f)
+  pub succeeds : (a t b : Float) → Between a t b → (c : Scalar) → (f : Scalar) × (ar.div c (ar.sub (sharp b) (sharp a)) ≡ Some f)
   succeeds a t b w c = go (ar.div c (ar.sub (sharp b) (sharp a))) refl
     where
-      go : (r : Divided) → ar.div c (ar.sub (sharp b) (sharp a)) ≡ r → (f : Scalar) × (ar.div c (ar.sub (sharp b) (sharp a)) ≡ Value f)
-      go (Value f) e = (f, e)
-      go Failed e = absurd (E.gap a t b w ((E.div_fails c (ar.sub (sharp b) (sharp a))).0 e))
+      go : (r : Divided) → ar.div c (ar.sub (sharp b) (sharp a)) ≡ r → (f : Scalar) × (ar.div c (ar.sub (sharp b) (sharp a)) ≡ Some f)
+      go (Some f) e = (f, e)
+      go None e = absurd (E.gap a t b w ((E.div_fails c (ar.sub (sharp b) (sharp a))).0 e))
 
   zero_same : T (is_same ZERO ZERO)
   zero_same = unfold eq in tt
@@ -132,7 +132,7 @@ module _ (ar : Arithmetic) (E : Encloses ar) where
           strict : value a <ℚ value t
           strict = not_le→lt (λ m. subst T e (known_eq a t ka kt (le_antisym at m)))
 
-          inner : (f : Scalar) × (ar.div (ar.sub (sharp t) (sharp a)) (ar.sub (sharp b) (sharp a)) ≡ Value f)
+          inner : (f : Scalar) × (ar.div (ar.sub (sharp t) (sharp a)) (ar.sub (sharp b) (sharp a)) ≡ Some f)
               → Holds (coordinate (blend ar (value_or (ar.div (ar.sub (sharp t) (sharp a)) (ar.sub (sharp b) (sharp a))) ONE) A B) k) (lerp (ratio (value t) (value a) (value b)) X Y)
           inner r =
               subst (λ (z : Scalar). Holds (coordinate (blend ar z A B) k) (lerp (ratio (value t) (value a) (value b)) X Y))

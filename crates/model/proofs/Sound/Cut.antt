@@ -16,8 +16,8 @@ use Rattle.exact.proofs.Splines.Bezier.{bezier_left, bezier_right}
 use Rattle.lists.specs.Lists.{all}
 use Rattle.lists.proofs.Fold.{all_get_or}
 use Rattle.math.specs.declared.scalars.Scalar.{Scalar}
-use Rattle.math.specs.declared.scalars.Divided.{Divided}
-use Rattle.math.specs.declared.scalars.Divided.TheVariants.{Value, Failed}
+use Rattle.math.specs.Divided.{Divided}
+use Rattle.std.specs.Prelude.{Some, None}
 use Rattle.math.specs.Scalars.{Arithmetic, sharp}
 use Rattle.math.specs.Values.{value, Holds}
 use Rattle.math.specs.Encloses.{Encloses}
@@ -34,7 +34,7 @@ use Rattle.model.proofs.Sound.Triangle.{near_holds, far_holds, length-sides, len
 -- THE CUT BY THE TRIANGLE, of a Bezier span from knot p to knot p + 1
 module _ (ar : Arithmetic) (E : Encloses ar) (D p : ℕ) (x : Float) (c : Piece) (C : ℕ → ℕ → ℚ) (K : Knots p (length c.points) c.knots) (I : Inside D c.points C) (kx : Known x) (full : length c.points ≡ suc p)
     (ax : values c.knots p <ℚ value x) (xb : value x <ℚ values c.knots (suc p)) (α : Scalar)
-    (e : ar.div (ar.sub (sharp x) (sharp (knot c.knots p))) (ar.sub (sharp (knot c.knots (suc p))) (sharp (knot c.knots p))) ≡ Value α) where
+    (e : ar.div (ar.sub (sharp x) (sharp (knot c.knots p))) (ar.sub (sharp (knot c.knots (suc p))) (sharp (knot c.knots p))) ≡ Some α) where
   abbrev a : Float
   a = knot c.knots p
 
@@ -155,24 +155,24 @@ module _ (ar : Arithmetic) (E : Encloses ar) (D p : ℕ) (x : Float) (c : Piece)
     xb : value x <ℚ values c.knots (suc p)
     xb = subst (λ (z : ℕ). value x <ℚ u z) full xn
 
-    triangle-parts : (α : Scalar) → along ≡ Value α → Parts p n (u p) (value x) (u n) (left_of p (bezier_cut ar p x α c)) (right_of (bezier_cut ar p x α c))
+    triangle-parts : (α : Scalar) → along ≡ Some α → Parts p n (u p) (value x) (u n) (left_of p (bezier_cut ar p x α c)) (right_of (bezier_cut ar p x α c))
     triangle-parts α e =
         subst (λ (z : ℕ). Parts p n (u p) (value x) (u z) (left_of p (bezier_cut ar p x α c)) (right_of (bezier_cut ar p x α c))) (sym full) (bezier_parts ar E D p x c C K I kx full px xb α e)
 
-    triangle-keeps : (α : Scalar) → along ≡ Value α → (t : ℚ) (v : ℕ → ℚ) → On p n u C t v → Keeps D p t v (value x) (left_of p (bezier_cut ar p x α c)) (right_of (bezier_cut ar p x α c))
+    triangle-keeps : (α : Scalar) → along ≡ Some α → (t : ℚ) (v : ℕ → ℚ) → On p n u C t v → Keeps D p t v (value x) (left_of p (bezier_cut ar p x α c)) (right_of (bezier_cut ar p x α c))
     triangle-keeps α e = bezier_keeps ar E D p x c C K I kx full px xb α e (bezier_span p n c.knots K.long K.known single)
 
   parts_by : (z : Bool) (r : Divided) → (T z → T (is_bezier p n c.knots)) → along ≡ r → Parts p n (u p) (value x) (u n) (left_of p (cut_by ar p x c z r)) (right_of (cut_by ar p x c z r))
   unfolding cut_by
-  parts_by true (Value α) single e = triangle-parts (single tt) α e
-  parts_by true Failed single e = boehm_parts ar E D p x c C K I kx px xn
+  parts_by true (Some α) single e = triangle-parts (single tt) α e
+  parts_by true None single e = boehm_parts ar E D p x c C K I kx px xn
   parts_by false r single e = boehm_parts ar E D p x c C K I kx px xn
 
   keeps_by : (z : Bool) (r : Divided) → (T z → T (is_bezier p n c.knots)) → along ≡ r → (t : ℚ) (v : ℕ → ℚ) → On p n u C t v
       → Keeps D p t v (value x) (left_of p (cut_by ar p x c z r)) (right_of (cut_by ar p x c z r))
   unfolding cut_by
-  keeps_by true (Value α) single e = triangle-keeps (single tt) α e
-  keeps_by true Failed single e = boehm_keeps ar E D p x c C K I kx px xn
+  keeps_by true (Some α) single e = triangle-keeps (single tt) α e
+  keeps_by true None single e = boehm_keeps ar E D p x c C K I kx px xn
   keeps_by false r single e = boehm_keeps ar E D p x c C K I kx px xn
 
   -- the test that the cut makes

@@ -15,7 +15,7 @@ use Rattle.exact.proofs.Splines.Bezier.{bezier_good}
 use Rattle.lists.proofs.Each.{get_or_map, get_or_reverse, get_or_zip, length-zip}
 use Rattle.lists.specs.Lists.{last_d}
 use Rattle.math.specs.declared.scalars.Scalar.{Scalar}
-use Rattle.math.specs.declared.scalars.Divided.TheVariants.{Value}
+use Rattle.std.specs.Prelude.{Some}
 use Rattle.math.specs.Scalars.{Arithmetic, sharp}
 use Rattle.math.specs.Values.{value, Holds}
 use Rattle.math.specs.Encloses.{Encloses}
@@ -75,7 +75,7 @@ side-far rows i h =
 
 -- ---- what the rows hold
 module _ (ar : Arithmetic) (E : Encloses ar) (D : ℕ) (C : ℕ → ℕ → ℚ) (a x b : Float) (ka : Known a) (kx : Known x) (kb : Known b) (ax : value a <ℚ value x) (xb : value x <ℚ value b)
-    (α : Scalar) (e : ar.div (ar.sub (sharp x) (sharp a)) (ar.sub (sharp b) (sharp a)) ≡ Value α) where
+    (α : Scalar) (e : ar.div (ar.sub (sharp x) (sharp a)) (ar.sub (sharp b) (sharp a)) ≡ Some α) where
   abbrev ρ : ℚ
   ρ = ratio (value x) (value a) (value b)
 

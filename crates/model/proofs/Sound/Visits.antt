@@ -25,8 +25,8 @@ use Rattle.model.specs.Aabb.{aabb, could_overlap}
 use Rattle.model.specs.FatLine.{greville, restricts, halves, extent}
 use Rattle.model.specs.Subdivide.{Question, Visit, dropped, reported, restricted, halved, bad_weight}
 use Rattle.model.specs.Contains.{clip, carried, hand_on, hand_both, shrink, clipped, visit}
-use Rattle.model.specs.declared.fat_line.Hat.{Hat}
-use Rattle.model.specs.declared.fat_line.Hat.TheVariants.{Over, Missing}
+use Rattle.model.specs.Hat.{Hat}
+use Rattle.std.specs.Prelude.{Some, None}
 use Rattle.model.proofs.Sound.Base.{values, Known, Knots, Carries, lined}
 use Rattle.model.proofs.Sound.Known.{le_value}
 use Rattle.model.proofs.Sound.Restrict.{Sub, Both, restrict-sub, restrict-keeps, split-sub, split-keeps, mid-fits}
@@ -78,7 +78,7 @@ sub-ok dim p N a b c s h k w = record { knots = k.knots; small = omega (arith, h
 -- ---- what holds of each choice that a hat leaves holds of the one that is made: of the restriction, where its test passed
 pub choices : (ar : Arithmetic) (q : Question) (c : Piece) (hat : Scalar) (P : Visit → Type 0)
     → (T (restricts ar (start q.degree c) (end c) hat (extent q.dim c.points) (carried q.dim q.box c.points)) → P (hand_on q.dim (restrict ar q.degree hat.lo hat.hi c)))
-    → P (hand_both q.dim hat (split_mid ar q.degree c)) → P (reported hat) → P (shrink ar q c (Over hat))
+    → P (hand_both q.dim hat (split_mid ar q.degree c)) → P (reported hat) → P (shrink ar q c (Some hat))
 unfolding shrink
 choices ar q c hat P down in_two whole =
     let size = extent q.dim c.points in
@@ -107,10 +107,10 @@ module _ (ar : Arithmetic) (E : Encloses ar) (q : Question) (N : ℕ) (a b : ℚ
   both_fine c hat (both l r) h i s = pick (Fine (Inner a b) Good) (weights_positive dim l.points && weights_positive dim r.points) (halved l r) bad_weight
       (λ w. (sub-ok dim p N a b c l h s.0 (and_l (weights_positive dim l.points) (weights_positive dim r.points) w), sub-ok dim p N a b c r h s.1 (and_r (weights_positive dim l.points) (weights_positive dim r.points) w))) (λ _. tt)
 
-  shrink_fine : (c : Piece) (h : Hat) → Ok q.dim q.degree N a b c → ((hat : Scalar) → h ≡ Over hat → Within (start q.degree c) (end c) hat)
+  shrink_fine : (c : Piece) (h : Hat) → Ok q.dim q.degree N a b c → ((hat : Scalar) → h ≡ Some hat → Within (start q.degree c) (end c) hat)
       → Fine (Inner a b) (Ok q.dim q.degree N a b) (shrink ar q c h)
-  shrink_fine c Missing k w = unfold shrink in tt
-  shrink_fine c (Over hat) k w = choices ar q c hat (Fine (Inner a b) Good)
+  shrink_fine c None k w = unfold shrink in tt
+  shrink_fine c (Some hat) k w = choices ar q c hat (Fine (Inner a b) Good)
       (λ _. on_fine c (restrict ar p hat.lo hat.hi c) k (restrict-sub ar E p c hat.lo hat.hi k.knots at.double-lo at.double-hi))
       (both_fine c hat (split_mid ar p c) k inner halved-sub) inner
     where
@@ -155,7 +155,7 @@ module _ (ar : Arithmetic) (E : Encloses ar) (q : Question) (N : ℕ) (a b : ℚ
     both_kept hat (both l r) h s = pick (Kept At Has) (weights_positive dim l.points && weights_positive dim r.points) (halved l r) bad_weight (λ _. s) (λ _. tt)
 
     shrink_kept : (c : Piece) (hat : Scalar) → Ok q.dim q.degree N a b c → Carries (suc q.dim) q.degree t v c → Within (start q.degree c) (end c) hat → Holds hat t
-        → Kept (λ s. Holds s t) (Carries (suc q.dim) q.degree t v) (shrink ar q c (Over hat))
+        → Kept (λ s. Holds s t) (Carries (suc q.dim) q.degree t v) (shrink ar q c (Some hat))
     shrink_kept c hat k h w at = choices ar q c hat (Kept At Has)
         (λ _. on_kept (restrict ar p hat.lo hat.hi c) (restrict-keeps ar E p (suc dim) t v c hat k.knots w.double-lo w.double-hi at h))
         (both_kept hat (split_mid ar p c) at halved-keeps) at
@@ -173,7 +173,7 @@ module _ (ar : Arithmetic) (E : Encloses ar) (q : Question) (N : ℕ) (a b : ℚ
         g : (ξs : List Scalar) × (greville ar q.degree (length c.points) c.knots ≡ some ξs) × Abscissae q.degree (length c.points) c.knots ξs
         g = greville-found ar E p (length c.points) c.knots 1≤p p≤7 k.knots
 
-        f : (hat : Scalar) × (clip ar q.dim c.points g.0 (domain (start q.degree c) (end c)) 0 q.box ≡ Over hat) × Holds hat t
+        f : (hat : Scalar) × (clip ar q.dim c.points g.0 (domain (start q.degree c) (end c)) 0 q.box ≡ Some hat) × Holds hat t
         f = clip-found ar E dim p c k.knots k.weights t v h 1≤p p≤7 g.0 g.1 q.box long x bx vx
 
     pub visit_kept : (c : Piece) → Ok q.dim q.degree N a b c → Carries (suc q.dim) q.degree t v c → Kept (λ s. Holds s t) (Carries (suc q.dim) q.degree t v) (visit ar q c)

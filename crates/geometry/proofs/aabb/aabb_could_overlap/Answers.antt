@@ -7,27 +7,25 @@ use Rattle.geometry.proofs.aabb.Box.{axis_at_lem, overlap-start, overlap-keep, o
 use Rattle.geometry.proofs.aabb.aabb_could_overlap.Goals as goal
 
 pub loop-k-init : goal.loop-k-init
-loop-k-init c =
+loop-k-init ty c =
     let a = c.args in
-    (omega arith, overlap-start a.dim (axis_at_lem (arithmetic a.second) a.dim a.count a.points.now) (scalar_at a.point_box.now))
+    overlap-start a.dim (axis_at_lem (arithmetic ty.R.Revision.second) a.dim a.count a.points.now) (scalar_at a.point_box.now)
 
 pub returns-then-not-could_be_equal : goal.returns-then-not-could_be_equal
 unfolding aabb
-returns-then-not-could_be_equal c =
+returns-then-not-could_be_equal ty c =
     let a = c.args in
-    overlap-stop a.dim (axis_at_lem (arithmetic a.second) a.dim a.count a.points.now) (scalar_at a.point_box.now) c.loop-k.k c.loop-k.invariant.1 (omega arith)
+    overlap-stop a.dim (axis_at_lem (arithmetic ty.R.Revision.second) a.dim a.count a.points.now) (scalar_at a.point_box.now) c.loop-k.k c.loop-k.invariant (omega arith)
     _ _ _ c.axis_box-extent.ensures c.scalar_at-other.ensures c.could_be_equal.ensures c.if-not-could_be_equal.true
 
 pub loop-k-preserved : goal.loop-k-preserved
-loop-k-preserved c =
-    let a = c.args in (
-      omega arith,
-      overlap-keep a.dim (axis_at_lem (arithmetic a.second) a.dim a.count a.points.now) (scalar_at a.point_box.now) c.loop-k.k c.loop-k.invariant.1 (omega arith)
-          _ _ _ c.axis_box-extent.ensures c.scalar_at-other.ensures c.could_be_equal.ensures c.if-not-could_be_equal.false,
-    )
+loop-k-preserved ty c =
+    let a = c.args in
+      overlap-keep a.dim (axis_at_lem (arithmetic ty.R.Revision.second) a.dim a.count a.points.now) (scalar_at a.point_box.now) c.loop-k.k c.loop-k.invariant (omega arith)
+          _ _ _ c.axis_box-extent.ensures c.scalar_at-other.ensures c.could_be_equal.ensures c.if-not-could_be_equal.false
 
 pub returns : goal.returns
 unfolding aabb
-returns c =
+returns ty c =
     let a = c.args in
-    overlap_end a.dim (axis_at_lem (arithmetic a.second) a.dim a.count a.points.now) (scalar_at a.point_box.now) c.loop-k.k c.loop-k.invariant.1 (omega arith)
+    overlap_end a.dim (axis_at_lem (arithmetic ty.R.Revision.second) a.dim a.count a.points.now) (scalar_at a.point_box.now) c.loop-k.k c.loop-k.invariant (omega arith)

@@ -1,6 +1,5 @@
 -- `aabb_could_overlap` equals its definition. The invariant: what is left to test answers for the whole.
 use mathlib.Core.Path.{◌≡◌}
-use Prim.Native.Nat.{◌≤◌, ◌-◌}
 use Rattle.lists.specs.Lists.{tab}
 use Rattle.math.specs.Revision.{arithmetic}
 use Rattle.model.specs.Layout.{scalar_at}
@@ -9,8 +8,5 @@ use Rattle.geometry.proofs.aabb.Box.{axis_at_lem, overlap_from}
 use Rattle.geometry.proofs.aabb.aabb_could_overlap.Given as goal
 
 abbrev pub invariant-loop-k : goal.invariant-loop-k
-invariant-loop-k l =
-    (l.k ≤ l.dim) × (overlap_from l.dim (axis_at_lem (arithmetic l.second) l.dim l.count l.points) (scalar_at l.point_box) l.k ≡ could_overlap (tab l.dim (axis_at_lem (arithmetic l.second) l.dim l.count l.points)) (tab l.dim (scalar_at l.point_box)))
-
-abbrev pub decreases-loop-k : goal.decreases-loop-k
-decreases-loop-k l = l.dim - l.k
+invariant-loop-k ty l =
+    overlap_from l.dim (axis_at_lem (arithmetic ty.R.Revision.second) l.dim l.count l.points) (scalar_at l.point_box) l.k ≡ could_overlap (tab l.dim (axis_at_lem (arithmetic ty.R.Revision.second) l.dim l.count l.points)) (tab l.dim (scalar_at l.point_box))

@@ -1,23 +1,28 @@
--- `along` equals its definition: missing where a quotient failed, and else the union of both.
+-- `along` equals its definition: none where a quotient is none, and else the union of both.
 use mathlib.Core.Path.{ap, ◌∙◌}
 use Rattle.math.specs.Revision.{arithmetic}
 use Rattle.math.specs.declared.scalars.Scalar.{Scalar}
 use Rattle.geometry.proofs.aabb.Box.{along_first, along_second, along-both}
 use Rattle.geometry.proofs.aabb.along.Goals as goal
 
-pub returns-in_default : goal.returns-in_default
-returns-in_default c =
+pub returns-in_err-s : goal.returns-in_err-s
+returns-in_err-s ty c =
     let a = c.args in
-    along_first (arithmetic a.second) a.e a.a a.b _ _ _ c.sub-d.ensures (c.sub.ensures ∙ ap (λ (v : Scalar). (arithmetic a.second).sub v a.a) c.lower.ensures) c.div-from.ensures.result c.in_default.is
+    let ar = arithmetic ty.R.Revision.second in
+    c.from_residual.ensures
+    ∙ along_first ar a.e a.a a.b _ _ _ c.sub-d.ensures (c.sub.ensures ∙ ap (λ (v : Scalar). ar.sub v a.a) c.lower.ensures) c.div.ensures.result c.in_err-s.was
 
-pub returns-in_default-upto : goal.returns-in_default-upto
-returns-in_default-upto c =
+pub returns-in_err-t : goal.returns-in_err-t
+returns-in_err-t ty c =
     let a = c.args in
-    along_second (arithmetic a.second) a.e a.a a.b _ _ _ c.sub-d.ensures (c.sub.ensures ∙ ap (λ (v : Scalar). (arithmetic a.second).sub v a.a) c.lower.ensures) c.div-from.ensures.result
-    _ c.in-Value.is _ _ (c.sub-2.ensures ∙ ap (λ (v : Scalar). (arithmetic a.second).sub v a.a) c.upper.ensures) c.div-upto.ensures.result c.in_default-upto.is
+    let ar = arithmetic ty.R.Revision.second in
+    c.from_residual-in_err-t.ensures
+    ∙ along_second ar a.e a.a a.b _ _ _ c.sub-d.ensures (c.sub.ensures ∙ ap (λ (v : Scalar). ar.sub v a.a) c.lower.ensures) c.div.ensures.result
+    _ c.in_ok-s.was _ _ (c.sub-2.ensures ∙ ap (λ (v : Scalar). ar.sub v a.a) c.upper.ensures) c.div-2.ensures.result c.in_err-t.was
 
 pub returns : goal.returns
-returns c =
+returns ty c =
     let a = c.args in
-    along-both (arithmetic a.second) a.e a.a a.b _ _ _ c.sub-d.ensures (c.sub.ensures ∙ ap (λ (v : Scalar). (arithmetic a.second).sub v a.a) c.lower.ensures) c.div-from.ensures.result
-    _ c.in-Value.is _ _ (c.sub-2.ensures ∙ ap (λ (v : Scalar). (arithmetic a.second).sub v a.a) c.upper.ensures) c.div-upto.ensures.result _ _ c.in-Value-upto.is c.union.ensures
+    let ar = arithmetic ty.R.Revision.second in
+    along-both ar a.e a.a a.b _ _ _ c.sub-d.ensures (c.sub.ensures ∙ ap (λ (v : Scalar). ar.sub v a.a) c.lower.ensures) c.div.ensures.result
+    _ c.in_ok-s.was _ _ (c.sub-2.ensures ∙ ap (λ (v : Scalar). ar.sub v a.a) c.upper.ensures) c.div-2.ensures.result _ _ c.in_ok-t.was c.union.ensures

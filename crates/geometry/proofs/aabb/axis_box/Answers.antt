@@ -1,22 +1,32 @@
--- `axis_box` equals its definition: in each revision what the function for it ensures.
-use mathlib.Core.Path.{sym, ap, ◌∙◌}
-use Rattle.math.specs.Scalars.{Arithmetic}
-use Rattle.math.proofs.Laws.{second_is, first_is}
-use Rattle.geometry.proofs.aabb.Box.{axis_at_lem}
+-- `axis_box` equals its definition. The invariant: closed, the bounds so far are the union of the first i places; the last divisor was made here.
+use Prim.Native.Nat.{suc}
+use native.Mathlib.Omega.{arith}
+use Rattle.math.specs.Revision.{arithmetic}
+use Rattle.model.specs.Layout.{point_at}
+use Rattle.geometry.proofs.aabb.Unions.{joined_first, joined_turn}
+use Rattle.geometry.proofs.aabb.Box.{place_at_lem, place_by, axis_done}
 use Rattle.geometry.proofs.aabb.axis_box.Goals as goal
 
-pub axis_box_tight-requires : goal.axis_box_tight-requires
-axis_box_tight-requires c = c.requires
-
-pub returns-then-second : goal.returns-then-second
-returns-then-second c =
+pub loop-i-init : goal.loop-i-init
+loop-i-init ty c =
+    let R = ty.R.Revision in
+    let ar = arithmetic R.second in
     let a = c.args in
-    c.axis_box_tight.ensures ∙ sym (ap (λ (ar : Arithmetic). axis_at_lem ar a.dim a.count a.points.now a.k) (second_is _ c.if-second.true))
+    let d = c.divisor-last.ensures in
+    let p = place_by R.Picked R.closed ar a.dim a.k (point_at (suc a.dim) a.points.now 0) _ _ c.divisor-last.result _ c.coordinate-2.ensures c.coordinate.ensures d.0 (c.bounds_over-all.ensures d.1) in
+    (omega arith, joined_first R.Picked R.closed (place_at_lem ar a.dim a.k a.points.now) _ p, d.1)
 
-pub axis_box_wide-requires : goal.axis_box_wide-requires
-axis_box_wide-requires c = c.requires
+pub loop-i-preserved : goal.loop-i-preserved
+loop-i-preserved ty c =
+    let R = ty.R.Revision in
+    let ar = arithmetic R.second in
+    let a = c.args in
+    let i = c.loop-i.i in
+    let d = c.divisor_of-last.ensures in
+    let p = place_by R.Picked R.closed ar a.dim a.k (point_at (suc a.dim) a.points.now i) _ _ c.divisor_of-last.result _ c.coordinate-in-loop-i-2.ensures c.coordinate-in-loop-i.ensures d.0 (c.bounds_over.ensures d.1) in
+    (omega arith, joined_turn R.Picked R.closed (place_at_lem ar a.dim a.k a.points.now) i _ _ _ c.loop-i.invariant.0 c.loop-i.invariant.1 p c.pick-all.ensures, d.1)
 
 pub returns : goal.returns
-returns c =
+returns ty c =
     let a = c.args in
-    c.axis_box_wide.ensures ∙ sym (ap (λ (ar : Arithmetic). axis_at_lem ar a.dim a.count a.points.now a.k) (first_is _ c.if-second.false))
+    axis_done (arithmetic ty.R.Revision.second) a.dim a.k a.count c.loop-i.i a.points.now _ _ (omega arith) c.loop-i.invariant.1.is c.close.ensures

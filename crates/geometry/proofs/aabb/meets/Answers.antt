@@ -9,35 +9,33 @@ use Rattle.model.specs.Layout.{scalars_of, point_at}
 use Rattle.model.specs.Aabb.{meets}
 use Rattle.geometry.proofs.aabb.Box.{segment_skip, segment_narrow, segment_stop, segment_end}
 use Rattle.geometry.proofs.aabb.meets.Goals as goal
-use Rattle.geometry.proofs.aabb.meets.Goals.{in-Over+else-not-could_be_equal, in_default}
+use Rattle.geometry.proofs.aabb.meets.Goals.{in-Some+else-not-could_be_equal, in_default}
 
 pub loop-k-init : goal.loop-k-init
 unfolding of_bits
-loop-k-init c =
+loop-k-init ty c =
     let a = c.args in
-    (omega arith, ap (λ (r : Scalar). meets (arithmetic a.second) a.dim (point_at (suc a.dim) a.points.now 0) (point_at (suc a.dim) a.points.now 1) r 0 (scalars_of a.dim a.point_box.now)) c.union-range.ensures)
+    ap (λ (r : Scalar). meets (arithmetic ty.R.Revision.second) a.dim (point_at (suc a.dim) a.points.now 0) (point_at (suc a.dim) a.points.now 1) r 0 (scalars_of a.dim a.point_box.now)) c.union-range.ensures
 
 pub returns-then-not-could_be_equal : goal.returns-then-not-could_be_equal
-returns-then-not-could_be_equal c =
+returns-then-not-could_be_equal ty c =
     let a = c.args in
-    segment_stop (arithmetic a.second) a.dim (point_at (suc a.dim) a.points.now 0) (point_at (suc a.dim) a.points.now 1) a.point_box.now c.loop-k.range c.loop-k.k _ c.loop-k.invariant.1 (omega arith)
-    _ _ _ c.scalar_at.ensures c.place-a.ensures c.place-b.ensures _ c.along-part.ensures _ c.in-Over.is _ c.could_be_equal.ensures c.if-not-could_be_equal.true
+    segment_stop (arithmetic ty.R.Revision.second) a.dim (point_at (suc a.dim) a.points.now 0) (point_at (suc a.dim) a.points.now 1) a.point_box.now c.loop-k.range c.loop-k.k _ c.loop-k.invariant (omega arith)
+    _ _ _ c.scalar_at.ensures c.place-a.ensures c.place-b.ensures _ c.along.ensures _ c.in-Some.is _ c.could_be_equal.ensures c.if-not-could_be_equal.true
 
 pub loop-k-preserved : goal.loop-k-preserved
-loop-k-preserved c =
-    let a = c.args in (
-      omega arith,
-      elim c.match-part.branch [
-        | in-Over+else-not-could_be_equal w ↦
-            segment_narrow (arithmetic a.second) a.dim (point_at (suc a.dim) a.points.now 0) (point_at (suc a.dim) a.points.now 1) a.point_box.now c.loop-k.range c.loop-k.k _ c.loop-k.invariant.1 (omega arith)
-            _ _ _ c.scalar_at.ensures c.place-a.ensures c.place-b.ensures _ c.along-part.ensures _ w.in-Over.is _ w.could_be_equal.ensures _ _ w.if-not-could_be_equal.false w.intersect-range.ensures w.range-is
+loop-k-preserved ty c =
+    let a = c.args in
+      elim c.match-along.branch [
+        | in-Some+else-not-could_be_equal w ↦
+            segment_narrow (arithmetic ty.R.Revision.second) a.dim (point_at (suc a.dim) a.points.now 0) (point_at (suc a.dim) a.points.now 1) a.point_box.now c.loop-k.range c.loop-k.k _ c.loop-k.invariant (omega arith)
+            _ _ _ c.scalar_at.ensures c.place-a.ensures c.place-b.ensures _ c.along.ensures _ w.in-Some.is _ w.could_be_equal.ensures _ _ w.if-not-could_be_equal.false w.intersect-range.ensures w.range-is
         | in_default w ↦
-            segment_skip (arithmetic a.second) a.dim (point_at (suc a.dim) a.points.now 0) (point_at (suc a.dim) a.points.now 1) a.point_box.now c.loop-k.range c.loop-k.k _ c.loop-k.invariant.1 (omega arith)
-            _ _ _ c.scalar_at.ensures c.place-a.ensures c.place-b.ensures _ c.along-part.ensures _ w.in_default.is w.range-is
-      ],
-    )
+            segment_skip (arithmetic ty.R.Revision.second) a.dim (point_at (suc a.dim) a.points.now 0) (point_at (suc a.dim) a.points.now 1) a.point_box.now c.loop-k.range c.loop-k.k _ c.loop-k.invariant (omega arith)
+            _ _ _ c.scalar_at.ensures c.place-a.ensures c.place-b.ensures _ c.along.ensures _ w.in_default.is w.range-is
+      ]
 
 pub returns : goal.returns
-returns c =
+returns ty c =
     let a = c.args in
-    segment_end (arithmetic a.second) a.dim (point_at (suc a.dim) a.points.now 0) (point_at (suc a.dim) a.points.now 1) a.point_box.now c.loop-k.range c.loop-k.k _ c.loop-k.invariant.1 (omega arith)
+    segment_end (arithmetic ty.R.Revision.second) a.dim (point_at (suc a.dim) a.points.now 0) (point_at (suc a.dim) a.points.now 1) a.point_box.now c.loop-k.range c.loop-k.k _ c.loop-k.invariant (omega arith)

@@ -1,6 +1,6 @@
 -- `meets` equals its definition. The invariant: what is left of the walk, from the range that is left, gives what the whole walk gives.
 use mathlib.Core.Path.{◌≡◌}
-use Prim.Native.Nat.{suc, ◌≤◌, ◌-◌}
+use Prim.Native.Nat.{suc}
 use lib.ListN.{drop}
 use Rattle.math.specs.Scalars.{ZERO, ONE, union_s}
 use Rattle.math.specs.Revision.{arithmetic}
@@ -9,10 +9,6 @@ use Rattle.model.specs.Aabb.{meets}
 use Rattle.geometry.proofs.aabb.meets.Given as goal
 
 abbrev pub invariant-loop-k : goal.invariant-loop-k
-invariant-loop-k l =
-    (l.k ≤ l.dim)
-    × (meets (arithmetic l.second) l.dim (point_at (suc l.dim) l.points 0) (point_at (suc l.dim) l.points 1) l.range l.k (drop l.k (scalars_of l.dim l.point_box))
-    ≡ meets (arithmetic l.second) l.dim (point_at (suc l.dim) l.points 0) (point_at (suc l.dim) l.points 1) (union_s ZERO ONE) 0 (scalars_of l.dim l.point_box))
-
-abbrev pub decreases-loop-k : goal.decreases-loop-k
-decreases-loop-k l = l.dim - l.k
+invariant-loop-k ty l =
+    meets (arithmetic ty.R.Revision.second) l.dim (point_at (suc l.dim) l.points 0) (point_at (suc l.dim) l.points 1) l.range l.k (drop l.k (scalars_of l.dim l.point_box))
+    ≡ meets (arithmetic ty.R.Revision.second) l.dim (point_at (suc l.dim) l.points 0) (point_at (suc l.dim) l.points 1) (union_s ZERO ONE) 0 (scalars_of l.dim l.point_box)

@@ -27,98 +27,98 @@ asks second s box resolution nodes work₀ work q b g waits more = ready (arithm
 
 -- ---- before the loop
 pub slot_words-w-requires : goal.slot_words-w-requires
-slot_words-w-requires c = let z = c.requires.begins.ring.sized in (z.dim, (z.degree, z.count))
+slot_words-w-requires ty c = let z = c.requires.begins.ring.sized in (z.dim, (z.degree, z.count))
 
 pub overflow_add-slots : goal.overflow_add-slots
-overflow_add-slots c = omega (arith, c.requires.begins.few)
+overflow_add-slots ty c = omega (arith, c.requires.begins.few)
 
 pub loop-q-init : goal.loop-q-init
-loop-q-init c =
+loop-q-init ty c =
     let g = c.args in
-    going_start (seeing g.second g.s g.point_box.now g.resolution g.nodes) (few g.second g.s g.point_box.now g.resolution g.nodes) g.nodes g.s g.work.now c.requires.begins.ring c.requires.begins.whole
+    going_start (seeing ty.R.Revision.second g.s g.point_box.now g.resolution g.nodes) (few ty.R.Revision.second g.s g.point_box.now g.resolution g.nodes) g.nodes g.s g.work.now c.requires.begins.ring c.requires.begins.whole
 
 -- ---- no visit is left
 pub shape_of-work-then-v-nodes : goal.shape_of-work-then-v-nodes
-shape_of-work-then-v-nodes c = c.loop-q.invariant.long
+shape_of-work-then-v-nodes ty c = c.loop-q.invariant.long
 
 pub returns-then-v-nodes : goal.returns-then-v-nodes
-returns-then-v-nodes c =
+returns-then-v-nodes ty c =
     let g = c.args in
     let l = c.loop-q in record {
-      found = going-spent (seeing g.second g.s g.point_box.now g.resolution g.nodes) (few g.second g.s g.point_box.now g.resolution g.nodes) g.nodes g.s g.work.now l.work l.q l.invariant (omega arith) (omega arith);
+      found = going-spent (seeing ty.R.Revision.second g.s g.point_box.now g.resolution g.nodes) (few ty.R.Revision.second g.s g.point_box.now g.resolution g.nodes) g.nodes g.s g.work.now l.work l.q l.invariant (omega arith) (omega arith);
       rest = l.invariant.rest;
     }
 
 -- ---- a visit
 pub next_depth-d-requires : goal.next_depth-d-requires
-next_depth-d-requires c =
+next_depth-d-requires ty c =
     let g = c.args in
     let l = c.loop-q in
     let waits : 0 < l.q.pending = omega (arith, c.loop-q-test.true) in
     let more : l.q.counts.visited < g.nodes = omega (arith, c.if-v-nodes.false, l.invariant.within) in
-    let a = asks g.second g.s g.point_box.now g.resolution g.nodes g.work.now l.work l.q c.requires.begins l.invariant waits more in
+    let a = asks ty.R.Revision.second g.s g.point_box.now g.resolution g.nodes g.work.now l.work l.q c.requires.begins l.invariant waits more in
     record { waits = (a.waits, c.slot_words-w.ensures); head_bound = a.deep }
 
 pub visit_next-o-requires : goal.visit_next-o-requires
-visit_next-o-requires c =
+visit_next-o-requires ty c =
     let g = c.args in
     let l = c.loop-q in
     let waits : 0 < l.q.pending = omega (arith, c.loop-q-test.true) in
     let more : l.q.counts.visited < g.nodes = omega (arith, c.if-v-nodes.false, l.invariant.within) in
-    let a = asks g.second g.s g.point_box.now g.resolution g.nodes g.work.now l.work l.q c.requires.begins l.invariant waits more in
+    let a = asks ty.R.Revision.second g.s g.point_box.now g.resolution g.nodes g.work.now l.work l.q c.requires.begins l.invariant waits more in
     record { ring = (l.invariant.ring, waits, a.room); slots_bound = (omega (arith, c.requires.begins.few), c.slot_words-w.ensures, omega (arith, c.next_depth-d.ensures, a.deep)); fit = (a.fit, c.requires.dim_in_bounds) }
 
 pub after_visit-q-requires : goal.after_visit-q-requires
-after_visit-q-requires c =
+after_visit-q-requires ty c =
     let g = c.args in
     let l = c.loop-q in
     let waits : 0 < l.q.pending = omega (arith, c.loop-q-test.true) in
     let more : l.q.counts.visited < g.nodes = omega (arith, c.if-v-nodes.false, l.invariant.within) in
-    let a = asks g.second g.s g.point_box.now g.resolution g.nodes g.work.now l.work l.q c.requires.begins l.invariant waits more in
+    let a = asks ty.R.Revision.second g.s g.point_box.now g.resolution g.nodes g.work.now l.work l.q c.requires.begins l.invariant waits more in
     let i = l.invariant in
     record {
       head_lt_slots = (i.ring.start, waits, omega (arith, a.room), omega (arith, c.requires.begins.few));
-      visited_bound = (omega (arith, i.within, c.requires.begins.few), omega (arith, a.cuts), cuts-few (arithmetic g.second) _ g.s _ _ _ _ _ _ _ c.visit_next-o.ensures);
+      visited_bound = (omega (arith, i.within, c.requires.begins.few), omega (arith, a.cuts), cuts-few (arithmetic ty.R.Revision.second) _ g.s _ _ _ _ _ _ _ c.visit_next-o.ensures);
     }
 
 pub has_bad_weight-requires : goal.has_bad_weight-requires
-has_bad_weight-requires c = tt
+has_bad_weight-requires ty c = tt
 
 pub shape_of-work-then-has_bad_weight : goal.shape_of-work-then-has_bad_weight
-shape_of-work-then-has_bad_weight c =
+shape_of-work-then-has_bad_weight ty c =
     c.visit_next-o.auto.work ∙ c.loop-q.invariant.long
 
 pub returns-then-has_bad_weight : goal.returns-then-has_bad_weight
-returns-then-has_bad_weight c =
+returns-then-has_bad_weight ty c =
     let g = c.args in
     let l = c.loop-q in
     let waits : 0 < l.q.pending = omega (arith, c.loop-q-test.true) in
     let more : l.q.counts.visited < g.nodes = omega (arith, c.if-v-nodes.false, l.invariant.within) in
-    let r = comes (arithmetic g.second) g.s g.point_box.now g.resolution g.nodes g.work.now c.requires.begins l.work l.q l.invariant waits more
+    let r = comes (arithmetic ty.R.Revision.second) g.s g.point_box.now g.resolution g.nodes g.work.now c.requires.begins l.work l.q l.invariant waits more
     _ _ _ _ c.visit_next-o.auto.work c.next_depth-d.ensures c.visit_next-o.ensures c.after_visit-q.ensures in
     record { found = r.bad (sym c.has_bad_weight.ensures ∙ c.if-has_bad_weight.true); rest = r.rest }
 
 pub loop-q-smaller : goal.loop-q-smaller
-loop-q-smaller c =
+loop-q-smaller ty c =
     omega (arith, ap (λ (v : Counts). v.visited) c.after_visit-q.ensures.counts, c.if-v-nodes.false, c.loop-q.invariant.within)
 
 pub loop-q-preserved : goal.loop-q-preserved
-loop-q-preserved c =
+loop-q-preserved ty c =
     let g = c.args in
     let l = c.loop-q in
     let waits : 0 < l.q.pending = omega (arith, c.loop-q-test.true) in
     let more : l.q.counts.visited < g.nodes = omega (arith, c.if-v-nodes.false, l.invariant.within) in
-    let r = comes (arithmetic g.second) g.s g.point_box.now g.resolution g.nodes g.work.now c.requires.begins l.work l.q l.invariant waits more
+    let r = comes (arithmetic ty.R.Revision.second) g.s g.point_box.now g.resolution g.nodes g.work.now c.requires.begins l.work l.q l.invariant waits more
     _ _ _ _ c.visit_next-o.auto.work c.next_depth-d.ensures c.visit_next-o.ensures c.after_visit-q.ensures in
     r.on (sym c.has_bad_weight.ensures ∙ c.if-has_bad_weight.false)
 
 pub shape_of-work : goal.shape_of-work
-shape_of-work c = c.loop-q.invariant.long
+shape_of-work ty c = c.loop-q.invariant.long
 
 pub returns : goal.returns
-returns c =
+returns ty c =
     let g = c.args in
     let l = c.loop-q in record {
-      found = going_none (seeing g.second g.s g.point_box.now g.resolution g.nodes) (few g.second g.s g.point_box.now g.resolution g.nodes) g.nodes g.s g.work.now l.work l.q l.invariant _ (omega arith) c.completed.ensures;
+      found = going_none (seeing ty.R.Revision.second g.s g.point_box.now g.resolution g.nodes) (few ty.R.Revision.second g.s g.point_box.now g.resolution g.nodes) g.nodes g.s g.work.now l.work l.q l.invariant _ (omega arith) c.completed.ensures;
       rest = l.invariant.rest;
     }

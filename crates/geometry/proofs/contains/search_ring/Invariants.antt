@@ -16,7 +16,7 @@ abbrev pub seeing : Bool → Shape → List Float → Float → ℕ → Piece �
 seeing second s box resolution nodes = visit (arithmetic second) (asked_of s box resolution nodes)
 
 abbrev pub invariant-loop-q : goal.invariant-loop-q
-invariant-loop-q l = Going (seeing l.second l.s l.point_box l.resolution l.nodes) l.nodes l.s l.initial.work l.work l.q
+invariant-loop-q ty l = Going (seeing ty.R.Revision.second l.s l.point_box l.resolution l.nodes) l.nodes l.s l.initial.work l.work l.q
 
 abbrev pub decreases-loop-q : goal.decreases-loop-q
-decreases-loop-q l = l.nodes - l.q.counts.visited
+decreases-loop-q ty l = l.nodes - l.q.counts.visited

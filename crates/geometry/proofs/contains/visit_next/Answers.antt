@@ -11,45 +11,45 @@ use Rattle.geometry.proofs.contains.visit_next.Goals as goal
 -- ---- the three slots are those of the ring
 
 pub slot_base-a-requires : goal.slot_base-a-requires
-slot_base-a-requires c =
+slot_base-a-requires ty c =
     let a = c.args in
     omega (arith, slot_in a.s a.work.now a.slots a.q.head a.q.pending a.w c.requires.ring.0 c.requires.ring.1 c.requires.ring.2 c.requires.slots_bound.1 a.q.pending _ (omega (arith, c.requires.ring.2)) c.wrap.ensures)
 
 pub slot_base-b-requires : goal.slot_base-b-requires
-slot_base-b-requires c =
+slot_base-b-requires ty c =
     let a = c.args in
     omega (arith, slot_in a.s a.work.now a.slots a.q.head a.q.pending a.w c.requires.ring.0 c.requires.ring.1 c.requires.ring.2 c.requires.slots_bound.1 (a.q.pending + 1) _ (omega (arith, c.requires.ring.2)) c.wrap-2.ensures)
 
 pub slot_base-requires : goal.slot_base-requires
-slot_base-requires c = let a = c.args in omega (arith, head_in a.s a.work.now a.slots a.q.head a.q.pending a.w c.requires.ring.0 c.requires.ring.1 c.requires.ring.2 c.requires.slots_bound.1)
+slot_base-requires ty c = let a = c.args in omega (arith, head_in a.s a.work.now a.slots a.q.head a.q.pending a.w c.requires.ring.0 c.requires.ring.1 c.requires.ring.2 c.requires.slots_bound.1)
 
 pub visit-o-requires : goal.visit-o-requires
-visit-o-requires c =
+visit-o-requires ty c =
     let a = c.args in
     let first_slot = slot_is a.s a.work.now a.slots a.q.head a.q.pending a.w c.requires.ring.0 c.requires.ring.1 c.requires.ring.2 c.requires.slots_bound.1 a.q.pending _ _ c.wrap.ensures c.slot_base-a.ensures in
     let second-slot = slot_is a.s a.work.now a.slots a.q.head a.q.pending a.w c.requires.ring.0 c.requires.ring.1 c.requires.ring.2 c.requires.slots_bound.1 (a.q.pending + 1) _ _ c.wrap-2.ensures c.slot_base-b.ensures in
     let head-slot = base_is a.s a.w c.requires.slots_bound.1 a.q.head _ c.slot_base.ensures in
     let r = turn_asks a.s a.work.now a.slots a.q.head a.q.pending a.w c.requires.ring.0 c.requires.ring.1 c.requires.ring.2 c.requires.slots_bound.1 _ _ _
-    head-slot first_slot second-slot (arithmetic a.second) _ c.requires.fit.0 c.requires.fit.1 in
+    head-slot first_slot second-slot (arithmetic ty.R.Revision.second) _ c.requires.fit.0 c.requires.fit.1 in
     record { held = r.0; inside = r.1 }
 
 -- ---- what it hands on gets its depth
 
 pub set_depths-requires : goal.set_depths-requires
-set_depths-requires c =
+set_depths-requires ty c =
     let a = c.args in
     let first_slot = slot_is a.s a.work.now a.slots a.q.head a.q.pending a.w c.requires.ring.0 c.requires.ring.1 c.requires.ring.2 c.requires.slots_bound.1 a.q.pending _ _ c.wrap.ensures c.slot_base-a.ensures in
     let second-slot = slot_is a.s a.work.now a.slots a.q.head a.q.pending a.w c.requires.ring.0 c.requires.ring.1 c.requires.ring.2 c.requires.slots_bound.1 (a.q.pending + 1) _ _ c.wrap-2.ensures c.slot_base-b.ensures in
     let head-slot = base_is a.s a.w c.requires.slots_bound.1 a.q.head _ c.slot_base.ensures in
     let in_both = turn_inside a.s a.work.now a.slots a.q.head a.q.pending a.w c.requires.ring.0 c.requires.ring.1 c.requires.ring.2 c.requires.slots_bound.1 _ _ _
-    head-slot first_slot second-slot (visit (arithmetic a.second) (asked_of a.s a.point_box.now a.resolution 0)) _ _ c.visit-o.ensures in
+    head-slot first_slot second-slot (visit (arithmetic ty.R.Revision.second) (asked_of a.s a.point_box.now a.resolution 0)) _ _ c.visit-o.ensures in
     (in_both.0, in_both.1, c.requires.slots_bound.1, c.requires.slots_bound.2)
 
 pub returns : goal.returns
-returns c =
+returns ty c =
     let a = c.args in
     let first_slot = slot_is a.s a.work.now a.slots a.q.head a.q.pending a.w c.requires.ring.0 c.requires.ring.1 c.requires.ring.2 c.requires.slots_bound.1 a.q.pending _ _ c.wrap.ensures c.slot_base-a.ensures in
     let second-slot = slot_is a.s a.work.now a.slots a.q.head a.q.pending a.w c.requires.ring.0 c.requires.ring.1 c.requires.ring.2 c.requires.slots_bound.1 (a.q.pending + 1) _ _ c.wrap-2.ensures c.slot_base-b.ensures in
     let head-slot = base_is a.s a.w c.requires.slots_bound.1 a.q.head _ c.slot_base.ensures in
     turn_gives a.s a.work.now a.slots a.q.head a.q.pending a.w c.requires.ring.0 c.requires.ring.1 c.requires.ring.2 c.requires.slots_bound.1 _ _ _
-    head-slot first_slot second-slot (visit (arithmetic a.second) (asked_of a.s a.point_box.now a.resolution 0)) _ _ c.visit-o.ensures a.d _ c.set_depths.ensures
+    head-slot first_slot second-slot (visit (arithmetic ty.R.Revision.second) (asked_of a.s a.point_box.now a.resolution 0)) _ _ c.visit-o.ensures a.d _ c.set_depths.ensures

@@ -8,14 +8,14 @@ use Rattle.geometry.proofs.fat_line.box_width.Goals as goal
 
 pub loop-k-init : goal.loop-k-init
 unfolding of_bits foldl
-loop-k-init c = (omega arith, refl)
+loop-k-init c = refl
 
 pub loop-k-preserved : goal.loop-k-preserved
 loop-k-preserved c =
     let a = c.args in
-    (omega arith, widest_turn a.point_box.now c.loop-k.k _ _ _ _ _ c.loop-k.invariant.1 c.scalar_at.ensures c.width.ensures c.to_f64.ensures c.max-best.ensures)
+    widest_turn a.point_box.now c.loop-k.k _ _ _ _ _ c.loop-k.invariant c.scalar_at.ensures c.width.ensures c.to_f64.ensures c.max-best.ensures
 
 pub returns : goal.returns
 returns c =
     let a = c.args in
-    widest_end a.point_box.now a.dim c.loop-k.k _ (omega arith) c.loop-k.invariant.1
+    widest_end a.point_box.now a.dim c.loop-k.k _ (omega arith) c.loop-k.invariant

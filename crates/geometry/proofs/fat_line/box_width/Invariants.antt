@@ -1,11 +1,7 @@
 -- `box_width` equals its definition. The invariant: the widest of the first k intervals.
 use mathlib.Core.Path.{◌≡◌}
-use Prim.Native.Nat.{◌≤◌, ◌-◌}
 use Rattle.geometry.proofs.fat_line.Sizes.{widest_of}
 use Rattle.geometry.proofs.fat_line.box_width.Given as goal
 
 abbrev pub invariant-loop-k : goal.invariant-loop-k
-invariant-loop-k l = (l.k ≤ l.dim) × (l.best ≡ widest_of l.point_box l.k)
-
-abbrev pub decreases-loop-k : goal.decreases-loop-k
-decreases-loop-k l = l.dim - l.k
+invariant-loop-k l = l.best ≡ widest_of l.point_box l.k

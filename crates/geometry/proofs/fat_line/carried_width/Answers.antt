@@ -1,28 +1,21 @@
 -- `carried_width` equals its definition. The invariant: the widest of the first i points.
 use mathlib.Core.Path.{refl}
 use native.Mathlib.Omega.{arith}
-use lib.ListN.{length}
 use lib.Ieee.{of_bits}
 use Rattle.lists.specs.Lists.{foldl}
-use Rattle.geometry.proofs.nurb_curve.Points.{point_in}
 use Rattle.geometry.proofs.fat_line.Sizes.{carried_turn, carried_end}
 use Rattle.geometry.proofs.fat_line.carried_width.Goals as goal
 
 pub loop-i-init : goal.loop-i-init
 unfolding of_bits foldl
-loop-i-init c = (omega arith, refl)
-
-pub carried_by-best-requires : goal.carried_by-best-requires
-carried_by-best-requires c =
-    let a = c.args in
-    omega (arith, point_in a.dim c.loop-i.i a.count (length a.points.now) (omega arith) (omega arith))
+loop-i-init c = refl
 
 pub loop-i-preserved : goal.loop-i-preserved
 loop-i-preserved c =
     let a = c.args in
-    (omega arith, carried_turn a.dim a.points.now c.loop-i.i _ _ c.loop-i.invariant.1 c.carried_by-best.ensures)
+    carried_turn a.dim a.points.now c.loop-i.i _ _ c.loop-i.invariant c.carried_by-best.ensures
 
 pub returns : goal.returns
 returns c =
     let a = c.args in
-    carried_end a.dim a.count a.points.now c.loop-i.i _ (omega arith) c.loop-i.invariant.1
+    carried_end a.dim a.count a.points.now c.loop-i.i _ (omega arith) c.loop-i.invariant

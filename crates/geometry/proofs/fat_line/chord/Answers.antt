@@ -5,6 +5,6 @@ use Rattle.math.specs.declared.scalars.Scalar.{Scalar}
 use Rattle.geometry.proofs.fat_line.chord.Goals as goal
 
 pub returns : goal.returns
-returns c =
+returns ty c =
     let a = c.args in
-    c.add.ensures ∙ ap (λ (v : Scalar). (arithmetic a.second).add a.y0 v) c.times.ensures
+    c.add.ensures ∙ ap (λ (v : Scalar). (arithmetic ty.R.Revision.second).add a.y0 v) c.times.ensures

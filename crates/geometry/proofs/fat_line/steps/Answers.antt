@@ -1,46 +1,34 @@
 -- `steps` equals its definition. The invariant: what the steps from point i on make of both numbers is what all steps make.
 use mathlib.Core.Path.{refl}
 use native.Mathlib.Omega.{arith}
-use lib.ListN.{length}
 use lib.Ieee.{binary64, add, of_bits}
 use Rattle.math.specs.Picks.{max_f}
 use Rattle.math.specs.Scalars.{zero_f}
 use Rattle.geometry.specs.Sizes.{position_of}
-use Rattle.geometry.proofs.nurb_curve.Points.{point_in}
 use Rattle.geometry.proofs.fat_line.Sizes.{places, steps-start, steps_turn, steps_done}
 use Rattle.geometry.proofs.fat_line.steps.Goals as goal
-
-pub cartesian-at-requires : goal.cartesian-at-requires
-cartesian-at-requires c = let a = c.args in omega (arith, point_in a.dim 0 a.count (length a.points.now) (omega arith) (omega arith))
 
 pub loop-i-init : goal.loop-i-init
 unfolding of_bits
 loop-i-init c =
     let a = c.args in (
       omega arith,
-      omega arith,
       steps-start (λ s x. add binary64 s x) a.count (places a.dim a.points.now) (position_of a.dim c.cartesian-at.result) zero_f (omega arith) c.cartesian-at.ensures,
       steps-start max_f a.count (places a.dim a.points.now) (position_of a.dim c.cartesian-at.result) zero_f (omega arith) c.cartesian-at.ensures,
     )
-
-pub cartesian-next-requires : goal.cartesian-next-requires
-cartesian-next-requires c =
-    let a = c.args in
-    omega (arith, point_in a.dim c.loop-i.i a.count (length a.points.now) (omega arith) (omega arith))
 
 pub loop-i-preserved : goal.loop-i-preserved
 loop-i-preserved c =
     let a = c.args in (
       omega arith,
-      omega arith,
       steps_turn (λ s x. add binary64 s x) a.count (places a.dim a.points.now) c.loop-i.total _ _ (position_of a.dim c.loop-i.at) (position_of a.dim c.cartesian-next.result) c.loop-i.i _
-          (omega arith) c.cartesian-next.ensures c.squared-s.ensures refl c.loop-i.invariant.2,
+          (omega arith) c.cartesian-next.ensures c.squared-s.ensures refl c.loop-i.invariant.1,
       steps_turn max_f a.count (places a.dim a.points.now) c.loop-i.top _ _ (position_of a.dim c.loop-i.at) (position_of a.dim c.cartesian-next.result) c.loop-i.i _
-          (omega arith) c.cartesian-next.ensures c.squared-s.ensures c.max-top.ensures c.loop-i.invariant.3,
+          (omega arith) c.cartesian-next.ensures c.squared-s.ensures c.max-top.ensures c.loop-i.invariant.2,
     )
 
 pub returns : goal.returns
 unfolding of_bits
 returns c =
     let a = c.args in
-    steps_done a.dim a.count a.points.now c.loop-i.total c.loop-i.top (position_of a.dim c.loop-i.at) c.loop-i.i (omega arith) c.loop-i.invariant.2 c.loop-i.invariant.3
+    steps_done a.dim a.count a.points.now c.loop-i.total c.loop-i.top (position_of a.dim c.loop-i.at) c.loop-i.i (omega arith) c.loop-i.invariant.1 c.loop-i.invariant.2

@@ -1,6 +1,6 @@
 -- `steps` equals its definition. The invariant: what the steps from point i on make of both numbers is what all steps make.
 use mathlib.Core.Path.{◌≡◌}
-use Prim.Native.Nat.{◌≤◌, ◌-◌}
+use Prim.Native.Nat.{◌≤◌}
 use lib.Ieee.{binary64, add}
 use Rattle.lists.specs.Lists.{tab, foldl}
 use Rattle.math.specs.Picks.{max_f}
@@ -11,9 +11,6 @@ use Rattle.geometry.proofs.fat_line.steps.Given as goal
 
 abbrev pub invariant-loop-i : goal.invariant-loop-i
 invariant-loop-i l =
-    (1 ≤ l.i) × (l.i ≤ l.count)
+    (1 ≤ l.i)
     × (steps_from (λ s x. add binary64 s x) (tab l.count (places l.dim l.points)) l.total (position_of l.dim l.at) l.i ≡ foldl (λ s x. add binary64 s x) zero_f (squares (tab l.count (places l.dim l.points))))
     × (steps_from max_f (tab l.count (places l.dim l.points)) l.top (position_of l.dim l.at) l.i ≡ foldl max_f zero_f (squares (tab l.count (places l.dim l.points))))
-
-abbrev pub decreases-loop-i : goal.decreases-loop-i
-decreases-loop-i l = l.count - l.i

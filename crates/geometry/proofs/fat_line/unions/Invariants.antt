@@ -1,12 +1,11 @@
 -- `unions` equals its definition: each turn takes in one more interval.
 use mathlib.Core.Path.{◌≡◌}
-use Prim.Native.Nat.{◌-◌, ◌≤◌, ◌<◌}
-use Rattle.model.specs.Layout.{scalars_of}
+use Prim.Native.Nat.{◌≤◌}
+use lib.ListN.{get_or}
+use Rattle.lists.specs.Lists.{tab}
+use Rattle.math.specs.Scalars.{absent}
 use Rattle.model.specs.Aabb.{unions}
 use Rattle.geometry.proofs.fat_line.unions.Given as goal
 
 abbrev pub invariant-loop-i : goal.invariant-loop-i
-invariant-loop-i l = (0 < l.i) × ((l.i ≤ l.count) × (l.all ≡ unions (scalars_of l.i l.l)))
-
-abbrev pub decreases-loop-i : goal.decreases-loop-i
-decreases-loop-i l = l.count - l.i
+invariant-loop-i l = (1 ≤ l.i) × (l.all ≡ unions (tab l.i (λ j. get_or l.l j absent)))

@@ -1,5 +1,5 @@
--- `all_are` equals its definition. Invariant: the answer is that of the knots from i on.
-use mathlib.Core.Path.{refl, sym, ap, ◌∙◌}
+-- `all_are` equals its definition. Invariant: the answer is that of the knots that are left.
+use mathlib.Core.Path.{sym, ap, ◌∙◌}
 use mathlib.Core.Bool.{not}
 use lib.Ieee.{eq}
 use Rattle.lists.proofs.Fold.{all_done}
@@ -7,23 +7,17 @@ use Rattle.geometry.proofs.knot_insertion.Spans.{all_on, all_off}
 use native.Mathlib.Omega.{arith}
 use Rattle.geometry.proofs.knot_insertion.all_are.Goals as goal
 
-pub loop-i-init : goal.loop-i-init
-loop-i-init c = (omega arith, refl)
+pub returns-then-not-u-v : goal.returns-then-not-u-v
+returns-then-not-u-v c =
+    let l = c.loop-u in
+    all_off c.args.knots.now c.args.v l.u-index (omega arith) (ap not c.if-not-u-v.true) ∙ l.invariant
 
-pub returns-then-not-knots-i : goal.returns-then-not-knots-i
-returns-then-not-knots-i c =
-    let l = c.loop-i in
-    let g = c.args in
-    all_off g.knots.now g.v l.i (omega arith) (ap not c.if-not-knots-i.true) ∙ l.invariant.1
-
-pub loop-i-preserved : goal.loop-i-preserved
-loop-i-preserved c =
-    let l = c.loop-i in
-    let g = c.args in
-    (omega arith, all_on g.knots.now g.v l.i (omega arith) (ap not c.if-not-knots-i.false) ∙ l.invariant.1)
+pub loop-u-preserved : goal.loop-u-preserved
+loop-u-preserved c =
+    let l = c.loop-u in
+    all_on c.args.knots.now c.args.v l.u-index (omega arith) (ap not c.if-not-u-v.false) ∙ l.invariant
 
 pub returns : goal.returns
 returns c =
-    let l = c.loop-i in
-    let g = c.args in
-    sym (all_done (λ u. eq u g.v) g.knots.now l.i (omega arith)) ∙ l.invariant.1
+    let l = c.loop-u in
+    sym (all_done (λ u. eq u c.args.v) c.args.knots.now l.u-index (omega arith)) ∙ l.invariant

@@ -9,30 +9,26 @@ use native.Mathlib.Omega.{arith}
 use Rattle.geometry.proofs.knot_insertion.blend_points.Goals as goal
 
 pub loop-i-init : goal.loop-i-init
-loop-i-init c =
+loop-i-init ty c =
     let g = c.args in
-    (omega arith, omega arith, refl, makes_none g.s g.base (λ l j. blend_at (arithmetic g.second) g.s l g.base g.n g.t j) (blend-made (arithmetic g.second) g.s g.base g.n g.t c.requires.3) g.work.now g.k)
+    (omega arith, refl, makes_none g.s g.base (λ l j. blend_at (arithmetic ty.R.Revision.second) g.s l g.base g.n g.t j) (blend-made (arithmetic ty.R.Revision.second) g.s g.base g.n g.t c.requires.3) g.work.now g.k)
 
 pub blend_point-requires : goal.blend_point-requires
-blend_point-requires c =
-    (inside_of c.args.s c.args.work.now c.loop-i.work c.args.base c.loop-i.invariant.2 c.requires.0, omega arith, omega arith)
+blend_point-requires ty c =
+    (inside_of c.args.s c.args.work.now c.loop-i.work c.args.base c.loop-i.invariant.1 c.requires.0, omega arith, omega arith)
 
 pub loop-i-preserved : goal.loop-i-preserved
-loop-i-preserved c =
+loop-i-preserved ty c =
     let l = c.loop-i in
     let g = c.args in (
       omega arith,
-      omega arith,
-      c.blend_point.auto.work ∙ l.invariant.2,
-      makes_turn g.s g.base (λ l j. blend_at (arithmetic g.second) g.s l g.base g.n g.t j) (blend-made (arithmetic g.second) g.s g.base g.n g.t c.requires.3) g.work.now g.k l.i l.work _ (omega arith) (omega arith)
-          (place-within g.s g.work.now g.base (suc g.k) c.requires.0 (omega arith)) l.invariant.3 c.blend_point.ensures,
+      c.blend_point.auto.work ∙ l.invariant.1,
+      makes_turn g.s g.base (λ l j. blend_at (arithmetic ty.R.Revision.second) g.s l g.base g.n g.t j) (blend-made (arithmetic ty.R.Revision.second) g.s g.base g.n g.t c.requires.3) g.work.now g.k l.i l.work _ (omega arith) (omega arith)
+          (place-within g.s g.work.now g.base (suc g.k) c.requires.0 (omega arith)) l.invariant.2 c.blend_point.ensures,
     )
 
-pub shape_of-work : goal.shape_of-work
-shape_of-work c = c.loop-i.invariant.2
-
 pub returns : goal.returns
-returns c =
+returns ty c =
     let l = c.loop-i in
     let g = c.args in
-    l.invariant.3 ∙ makes_done g.s g.base (λ l j. blend_at (arithmetic g.second) g.s l g.base g.n g.t j) (blend-made (arithmetic g.second) g.s g.base g.n g.t c.requires.3) g.work.now g.k g.s.degree l.i (omega arith) (omega arith)
+    l.invariant.2 ∙ makes_done g.s g.base (λ l j. blend_at (arithmetic ty.R.Revision.second) g.s l g.base g.n g.t j) (blend-made (arithmetic ty.R.Revision.second) g.s g.base g.n g.t c.requires.3) g.work.now g.k g.s.degree l.i (omega arith) (omega arith)

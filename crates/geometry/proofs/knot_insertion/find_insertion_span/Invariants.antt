@@ -5,7 +5,4 @@ use Rattle.model.specs.KnotInsertion.{highest, insertion_span}
 use Rattle.geometry.proofs.knot_insertion.find_insertion_span.Given as goal
 
 abbrev pub invariant-loop-i : goal.invariant-loop-i
-invariant-loop-i l = (l.degree ≤ l.i) × (l.i ≤ l.count) × (highest l.knots l.t l.degree (l.i - l.degree) ≡ insertion_span l.degree l.count l.knots l.t)
-
-abbrev pub decreases-loop-i : goal.decreases-loop-i
-decreases-loop-i l = l.i
+invariant-loop-i l = (l.degree ≤ l.i) × (highest l.knots l.t l.degree (l.i - l.degree) ≡ insertion_span l.degree l.count l.knots l.t)

@@ -4,26 +4,23 @@ use Rattle.geometry.proofs.knot_insertion.Times.{after_none, after_turn, after_a
 use native.Mathlib.Omega.{arith}
 use Rattle.geometry.proofs.knot_insertion.insert_times.Goals as goal
 
-pub loop-i-init : goal.loop-i-init
-loop-i-init c = after_none (arithmetic c.args.second) c.args.s c.args.work.now c.args.base c.args.t c.args.times c.requires.0
+pub loop-init : goal.loop-init
+loop-init ty c = after_none (arithmetic ty.R.Revision.second) c.args.s c.args.work.now c.args.base c.args.t c.args.times c.requires.0
 
 pub span_in-k-requires : goal.span_in-k-requires
-span_in-k-requires c = (c.loop-i.invariant.held, omega (arith, c.loop-i.invariant.count, c.requires.1))
+span_in-k-requires ty c = (c.loop.invariant.held, omega (arith, c.loop.invariant.count, c.requires.1))
 
 pub insert_once-requires : goal.insert_once-requires
-insert_once-requires c =
-    let a = c.loop-i.invariant in
-    let b = span_in_bounds c.args.s c.loop-i.work c.args.base _ c.args.t a.held (omega (arith, a.count, c.requires.1)) c.span_in-k.ensures in
+insert_once-requires ty c =
+    let a = c.loop.invariant in
+    let b = span_in_bounds c.args.s c.loop.work c.args.base _ c.args.t a.held (omega (arith, a.count, c.requires.1)) c.span_in-k.ensures in
     (a.held, b.0, b.1, omega (arith, a.count, c.requires.2))
 
-pub loop-i-preserved : goal.loop-i-preserved
-loop-i-preserved c =
-    after_turn (arithmetic c.args.second) c.args.s c.args.work.now c.args.base c.args.t c.args.times c.loop-i.i c.span_in-k.result c.loop-i.work _ c.requires.0 c.loop-i.invariant c.loop-i-test.true c.requires.1 c.requires.2 c.span_in-k.ensures c.insert_once.ensures
-
-pub shape_of-work : goal.shape_of-work
-shape_of-work c = c.loop-i.invariant.long
+pub loop-preserved : goal.loop-preserved
+loop-preserved ty c =
+    after_turn (arithmetic ty.R.Revision.second) c.args.s c.args.work.now c.args.base c.args.t c.args.times c.loop.counter c.span_in-k.result c.loop.work _ c.requires.0 c.loop.invariant c.loop-test.true c.requires.1 c.requires.2 c.span_in-k.ensures c.insert_once.ensures
 
 pub returns : goal.returns
-returns c =
+returns ty c =
     let k = c.args in
-    after_all (arithmetic k.second) k.s k.work.now k.base k.t k.times c.loop-i.i c.loop-i.work c.loop-i.invariant (omega (arith, c.loop-i.invariant.within))
+    after_all (arithmetic ty.R.Revision.second) k.s k.work.now k.base k.t k.times c.loop.counter c.loop.work c.loop.invariant (omega (arith, c.loop.invariant.within))

@@ -1,32 +1,31 @@
--- `multiplicity_of` equals its definition. Invariant: n is how often t occurs from knot i on.
-use mathlib.Core.Path.{◌≡◌, sym, ap, ◌∙◌}
-use Prim.Native.Nat.{ℕ}
-use lib.Ieee.{eq}
-use lib.ListN.{length, drop}
+-- `multiplicity_of` equals its definition. Invariant: with how often t is among the knots that are left, n is how often it is among all.
+use mathlib.Core.Path.{◌≡◌, refl, ◌∙◌}
+use mir.Val.{bool_byte}
+use mathlib.Core.Bool.{Bool, true, false, cond}
+use Prim.Native.Nat.{ℕ, ◌≤◌}
+use native.Mathlib.Nat.{zero-add}
+use lib.Ieee.{nan, eq}
+use lib.ListN.{get_or}
 use Rattle.lists.specs.Lists.{count}
-use Rattle.lists.proofs.Fold.{count_done}
-use Rattle.geometry.proofs.knot_insertion.Spans.{count_one, count_same}
+use Rattle.lists.proofs.Fold.{count_turn, count_done}
 use native.Mathlib.Omega.{arith}
 use Rattle.geometry.proofs.knot_insertion.multiplicity_of.Goals as goal
 
-pub loop-i-init : goal.loop-i-init
-loop-i-init c = (omega arith, omega arith, sym (count_done (λ u. eq u c.args.t) c.args.knots.now (length c.args.knots.now) (omega arith)))
+pub loop-u-init : goal.loop-u-init
+loop-u-init c = (omega arith, zero-add (count (λ u. eq u c.args.t) c.args.knots.now))
 
-pub loop-i-preserved-then-knots-i : goal.loop-i-preserved-then-knots-i
-loop-i-preserved-then-knots-i c =
-    let l = c.loop-i in
-    let g = c.args in
-    (omega arith, omega arith, count_one g.knots.now g.t l.i l.n (omega arith) (omega arith) c.if-knots-i.true l.invariant.2)
+-- a test as a number
+as_number : (b : Bool) → (bool_byte b ≡ cond {A = ℕ} b 1 0) × (bool_byte b ≤ 1)
+as_number true = (refl, omega arith)
+as_number false = (refl, omega arith)
 
-pub loop-i-preserved : goal.loop-i-preserved
-loop-i-preserved c =
-    let l = c.loop-i in
-    let g = c.args in
-    (omega arith, omega arith, count_same g.knots.now g.t l.i l.n (omega arith) (omega arith) c.if-knots-i.false l.invariant.2)
+pub loop-u-preserved : goal.loop-u-preserved
+loop-u-preserved c =
+    let l = c.loop-u in
+    let is = as_number (eq (get_or c.args.knots.now l.u-index nan) c.args.t) in
+    (omega (arith, c.from-n.ensures, is.1), omega (arith, c.from-n.ensures ∙ is.0, count_turn (λ u. eq u c.args.t) c.args.knots.now l.u-index nan (omega arith), l.invariant.1))
 
 pub returns : goal.returns
 returns c =
-    let l = c.loop-i in
-    let g = c.args in
-    let e : l.i ≡ 0 = omega arith in
-    l.invariant.2 ∙ ap (λ (i : ℕ). count (λ u. eq u g.t) (drop i g.knots.now)) e
+    let l = c.loop-u in
+    omega (arith, count_done (λ u. eq u c.args.t) c.args.knots.now l.u-index (omega arith), l.invariant.1)

@@ -9,31 +9,27 @@ use native.Mathlib.Omega.{arith}
 use Rattle.geometry.proofs.knot_insertion.next_row.Goals as goal
 
 pub loop-i-init : goal.loop-i-init
-loop-i-init c =
+loop-i-init ty c =
     let g = c.args in
-    (omega arith, omega arith, refl, makes_none g.s g.base (λ l j. between_at (arithmetic g.second) g.s l g.base g.alpha j) (between-made (arithmetic g.second) g.s g.base g.alpha) g.work.now g.s.degree)
+    (omega arith, refl, makes_none g.s g.base (λ l j. between_at (arithmetic ty.R.Revision.second) g.s l g.base g.alpha j) (between-made (arithmetic ty.R.Revision.second) g.s g.base g.alpha) g.work.now g.s.degree)
 
 pub between_point-requires : goal.between_point-requires
-between_point-requires c =
-    (inside_of c.args.s c.args.work.now c.loop-i.work c.args.base c.loop-i.invariant.2 c.requires.0, omega arith)
+between_point-requires ty c =
+    (inside_of c.args.s c.args.work.now c.loop-i.work c.args.base c.loop-i.invariant.1 c.requires.0, omega arith)
 
 pub loop-i-preserved : goal.loop-i-preserved
-loop-i-preserved c =
+loop-i-preserved ty c =
     let l = c.loop-i in
     let g = c.args in (
       omega arith,
-      omega arith,
-      c.between_point.auto.work ∙ l.invariant.2,
-      makes_turn g.s g.base (λ l j. between_at (arithmetic g.second) g.s l g.base g.alpha j) (between-made (arithmetic g.second) g.s g.base g.alpha) g.work.now g.s.degree l.i l.work _ (omega arith) (omega arith)
-          (place-within g.s g.work.now g.base (suc g.s.degree) c.requires.0 (omega arith)) l.invariant.3 c.between_point.ensures,
+      c.between_point.auto.work ∙ l.invariant.1,
+      makes_turn g.s g.base (λ l j. between_at (arithmetic ty.R.Revision.second) g.s l g.base g.alpha j) (between-made (arithmetic ty.R.Revision.second) g.s g.base g.alpha) g.work.now g.s.degree l.i l.work _ (omega arith) (omega arith)
+          (place-within g.s g.work.now g.base (suc g.s.degree) c.requires.0 (omega arith)) l.invariant.2 c.between_point.ensures,
     )
 
-pub shape_of-work : goal.shape_of-work
-shape_of-work c = c.loop-i.invariant.2
-
 pub returns : goal.returns
-returns c =
+returns ty c =
     let l = c.loop-i in
     let g = c.args in
     let e : l.i ≡ g.r = omega arith in
-    rw e at l.invariant.3
+    rw e at l.invariant.2

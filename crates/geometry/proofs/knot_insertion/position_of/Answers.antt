@@ -7,22 +7,22 @@ use native.Mathlib.Omega.{arith}
 use Rattle.geometry.proofs.knot_insertion.position_of.Goals as goal
 
 pub loop-i-init : goal.loop-i-init
-loop-i-init c = (omega arith, zero-add (position (λ u. eq u c.args.t) c.args.knots.now))
+loop-i-init c = zero-add (position (λ u. eq u c.args.t) c.args.knots.now)
 
 pub returns-then-knots-i : goal.returns-then-knots-i
 returns-then-knots-i c =
     let l = c.loop-i in
     let g = c.args in
-    omega (arith, position-found (λ u. eq u g.t) g.knots.now l.i nan (omega arith) c.if-knots-i.true, l.invariant.1)
+    omega (arith, position-found (λ u. eq u g.t) g.knots.now l.i nan (omega arith) c.if-knots-i.true, l.invariant)
 
 pub loop-i-preserved : goal.loop-i-preserved
 loop-i-preserved c =
     let l = c.loop-i in
     let g = c.args in
-    (omega arith, omega (arith, position_turn (λ u. eq u g.t) g.knots.now l.i nan (omega arith) c.if-knots-i.false, l.invariant.1))
+    omega (arith, position_turn (λ u. eq u g.t) g.knots.now l.i nan (omega arith) c.if-knots-i.false, l.invariant)
 
 pub returns : goal.returns
 returns c =
     let l = c.loop-i in
     let g = c.args in
-    omega (arith, position_done (λ u. eq u g.t) g.knots.now l.i (omega arith), l.invariant.1)
+    omega (arith, position_done (λ u. eq u g.t) g.knots.now l.i (omega arith), l.invariant)

@@ -6,25 +6,25 @@ use Rattle.geometry.proofs.split.Splits.{whole-count, cut-held, cut-upto, from_k
 use Rattle.geometry.proofs.split.cut_from.Goals as goal
 
 pub returns-then-not-is_inside : goal.returns-then-not-is_inside
-returns-then-not-is_inside c =
-    let g = c.args in from_none (arithmetic g.second) g.s g.work.now g.base g.t (sym c.is_inside.ensures ∙ c.if-not-is_inside.true)
+returns-then-not-is_inside ty c =
+    let g = c.args in from_none (arithmetic ty.R.Revision.second) g.s g.work.now g.base g.t (sym c.is_inside.ensures ∙ c.if-not-is_inside.true)
 
 pub insert_to_full_multiplicity-at-requires : goal.insert_to_full_multiplicity-at-requires
-insert_to_full_multiplicity-at-requires c =
+insert_to_full_multiplicity-at-requires ty c =
     let q = whole-count c.args.s c.args.work.now c.args.base c.requires.0 c.requires.1 in
     (c.requires.0, q.0, q.1)
 
 pub copy_right-requires : goal.copy_right-requires
-copy_right-requires c =
+copy_right-requires ty c =
     let g = c.args in
     let d = sym c.is_inside.ensures ∙ c.if-not-is_inside.false in
     let i = c.insert_to_full_multiplicity-at.ensures in
-    let h = cut-held (arithmetic g.second) g.s g.work.now g.base g.t c.requires.0 c.requires.1 d _ _ i in
-    record { held = (h, h.inside, cut-upto (arithmetic g.second) g.s g.work.now g.base g.t c.requires.0 c.requires.1 d _ _ i); apart = inr refl }
+    let h = cut-held (arithmetic ty.R.Revision.second) g.s g.work.now g.base g.t c.requires.0 c.requires.1 d _ _ i in
+    record { held = (h, h.inside, cut-upto (arithmetic ty.R.Revision.second) g.s g.work.now g.base g.t c.requires.0 c.requires.1 d _ _ i); apart = inr refl }
 
 pub returns : goal.returns
-returns c =
+returns ty c =
     let g = c.args in
     let d = sym c.is_inside.ensures ∙ c.if-not-is_inside.false in
     let i = c.insert_to_full_multiplicity-at.ensures in
-    from_kept (arithmetic g.second) g.s g.work.now g.base g.t c.requires.0 c.requires.1 d _ _ i _ _ c.copy_right.ensures refl
+    from_kept (arithmetic ty.R.Revision.second) g.s g.work.now g.base g.t c.requires.0 c.requires.1 d _ _ i _ _ c.copy_right.ensures refl

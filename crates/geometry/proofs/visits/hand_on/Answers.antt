@@ -4,13 +4,13 @@ use Rattle.geometry.proofs.visits.Handed.{handed-on, handed-bad}
 use Rattle.geometry.proofs.visits.hand_on.Goals as goal
 
 pub returns-then-not-weights_positive_in : goal.returns-then-not-weights_positive_in
-returns-then-not-weights_positive_in c = λ b.
+returns-then-not-weights_positive_in ty c = λ b.
     let g = c.args in
     let k = c.restrict-cuts in
-    handed-bad (arithmetic g.second) g.s g.work.now _ g.a g.hat _ _ k.ensures k.auto.work _ c.weights_positive_in.ensures b c.if-not-weights_positive_in.true
+    handed-bad (arithmetic ty.R.Revision.second) g.s g.work.now _ g.a g.hat _ _ k.ensures k.auto.work _ c.weights_positive_in.ensures b c.if-not-weights_positive_in.true
 
 pub returns : goal.returns
-returns c = λ b.
+returns ty c = λ b.
     let g = c.args in
     let k = c.restrict-cuts in
-    handed-on (arithmetic g.second) g.s g.work.now _ g.a g.hat _ _ k.ensures k.auto.work _ c.weights_positive_in.ensures b c.if-not-weights_positive_in.false
+    handed-on (arithmetic ty.R.Revision.second) g.s g.work.now _ g.a g.hat _ _ k.ensures k.auto.work _ c.weights_positive_in.ensures b c.if-not-weights_positive_in.false

@@ -5,6 +5,6 @@ use Rattle.math.specs.declared.scalars.Scalar.{Scalar}
 use Rattle.geometry.proofs.visits.times_weight.Goals as goal
 
 pub returns-then-repeats : goal.returns-then-repeats
-returns-then-repeats c =
+returns-then-repeats ty c =
     let q = c.repeats.ensures.1 c.if-repeats.true in
-    (sym q, c.requires ∙ ap (λ (v : Scalar). (arithmetic c.args.second).mul c.args.e v) (sym q))
+    (sym q, c.requires ∙ ap (λ (v : Scalar). (arithmetic ty.R.Revision.second).mul c.args.e v) (sym q))

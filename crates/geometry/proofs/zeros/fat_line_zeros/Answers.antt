@@ -1,31 +1,32 @@
--- `fat_line_zeros` equals its definition: where the lists are no polygon nothing is known, and else each turn takes in one point more.
-use Rattle.std.proofs.Common.{sym, ◌∙◌, arith, true, false, length}
-use Rattle.geometry.proofs.zeros.Polygon.{zeros-found, is_pair, no_polygon, a_polygon, as_many, not-empty, line_first, line_turn, line_done}
+-- `fat_line_zeros` equals its definition: where the lists are no polygon nothing is known, and else it is what its revision finds.
+use Rattle.std.proofs.Common.{sym, ap, ◌∙◌, true, false}
+use mathlib.Core.Bool.{Bool}
+use borrow.Author.Tests.{eq-eqb, ne_eqb}
+use Rattle.std.specs.Prelude.{Some}
+use Rattle.math.specs.Revision.{arithmetic}
+use Rattle.math.specs.declared.scalars.Scalar.{Scalar}
+use Rattle.model.specs.FatLine.{fat_line_zeros}
+use Rattle.model.specs.Hat.{Hat}
+use Rattle.geometry.proofs.zeros.Polygon.{zeros-found, no_polygon, a_polygon}
 use Rattle.geometry.proofs.zeros.fat_line_zeros.Goals as goal
 
 pub returns-then-not-answerable : goal.returns-then-not-answerable
 returns-then-not-answerable c =
     let xs = c.args.xi.now in
     let ys = c.args.d.now in
-    zeros-found c.args.rev xs ys _ (c.anywhere.ensures ∙ no_polygon c.args.rev xs ys false (sym c.if-not-answerable.true ∙ c.answerable.ensures) tt)
+    let whole : Scalar → Hat = λ s. Some s in
+    zeros-found c.args.rev xs ys _ (ap whole c.entire.ensures ∙ no_polygon c.args.rev xs ys false (sym c.if-not-answerable.true ∙ c.answerable.ensures) tt)
 
-pub loop-i-init : goal.loop-i-init
-loop-i-init c =
+pub returns-then-rev-eq2 : goal.returns-then-rev-eq2
+returns-then-rev-eq2 c =
     let xs = c.args.xi.now in
     let ys = c.args.d.now in
-    let p = is_pair c.args.rev (length xs) (length ys) true (sym c.if-not-answerable.false ∙ c.answerable.ensures) tt in
-    (omega arith, not-empty (length xs) (length ys) p, line_first c.args.rev xs ys _ (as_many (length xs) (length ys) p) c.begin-l.ensures)
-
-pub loop-i-preserved : goal.loop-i-preserved
-loop-i-preserved c =
-    let i = c.loop-i.invariant in
-    (omega arith, omega arith, line_turn c.args.rev c.args.xi.now c.args.d.now c.loop-i.i c.loop-i.l _ i.0 i.2 c.take-l.ensures)
+    zeros-found c.args.rev xs ys _
+    (c.polygon_zeros.ensures ∙ ap (λ (b : Bool). fat_line_zeros (arithmetic b) xs ys) (sym (eq-eqb c.args.rev 2 c.if-rev-eq2.true)) ∙ a_polygon c.args.rev xs ys true (sym c.if-not-answerable.false ∙ c.answerable.ensures) tt)
 
 pub returns : goal.returns
 returns c =
     let xs = c.args.xi.now in
     let ys = c.args.d.now in
-    let is = sym c.if-not-answerable.false ∙ c.answerable.ensures in
-    let p = is_pair c.args.rev (length xs) (length ys) true is tt in
-    let i = c.loop-i.invariant in
-    zeros-found c.args.rev xs ys _ (line_done c.args.rev xs ys c.loop-i.i c.loop-i.l _ (as_many (length xs) (length ys) p) (omega (arith, i.1, c.loop-i-test.false)) i.2 c.end.ensures ∙ a_polygon c.args.rev xs ys true is tt)
+    zeros-found c.args.rev xs ys _
+    (c.polygon_zeros-2.ensures ∙ ap (λ (b : Bool). fat_line_zeros (arithmetic b) xs ys) (sym (ne_eqb c.args.rev 2 c.if-rev-eq2.false)) ∙ a_polygon c.args.rev xs ys true (sym c.if-not-answerable.false ∙ c.answerable.ensures) tt)

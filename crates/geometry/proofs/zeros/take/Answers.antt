@@ -6,7 +6,7 @@ use Rattle.geometry.proofs.zeros.take.Goals as goal
 
 pub returns : goal.returns
 unfolding taken
-returns c =
+returns ty c =
     let l = c.args.l in
     let e = c.union-band.ensures ∙ ap (union_s l.band) c.off.ensures in
-    λ i. record { second = l.second; x0 = l.x0; y0 = l.y0; last = l.last; slope = l.slope; band = e i }
+    λ i. record { x0 = l.x0; y0 = l.y0; last = l.last; slope = l.slope; band = e i }

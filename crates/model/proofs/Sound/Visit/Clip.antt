@@ -19,8 +19,8 @@ use Rattle.model.specs.Vector.{Vector, coordinate}
 use Rattle.model.specs.NurbCurve.{Piece, point, start, end, domain, weights_positive}
 use Rattle.model.specs.FatLine.{greville, fat_line_zeros}
 use Rattle.model.specs.Contains.{axis, narrowed, clip}
-use Rattle.model.specs.declared.fat_line.Hat.{Hat}
-use Rattle.model.specs.declared.fat_line.Hat.TheVariants.{Over, Missing}
+use Rattle.model.specs.Hat.{Hat}
+use Rattle.std.specs.Prelude.{Some, None}
 use Rattle.model.proofs.Sound.Base.{values, Knots, Inside, Carries, Lined, lined}
 use Rattle.model.proofs.Sound.Known.{sharp_known}
 use Rattle.model.proofs.Sound.Visit.Hulls.{holds_between, could_equal}
@@ -47,8 +47,8 @@ module _ (ar : Arithmetic) (E : Encloses ar) (dim : ℕ) (ps : List Vector) (w :
 -- ---- one step
 narrowed-found : (hat : Scalar) (z : Hat) (t : ℚ) → Holds hat t → Found z t → Found (narrowed hat z) t
 unfolding narrowed
-narrowed-found hat Missing t h f = f
-narrowed-found hat (Over z) t h f = passes (could_be_equal z hat) (Over (intersect_s hat z)) t (could_equal z hat t f h) (intersect_holds hat z t h f)
+narrowed-found hat None t h f = f
+narrowed-found hat (Some z) t h f = passes (could_be_equal z hat) (Some (intersect_s hat z)) t (could_equal z hat t f h) (intersect_holds hat z t h f)
 
 module _ (ar : Arithmetic) (dim : ℕ) (ps : List Vector) (ξs : List Scalar) (t : ℚ) (q : ℕ → ℚ)
     (f : (k : ℕ) (e : Scalar) → k < dim → Holds e (q k) → Found (fat_line_zeros ar ξs (axis ar dim k e ps)) t) where
@@ -66,9 +66,9 @@ module _ (ar : Arithmetic) (dim : ℕ) (ps : List Vector) (ξs : List Scalar) (t
       next : (j : ℕ) → k + suc j ≡ suc k + j
       next j = omega arith
 
-      go : (r : Hat) → Found r t → ((g : Scalar) → Holds g t → Found (clip ar dim ps ξs g (suc k) es) t) → Found (elim r [ Missing ↦ Missing | Over h ↦ clip ar dim ps ξs h (suc k) es ]) t
-      go Missing y rec = absurd y
-      go (Over g) y rec = rec g y
+      go : (r : Hat) → Found r t → ((g : Scalar) → Holds g t → Found (clip ar dim ps ξs g (suc k) es) t) → Found (elim r [ None ↦ None | Some h ↦ clip ar dim ps ξs h (suc k) es ]) t
+      go None y rec = absurd y
+      go (Some g) y rec = rec g y
 
 -- ---- the domain holds t
 module _ (dim p : ℕ) (c : Piece) (K : Lined p (length c.points) c.knots) (t : ℚ) (v : ℕ → ℚ) (h : Carries (suc dim) p t v c) where
@@ -104,7 +104,7 @@ module _ (ar : Arithmetic) (E : Encloses ar) (dim p : ℕ) (c : Piece) (K : Knot
   -- THE CLIP
   pub clip-found : 1 ≤ p → p ≤ 7 → (ξs : List Scalar) → greville ar p (length c.points) c.knots ≡ some ξs
       → (box : List Scalar) → length box ≡ dim → (q : ℕ → ℚ) → ((k : ℕ) → k < dim → Holds (get_or box k absent) (q k)) → ((k : ℕ) → k < dim → v k *ℚ invℚ (v dim) ≡ q k)
-      → (hat : Scalar) × (clip ar dim c.points ξs (domain (start p c) (end c)) 0 box ≡ Over hat) × Holds hat t
+      → (hat : Scalar) × (clip ar dim c.points ξs (domain (start p c) (end c)) 0 box ≡ Some hat) × Holds hat t
   clip-found 1≤p p≤7 ξs eg box long q bq vq = found-over _ t (steps ar dim c.points ξs t q zeros box 0 (domain (start p c) (end c)) (omega arith) (λ j l. at j l) (domain_holds dim p c (lined p n c.knots K) t v h))
     where
       A : Abscissae p (length c.points) c.knots ξs

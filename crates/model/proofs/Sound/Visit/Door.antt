@@ -11,8 +11,8 @@ use Rattle.exact.specs.Spline.{On}
 use Rattle.exact.specs.Hull.{In, β}
 use Rattle.exact.proofs.Splines.Visit.{straight, β_in, confine}
 use Rattle.math.specs.declared.scalars.Scalar.{Scalar}
-use Rattle.math.specs.declared.scalars.Divided.{Divided}
-use Rattle.math.specs.declared.scalars.Divided.TheVariants.{Value, Failed}
+use Rattle.math.specs.Divided.{Divided}
+use Rattle.std.specs.Prelude.{Some, None}
 use Rattle.math.specs.Scalars.{Arithmetic, sharp, absent, ZERO, ONE, could_be_equal, union_s, intersect_s}
 use Rattle.math.specs.Values.{value, Holds}
 use Rattle.math.specs.Encloses.{Encloses}
@@ -21,8 +21,7 @@ use Rattle.math.proofs.Intervals.Tests.{union_left, union_right, intersect_holds
 use Rattle.model.specs.Vector.{Vector}
 use Rattle.model.specs.NurbCurve.{Piece, point, weights_positive}
 use Rattle.model.specs.Aabb.{place, aabb, could_overlap, along_by, along, meets, could_meet}
-use Rattle.model.specs.declared.fat_line.Hat.{Hat}
-use Rattle.model.specs.declared.fat_line.Hat.TheVariants.{Over, Missing}
+use Rattle.model.specs.Hat.{Hat}
 use Rattle.model.proofs.Sound.Base.{values, Known, Knots, Carries, lined}
 use Rattle.model.proofs.Sound.Known.{sharp_known, low_value, high_value}
 use Rattle.model.proofs.Sound.Visit.Hulls.{holds_between, could_equal, two_ends}
@@ -40,8 +39,8 @@ bounded_in e q k h = record { from = low_value e.lo q k.from h.low; upto = high_
 
 -- ---- one axis: a hat that holds x, if there is one
 abbrev Allows : Hat → ℚ → Type 0
-Allows Missing x = Unit {0}
-Allows (Over z) x = Holds z x
+Allows None x = Unit {0}
+Allows (Some z) x = Holds z x
 
 module _ (ar : Arithmetic) (E : Encloses ar) where
   -- x is the share at which the segment from A to B passes q
@@ -56,9 +55,9 @@ module _ (ar : Arithmetic) (E : Encloses ar) where
       D = E.sub_holds b a B A hb ha
 
       go : (s t : Divided) → ar.div (ar.sub (sharp e.lo) a) (ar.sub b a) ≡ s → ar.div (ar.sub (sharp e.hi) a) (ar.sub b a) ≡ t → Allows (along_by s t) x
-      go Failed t es et = unfold along_by in tt
-      go (Value s) Failed es et = unfold along_by in tt
-      go (Value s) (Value t) es et = unfold along_by in
+      go None t es et = unfold along_by in tt
+      go (Some s) None es et = unfold along_by in tt
+      go (Some s) (Some t) es et = unfold along_by in
           two_ends (union_s s t) ((value e.lo -ℚ A) *ℚ invℚ (B -ℚ A)) ((value e.hi -ℚ A) *ℚ invℚ (B -ℚ A)) x
           (union_left s t _ (E.div_holds _ d s _ _ es (E.sub_holds (sharp e.lo) a _ A (sharp_known e.lo ke.from) ha) D))
           (union_right s t _ (E.div_holds _ d t _ _ et (E.sub_holds (sharp e.hi) a _ A (sharp_known e.hi ke.upto) ha) D))
@@ -86,9 +85,9 @@ module _ (ar : Arithmetic) (E : Encloses ar) where
         left t false y m = y
 
         go : (r : Hat) → Allows r x → ((g : Scalar) → Holds g x → T (meets ar dim a b g (suc k) es))
-            → T (elim r [ Missing ↦ meets ar dim a b range (suc k) es | Over t ↦ elim (could_be_equal t range) [ true ↦ meets ar dim a b (intersect_s t range) (suc k) es | false ↦ false ] ])
-        go Missing y rec = rec range h
-        go (Over t) y rec = left t (could_be_equal t range) (could_equal t range x y h) (rec (intersect_s t range) (intersect_holds t range x y h))
+            → T (elim r [ None ↦ meets ar dim a b range (suc k) es | Some t ↦ elim (could_be_equal t range) [ true ↦ meets ar dim a b (intersect_s t range) (suc k) es | false ↦ false ] ])
+        go None y rec = rec range h
+        go (Some t) y rec = left t (could_be_equal t range) (could_equal t range x y h) (rec (intersect_s t range) (intersect_holds t range x y h))
 
 -- ---- the piece
 module _ (ar : Arithmetic) (E : Encloses ar) (dim p : ℕ) (c : Piece) (K : Knots p (length c.points) c.knots) (w : T (weights_positive dim c.points)) (t : ℚ) (v : ℕ → ℚ) (h : Carries (suc dim) p t v c)

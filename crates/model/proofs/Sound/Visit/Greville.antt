@@ -22,8 +22,8 @@ use Rattle.lists.specs.Lists.{tab, foldl}
 use Rattle.lists.proofs.Part.{length_part, get_or_part}
 use Rattle.lists.proofs.Tab.{length-tab, get_or-tab}
 use Rattle.math.specs.declared.scalars.Scalar.{Scalar}
-use Rattle.math.specs.declared.scalars.Divided.{Divided}
-use Rattle.math.specs.declared.scalars.Divided.TheVariants.{Value, Failed}
+use Rattle.math.specs.Divided.{Divided}
+use Rattle.std.specs.Prelude.{Some, None}
 use Rattle.math.specs.Scalars.{Arithmetic, sharp, absent, ZERO, ENTIRE, value_or}
 use Rattle.math.specs.Values.{value, Holds}
 use Rattle.math.specs.Encloses.{Encloses}
@@ -89,8 +89,8 @@ module _ (ar : Arithmetic) (E : Encloses ar) where
   over_holds a f x y o h k = go (ar.div a (sharp f)) refl
     where
       go : (r : Divided) → ar.div a (sharp f) ≡ r → Holds (value_or r ENTIRE) (x *ℚ invℚ y)
-      go (Value c) e = E.div_holds a (sharp f) c x y e h k
-      go Failed e = absurd (lt→not_le (subst (λ (z : ℚ). 0ℚ <ℚ z) (alone f y 0ℚ k ((E.div_fails a (sharp f)).0 e)) o) (le_refl 0ℚ))
+      go (Some c) e = E.div_holds a (sharp f) c x y e h k
+      go None e = absurd (lt→not_le (subst (λ (z : ℚ). 0ℚ <ℚ z) (alone f y 0ℚ k ((E.div_fails a (sharp f)).0 e)) o) (le_refl 0ℚ))
 
   -- ---- the abscissae
   module _ (p n : ℕ) (ks : List Float) (1≤p : 1 ≤ p) (p≤7 : p ≤ 7) (K : Knots p n ks) where

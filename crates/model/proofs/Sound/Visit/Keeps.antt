@@ -10,27 +10,26 @@ use lib.Ieee.{binary64, fits}
 use lib.Ieee.Fits.{inf-fits}
 use Rattle.lists.specs.Lists.{last_d}
 use Rattle.math.specs.declared.scalars.Scalar.{Scalar}
-use Rattle.math.specs.declared.scalars.Divided.{Divided}
-use Rattle.math.specs.declared.scalars.Divided.TheVariants.{Value, Failed}
+use Rattle.math.specs.Divided.{Divided}
+use Rattle.std.specs.Prelude.{Some, None}
 use Rattle.math.specs.Scalars.{Arithmetic, ZERO, ENTIRE, absent, could_be_equal, union_s}
 use Rattle.math.specs.Encloses.{Encloses}
 use Rattle.model.specs.Vector.{Vector}
 use Rattle.model.specs.Aabb.{unions}
 use Rattle.model.specs.FatLine.{crossing, zeros_by, fat_line_zeros}
 use Rattle.model.specs.Contains.{axis, narrowed, clip}
-use Rattle.model.specs.declared.fat_line.Hat.{Hat}
-use Rattle.model.specs.declared.fat_line.Hat.TheVariants.{Over, Missing}
+use Rattle.model.specs.Hat.{Hat}
 
 -- ---- a hat, if there is one, has the property P
 abbrev pub OfHat : (Scalar → Type 0) → Hat → Type 0
-OfHat P Missing = Unit {0}
-OfHat P (Over z) = P z
+OfHat P None = Unit {0}
+OfHat P (Some z) = P z
 
-pub of_hat_if : (P : Scalar → Type 0) (b : Bool) (z : Scalar) → (T b → P z) → OfHat P (cond b (Over z) Missing)
+pub of_hat_if : (P : Scalar → Type 0) (b : Bool) (z : Scalar) → (T b → P z) → OfHat P (cond b (Some z) None)
 of_hat_if P true z f = f tt
 of_hat_if P false z f = tt
 
-pub of_hat_or : (P : Scalar → Type 0) (b : Bool) (h : Hat) → OfHat P h → OfHat P (cond b h Missing)
+pub of_hat_or : (P : Scalar → Type 0) (b : Bool) (h : Hat) → OfHat P h → OfHat P (cond b h None)
 of_hat_or P true h f = f
 of_hat_or P false h f = tt
 
@@ -50,9 +49,9 @@ module _ (ar : Arithmetic) (dim : ℕ) (ps : List Vector) (ξs : List Scalar) (P
       next : (j : ℕ) → k + suc j ≡ suc k + j
       next j = omega arith
 
-      go : (r : Hat) → OfHat P r → ((g : Scalar) → P g → OfHat P (clip ar dim ps ξs g (suc k) es)) → OfHat P (elim r [ Missing ↦ Missing | Over h ↦ clip ar dim ps ξs h (suc k) es ])
-      go Missing y rec = tt
-      go (Over g) y rec = rec g y
+      go : (r : Hat) → OfHat P r → ((g : Scalar) → P g → OfHat P (clip ar dim ps ξs g (suc k) es)) → OfHat P (elim r [ None ↦ None | Some h ↦ clip ar dim ps ξs h (suc k) es ])
+      go None y rec = tt
+      go (Some g) y rec = rec g y
 
 -- ---- an interval of doubles
 pub record DoubleBounds (z : Scalar) : Type 0 where
@@ -63,17 +62,17 @@ pub record DoubleBounds (z : Scalar) : Type 0 where
 module _ (ar : Arithmetic) (E : Encloses ar) where
   crossing-doubles : (ξ₀ : Scalar) (q : Divided) → OfHat DoubleBounds (crossing ar ξ₀ q)
   unfolding crossing
-  crossing-doubles ξ₀ Failed = record { lo_double = inf-fits binary64 true; hi_double = inf-fits binary64 false }
-  crossing-doubles ξ₀ (Value q) = record { lo_double = (E.sub_doubles ξ₀ q).0; hi_double = (E.sub_doubles ξ₀ q).1 }
+  crossing-doubles ξ₀ None = record { lo_double = inf-fits binary64 true; hi_double = inf-fits binary64 false }
+  crossing-doubles ξ₀ (Some q) = record { lo_double = (E.sub_doubles ξ₀ q).0; hi_double = (E.sub_doubles ξ₀ q).1 }
 
   -- whatever the band is
-  band-doubles : (ξ₀ d₀ d s band : Scalar) → OfHat DoubleBounds (cond (could_be_equal (ar.add (union_s d₀ d) band) ZERO) (crossing ar ξ₀ (ar.div (ar.add d₀ band) s)) Missing)
+  band-doubles : (ξ₀ d₀ d s band : Scalar) → OfHat DoubleBounds (cond (could_be_equal (ar.add (union_s d₀ d) band) ZERO) (crossing ar ξ₀ (ar.div (ar.add d₀ band) s)) None)
   band-doubles ξ₀ d₀ d s band = of_hat_or DoubleBounds (could_be_equal (ar.add (union_s d₀ d) band) ZERO) _ (crossing-doubles ξ₀ (ar.div (ar.add d₀ band) s))
 
   by_doubles : (ξs ds : List Scalar) (ξ₀ d₀ : Scalar) (o : Divided) → OfHat DoubleBounds (zeros_by ar ξs ds ξ₀ d₀ o)
   unfolding zeros_by
-  by_doubles ξs ds ξ₀ d₀ Failed = of_hat_if DoubleBounds (could_be_equal (unions ds) ZERO) ENTIRE (λ _. record { lo_double = inf-fits binary64 true; hi_double = inf-fits binary64 false })
-  by_doubles ξs ds ξ₀ d₀ (Value s) = band-doubles ξ₀ d₀ (last_d ds absent) s _
+  by_doubles ξs ds ξ₀ d₀ None = of_hat_if DoubleBounds (could_be_equal (unions ds) ZERO) ENTIRE (λ _. record { lo_double = inf-fits binary64 true; hi_double = inf-fits binary64 false })
+  by_doubles ξs ds ξ₀ d₀ (Some s) = band-doubles ξ₀ d₀ (last_d ds absent) s _
 
   pub zeros-doubles : (ξs ds : List Scalar) → OfHat DoubleBounds (fat_line_zeros ar ξs ds)
   unfolding fat_line_zeros

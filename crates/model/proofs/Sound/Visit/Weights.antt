@@ -13,8 +13,8 @@ use Rattle.exact.specs.Rational.{ℚ, ◌-ℚ◌, ◌*ℚ◌, 0ℚ, invℚ, ◌<
 use Rattle.exact.proofs.Order.{le_refl, lt_le_trans}
 use Rattle.lists.proofs.Fold.{all_get_or}
 use Rattle.math.specs.declared.scalars.Scalar.{Scalar}
-use Rattle.math.specs.declared.scalars.Divided.{Divided}
-use Rattle.math.specs.declared.scalars.Divided.TheVariants.{Value, Failed}
+use Rattle.math.specs.Divided.{Divided}
+use Rattle.std.specs.Prelude.{Some, None}
 use Rattle.math.specs.Scalars.{Arithmetic, zero_f, ZERO, ENTIRE, is_same, value_or}
 use Rattle.math.specs.Values.{value, Below, Holds}
 use Rattle.math.specs.Encloses.{Encloses}
@@ -72,5 +72,5 @@ module _ (ar : Arithmetic) (E : Encloses ar) where
   place_holds dim k q x y t h l = go (ar.div (coordinate q k) (coordinate q dim)) refl
     where
       go : (r : Divided) → ar.div (coordinate q k) (coordinate q dim) ≡ r → Holds (value_or r ENTIRE) (x *ℚ invℚ y)
-      go (Value c) e = E.div_holds (coordinate q k) (coordinate q dim) c x y e h l
-      go Failed e = absurd (lt→not_le (heavy-pos (coordinate q dim) 0ℚ t ((E.div_fails (coordinate q k) (coordinate q dim)).0 e)) (le_refl 0ℚ))
+      go (Some c) e = E.div_holds (coordinate q k) (coordinate q dim) c x y e h l
+      go None e = absurd (lt→not_le (heavy-pos (coordinate q dim) 0ℚ t ((E.div_fails (coordinate q k) (coordinate q dim)).0 e)) (le_refl 0ℚ))

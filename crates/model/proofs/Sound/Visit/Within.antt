@@ -26,8 +26,8 @@ use Rattle.math.proofs.Doubles.Least.{min-either, max_either, min_left, max_left
 use Rattle.math.proofs.Intervals.Sizes.{sub-rounds}
 use Rattle.model.specs.NurbCurve.{Piece, start, end, domain}
 use Rattle.model.specs.Contains.{axis, narrowed, clip}
-use Rattle.model.specs.declared.fat_line.Hat.{Hat}
-use Rattle.model.specs.declared.fat_line.Hat.TheVariants.{Over, Missing}
+use Rattle.model.specs.Hat.{Hat}
+use Rattle.std.specs.Prelude.{Some, None}
 use Rattle.model.proofs.Sound.Base.{Known, Knots}
 use Rattle.model.proofs.Sound.Known.{le_known}
 use Rattle.model.proofs.Sound.Visit.Keeps.{OfHat, of_hat_if, clip-keeps, DoubleBounds, zeros-doubles}
@@ -148,8 +148,8 @@ module _ (a b : Float) (hat z : Scalar) (h : Within a b hat) (dz : DoubleBounds 
 -- ---- the domain, and what the axes leave of it
 narrowed-within : (a b : Float) (hat : Scalar) (z : Hat) → Within a b hat → OfHat DoubleBounds z → OfHat (Within a b) (narrowed hat z)
 unfolding narrowed
-narrowed-within a b hat Missing h d = tt
-narrowed-within a b hat (Over z) h d = of_hat_if (Within a b) (could_be_equal z hat) (intersect_s hat z) (λ t. intersect-within a b hat z h d t)
+narrowed-within a b hat None h d = tt
+narrowed-within a b hat (Some z) h d = of_hat_if (Within a b) (could_be_equal z hat) (intersect_s hat z) (λ t. intersect-within a b hat z h d t)
 
 -- the first hat
 pub domain-within : (a b : Float) → Known a → Known b → T (le a b) → Within a b (domain a b)
@@ -180,7 +180,7 @@ module _ (p : ℕ) (c : Piece) (K : Knots p (length c.points) c.knots) where
   start_end = le_known (start p c) (end c) start_known end_known (lt→le K.good.span)
 
   -- THE CLIP, for any points, abscissae and box
-  pub clip-within : (ar : Arithmetic) → Encloses ar → (dim : ℕ) (ξs box : List Scalar) (hat : Scalar) → clip ar dim c.points ξs (domain (start p c) (end c)) 0 box ≡ Over hat
+  pub clip-within : (ar : Arithmetic) → Encloses ar → (dim : ℕ) (ξs box : List Scalar) (hat : Scalar) → clip ar dim c.points ξs (domain (start p c) (end c)) 0 box ≡ Some hat
       → Within (start p c) (end c) hat
   clip-within ar E dim ξs box hat e = subst (OfHat (Within (start p c) (end c))) e
       (clip-keeps ar dim c.points ξs (Within (start p c) (end c)) (λ _ _. Unit {0}) (λ k e g _ h. narrowed-within (start p c) (end c) g _ h (zeros-doubles ar E ξs (axis ar dim k e c.points)))

@@ -14,29 +14,28 @@ use Rattle.exact.proofs.Splines.Hull.{solve}
 use Rattle.lists.proofs.Each.{get_or_zip, length-zip}
 use Rattle.lists.specs.Lists.{last_d}
 use Rattle.math.specs.declared.scalars.Scalar.{Scalar}
-use Rattle.math.specs.declared.scalars.Divided.{Divided}
-use Rattle.math.specs.declared.scalars.Divided.TheVariants.{Value, Failed}
+use Rattle.math.specs.Divided.{Divided}
+use Rattle.std.specs.Prelude.{Some, None}
 use Rattle.math.specs.Scalars.{Arithmetic, absent, ZERO, ENTIRE, could_be_equal, union_s}
 use Rattle.math.specs.Values.{Holds}
 use Rattle.math.specs.Encloses.{Encloses}
 use Rattle.math.proofs.Intervals.Tests.{union_left, union_right, zero_holds, entire_holds}
 use Rattle.model.specs.Aabb.{unions}
 use Rattle.model.specs.FatLine.{offset, crossing, zeros_by, fat_line_zeros}
-use Rattle.model.specs.declared.fat_line.Hat.{Hat}
-use Rattle.model.specs.declared.fat_line.Hat.TheVariants.{Over, Missing}
+use Rattle.model.specs.Hat.{Hat}
 use Rattle.model.proofs.Sound.Visit.Hulls.{could_equal, unions-between, two_ends}
 
 -- a hat that holds t
 abbrev pub Found : Hat → ℚ → Type 0
-Found Missing t = ⊥
-Found (Over z) t = Holds z t
+Found None t = ⊥
+Found (Some z) t = Holds z t
 
-pub found-over : (h : Hat) (t : ℚ) → Found h t → (z : Scalar) × (h ≡ Over z) × Holds z t
-found-over Missing t f = absurd f
-found-over (Over z) t f = (z, refl, f)
+pub found-over : (h : Hat) (t : ℚ) → Found h t → (z : Scalar) × (h ≡ Some z) × Holds z t
+found-over None t f = absurd f
+found-over (Some z) t f = (z, refl, f)
 
 -- the test has passed
-pub passes : (b : Bool) (h : Hat) (t : ℚ) → T b → Found h t → Found (cond b h Missing) t
+pub passes : (b : Bool) (h : Hat) (t : ℚ) → T b → Found h t → Found (cond b h None) t
 passes true h t y f = f
 passes false h t y f = absurd y
 
@@ -51,12 +50,12 @@ cancels : (x : ℚ) → x +ℚ -ℚ x ≡ 0ℚ
 cancels x = by_rep ℚring (x ∷ []) (search read) (search read) tt
 
 abbrev IsValue : Divided → Type 0
-IsValue (Value c) = Unit {0}
-IsValue Failed = ⊥
+IsValue (Some c) = Unit {0}
+IsValue None = ⊥
 
 module _ (ar : Arithmetic) (E : Encloses ar) where
   -- a divisor of a division that succeeds holds no zero
-  pub divisor : (a b c : Scalar) (y : ℚ) → ar.div a b ≡ Value c → Holds b y → ¬ (y ≡ 0ℚ)
+  pub divisor : (a b c : Scalar) (y : ℚ) → ar.div a b ≡ Some c → Holds b y → ¬ (y ≡ 0ℚ)
   divisor a b c y e h z = subst IsValue (sym e ∙ (E.div_fails a b).1 (subst (λ (x : ℚ). Holds b x) z h)) tt
 
   module _ (n : ℕ) (1≤n : 1 ≤ n) (ξs ds : List Scalar) (lξ : length ξs ≡ n) (ld : length ds ≡ n) (x d : ℕ → ℚ)
@@ -92,7 +91,7 @@ module _ (ar : Arithmetic) (E : Encloses ar) where
     run_holds = E.sub_holds _ _ _ _ last_x first_x
 
     -- ---- where the chord has a slope
-    module _ (s : Scalar) (es : ar.div rise run ≡ Value s) where
+    module _ (s : Scalar) (es : ar.div rise run ≡ Some s) where
       abbrev σ : ℚ
       σ = (d (n - 1) -ℚ d zero) *ℚ invℚ (x (n - 1) -ℚ x zero)
 
@@ -117,8 +116,8 @@ module _ (ar : Arithmetic) (E : Encloses ar) where
       cross_holds δ t h r = go (ar.div (ar.add d₀ (unions offsets)) s) refl
         where
           go : (q : Divided) → ar.div (ar.add d₀ (unions offsets)) s ≡ q → Found (crossing ar ξ₀ q) t
-          go Failed e = entire_holds t
-          go (Value q) e =
+          go None e = entire_holds t
+          go (Some q) e =
               subst (λ (z : ℚ). Holds (ar.sub ξ₀ q) z) (sym (r (divisor (ar.add d₀ (unions offsets)) s q σ e σ_holds)))
               (E.sub_holds ξ₀ q _ _ first_x (E.div_holds (ar.add d₀ (unions offsets)) s q _ σ e (E.add_holds _ _ _ _ first_d h) σ_holds))
 
@@ -133,7 +132,7 @@ module _ (ar : Arithmetic) (E : Encloses ar) where
         line_holds = two_ends (union_s d₀ (last_d ds absent)) (d zero) (d (n - 1)) _ (union_left _ _ _ first_d) (union_right _ _ _ last_d_lem)
             (λ a b f g. cr.line σ a b (divisor rise run s (x (n - 1) -ℚ x zero) es run_holds) refl f g)
 
-        sloped : Found (zeros_by ar ξs ds ξ₀ d₀ (Value s)) t
+        sloped : Found (zeros_by ar ξs ds ξ₀ d₀ (Some s)) t
         unfolding zeros_by
         sloped = passes (could_be_equal (ar.add (union_s d₀ (last_d ds absent)) (unions offsets)) ZERO) (crossing ar ξ₀ (ar.div (ar.add d₀ (unions offsets)) s)) t
             (could_equal _ ZERO 0ℚ (subst (λ (z : ℚ). Holds (ar.add (union_s d₀ (last_d ds absent)) (unions offsets)) z) (cancels (d zero +ℚ σ *ℚ (t -ℚ x zero))) (E.add_holds _ _ _ _ line_holds band_holds)) zero_holds)
@@ -145,6 +144,6 @@ module _ (ar : Arithmetic) (E : Encloses ar) where
     zeros-found t cr = go (ar.div rise run) refl
       where
         go : (o : Divided) → ar.div rise run ≡ o → Found (zeros_by ar ξs ds ξ₀ d₀ o) t
-        go (Value s) e = sloped s e t cr
-        go Failed e = unfold zeros_by in
-            passes (could_be_equal (unions ds) ZERO) (Over ENTIRE) t (could_equal (unions ds) ZERO 0ℚ (unions-between ds n d 0ℚ ld 1≤n hd (λ a b f. cr.range a b f)) zero_holds) (entire_holds t)
+        go (Some s) e = sloped s e t cr
+        go None e = unfold zeros_by in
+            passes (could_be_equal (unions ds) ZERO) (Some ENTIRE) t (could_equal (unions ds) ZERO 0ℚ (unions-between ds n d 0ℚ ld 1≤n hd (λ a b f. cr.range a b f)) zero_holds) (entire_holds t)

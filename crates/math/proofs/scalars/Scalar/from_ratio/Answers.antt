@@ -4,7 +4,7 @@ use borrow.Author.Tests.{eq-eqb, ne_eqb}
 use Rattle.math.proofs.Bools.{pick_yes, pick_no}
 use Rattle.math.proofs.Paper.{is_ratio}
 use Rattle.math.specs.Scalars.{from_ratio}
-use Rattle.math.specs.declared.scalars.Divided.TheVariants.{Value}
+use Rattle.std.specs.Prelude.{Some}
 use Rattle.math.proofs.scalars.Scalar.from_ratio.Goals as goal
 
 pub returns-then-den-eq0 : goal.returns-then-den-eq0
@@ -16,5 +16,5 @@ unfolding from_ratio
 returns c =
     let g = c.args in
     is_ratio g.num g.den _
-    ((λ i. Value (record { lo = c.next_down.ensures i; hi = c.next_up.ensures i }))
+    ((λ i. Some (record { lo = c.next_down.ensures i; hi = c.next_up.ensures i }))
     ∙ pick_no _ _ _ (ne_eqb g.den 0 c.if-den-eq0.false))

@@ -1,7 +1,0 @@
--- `tight_add` equals its definition: the sums rounded outward.
-use Rattle.math.specs.Tight.{add_t}
-use Rattle.math.proofs.scalars.Scalar.tight_add.Goals as goal
-
-pub returns : goal.returns
-unfolding add_t
-returns c = λ i. record { lo = c.sum_down.ensures i; hi = c.sum_up.ensures i }
