@@ -1,5 +1,5 @@
 -- How the state of the code is read as the state of the search: what a visit made of its piece, what was reported, and the pieces that wait in the ring. Definitions only.
-use Rattle.std.specs.Prelude.{ℕ, suc, ◌+◌, ◌-◌, ◌*◌, ◌≤◌, ◌≡◌, Bool, true, false, cond, List, [], ◌∷◌, eqb, length, drop, Float}
+use Rattle.std.specs.Prelude.{ℕ, suc, ◌+◌, ◌-◌, ◌*◌, ◌≤◌, ◌≡◌, Bool, true, false, List, [], ◌∷◌, length, drop, Float}
 use Rattle.std.proofs.Math.Option.{Option, none, some}
 use Rattle.lists.specs.Lists.{put}
 use Rattle.lists.specs.Ring.{wrapped}
@@ -16,12 +16,14 @@ use Rattle.geometry.specs.Ring.{waiting, Ring, Beside}
 use Rattle.geometry.specs.declared.slots.Shape.{Shape}
 use Rattle.geometry.specs.declared.subdivide.Outcome.{Outcome}
 use Rattle.geometry.specs.declared.subdivide.Outcome.TheVariants.{Dropped, Reported, Restricted, Halved, BadWeight}
-use Rattle.geometry.specs.declared.subdivide.Reports.{Reports}
+use Rattle.std.specs.Prelude.{Some, None}
+use Rattle.model.specs.Hat.{Hat}
 use Rattle.geometry.specs.declared.subdivide.Search.{Search}
 
--- What was reported so far.
-unfoldable pub found_of : Reports → Option Scalar
-found_of f = cond (eqb f.any 0) none (some f.all)
+-- What was reported so far: an interval, or nothing.
+abbrev pub found_of : Hat → Option Scalar
+found_of None = none
+found_of (Some t) = some t
 
 -- What a visit made of its piece, where l is the memory it left, and the slots at a and b hold what it hands on.
 unfoldable pub outcome_of : Shape → List Float → ℕ → ℕ → Outcome → Visit

@@ -15,7 +15,7 @@ ghost use Rattle.geometry.specs.State.{found_of, with_depths, asked_of, Turned, 
 use crate::aabb::curve_could_meet_aabb;
 use crate::call::{refusal, slot_words, stated_words};
 use crate::slots::{Shape, depth_at, fill, load, set_depth, slot_base};
-use crate::subdivide::{Outcome, Reports, Search, after_visit, has_bad_weight, wrap};
+use crate::subdivide::{Outcome, Search, after_visit, has_bad_weight, wrap};
 use crate::visits::visit;
 use math::revision::{First, Revision, Second};
 use math::scalars::Scalar;
@@ -32,20 +32,17 @@ pub fn positive_zero(x: f64) -> f64
 }
 
 // The answer when every piece was visited.
-fn completed(f: Reports, v: Counts) -> Found
+fn completed(f: Option<Scalar>, v: Counts) -> Found
     ensures { result ≡ complete (found_of f) v }
 {
-    let t = f.all;
-    if f.any == 0 {
-        return Found::Nothing(v.visited, v.cuts, v.depth);
+    match f {
+        None => Found::Nothing(v.visited, v.cuts, v.depth),
+        Some(t) => {
+            let lo = positive_zero(t.lo);
+            let hi = positive_zero(t.hi);
+            Found::Enclosed(lo, hi, v.visited, v.cuts, v.depth)
+        }
     }
-    Found::Enclosed(
-        positive_zero(t.lo),
-        positive_zero(t.hi),
-        v.visited,
-        v.cuts,
-        v.depth,
-    )
 }
 
 // ---- the search
@@ -100,15 +97,7 @@ fn visit_next<R: Revision>(
     let pending = q.pending;
     let a = slot_base(0, w, wrap(head + pending, slots));
     let b = slot_base(0, w, wrap(head + (pending + 1), slots));
-    let o = visit::<R>(
-        work,
-        slot_base(0, w, head),
-        a,
-        b,
-        s,
-        point_box,
-        resolution,
-    );
+    let o = visit::<R>(work, slot_base(0, w, head), a, b, s, point_box, resolution);
     set_depths(work, a, b, s, w, d, o);
     o
 }
@@ -136,10 +125,7 @@ fn search_ring<R: Revision>(
             cuts: 0,
             depth: 0,
         },
-        found: Reports {
-            any: 0,
-            all: Scalar::ZERO,
-        },
+        found: None,
     };
     while 0 < q.pending {
         let v = q.counts;
@@ -154,9 +140,7 @@ fn search_ring<R: Revision>(
             return Found::Refused(11, v.visited, v.cuts, v.depth);
         }
     }
-    let f = q.found;
-    let v = q.counts;
-    completed(f, v)
+    completed(q.found, q.counts)
 }
 
 // The search of a call that nothing is wrong with, in its revision. The stated words of the work area are 0 at its end.

@@ -23,8 +23,8 @@ ghost use Rattle.geometry.specs.Sizes.{position_of, squared, steps};
 use crate::nurb_curve::{coordinate, domain, in_domain, scalar_at};
 use math::bounds::Divisor;
 use math::floats::{max, next_up};
-use math::root::sqrt;
 use math::revision::Revision;
+use math::root::sqrt;
 use math::scalars::Scalar;
 
 // The knots i + 1 to i + degree, as a part of the knots that were lent.
@@ -361,13 +361,7 @@ fn reaches_in(a: f64, b: f64, hat: Scalar) -> bool
 }
 
 // The piece is to be cut down to the hat: the size definitely exceeds the carried width, and the cut takes off enough.
-pub(crate) fn restriction<R: Revision>(
-    a: f64,
-    b: f64,
-    hat: Scalar,
-    size: f64,
-    carried: f64,
-) -> bool
+pub(crate) fn restriction<R: Revision>(a: f64, b: f64, hat: Scalar, size: f64, carried: f64) -> bool
     ensures { result ≡ restricts (arithmetic R.second) a b hat size carried }
 {
     if !(carried < size) {

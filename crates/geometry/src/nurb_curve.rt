@@ -49,7 +49,9 @@ pub(crate) fn mid_parameter<R: Revision>(a: f64, b: f64) -> f64
     ensures { result ≡ mid_parameter (arithmetic R.second) a b }
 {
     let sum = R::add(Scalar::from_f64(a), Scalar::from_f64(b));
-    R::div(sum, Scalar::TWO).unwrap_or(Scalar::entire()).to_f64()
+    R::div(sum, Scalar::TWO)
+        .unwrap_or(Scalar::entire())
+        .to_f64()
 }
 
 // Both bounds are above zero.

@@ -1,6 +1,5 @@
 // solvers/subdivide.rs: where a search stands between two visits, over a ring of slots.
-ghost use Rattle.std.specs.Prelude.{◌≡◌, ◌+◌, ◌≤◌, ◌<◌, max};
-ghost use Rattle.std.proofs.Math.Option.{some};
+ghost use Rattle.std.specs.Prelude.{◌≡◌, ◌+◌, ◌≤◌, ◌<◌};
 ghost use Rattle.lists.specs.Ring.{wrapped};
 ghost use Rattle.model.specs.Subdivide.{with_visit, with_cuts, joined};
 ghost use Rattle.geometry.specs.State.{found_of, children, cuts_of, with_report, has_bad_weight, Next};
@@ -23,22 +22,14 @@ pub enum Outcome {
     BadWeight,
 }
 
-// The union of what was reported so far.
-#[derive(Clone, Copy)]
-pub struct Reports {
-    // 0 where nothing was, else 1. (A bool would leave bytes unused, which are copied one by one.)
-    pub any: usize,
-    // All of it lies here.
-    pub all: Scalar,
-}
-
-// Where a search stands: the slot of the first piece that waits, how many are pending, what was counted, and what was reported.
+// Where a search stands: the slot of the first piece that waits, how many are pending, what was counted, and the union of
+// what was reported, where something was.
 #[derive(Clone, Copy)]
 pub struct Search {
     pub head: usize,
     pub pending: usize,
     pub counts: Counts,
-    pub found: Reports,
+    pub found: Option<Scalar>,
 }
 
 // The number of the slot at place i of a ring of so many slots, where i may have run past the end once.
@@ -48,17 +39,13 @@ pub(crate) fn wrap(i: usize, slots: usize) -> usize
     if i < slots { i } else { i - slots }
 }
 
-// One report more.
-fn joined(f: Reports, t: Scalar) -> Reports
-    ensures { found_of result ≡ some (joined (found_of f) t) }
+// What was reported, with one report more.
+fn joined(f: Option<Scalar>, t: Scalar) -> Scalar
+    ensures { result ≡ joined (found_of f) t }
 {
-    let s = f.all;
-    if f.any == 0 {
-        return Reports { any: 1, all: t };
-    }
-    Reports {
-        any: 1,
-        all: s.union(t),
+    match f {
+        Some(all) => all.union(t),
+        None => t,
     }
 }
 
@@ -88,13 +75,6 @@ fn cuts_of(o: Outcome) -> usize
     }
 }
 
-// The deeper of two depths.
-fn deeper(a: usize, b: usize) -> usize
-    ensures { result ≡ max a b }
-{
-    if a < b { b } else { a }
-}
-
 // The counts, with the visit of a piece of depth d that came out as o.
 fn counted(v: Counts, d: usize, o: Outcome) -> Counts
     requires { (v.visited ≤ 0x1000_0000) × (v.cuts ≤ 0x1000_0000) × (cuts_of o ≤ 2) }
@@ -102,7 +82,7 @@ fn counted(v: Counts, d: usize, o: Outcome) -> Counts
 {
     let visited = v.visited + 1;
     let cuts = v.cuts + cuts_of(o);
-    let depth = deeper(v.depth, d);
+    let depth = v.depth.max(d);
     Counts {
         visited,
         cuts,
@@ -111,12 +91,12 @@ fn counted(v: Counts, d: usize, o: Outcome) -> Counts
 }
 
 // What was reported, with what a visit reports.
-fn with_report(f: Reports, o: Outcome) -> Reports
+fn with_report(f: Option<Scalar>, o: Outcome) -> Option<Scalar>
     ensures { found_of result ≡ with_report (found_of f) o }
 {
     match o {
         Outcome::Dropped => f,
-        Outcome::Reported(t) => joined(f, t),
+        Outcome::Reported(t) => Some(joined(f, t)),
         Outcome::Restricted(_) => f,
         Outcome::Halved => f,
         Outcome::BadWeight => f,
@@ -127,13 +107,7 @@ fn with_report(f: Reports, o: Outcome) -> Reports
 pub(crate) fn has_bad_weight(o: Outcome) -> bool
     ensures { result ≡ has_bad_weight o }
 {
-    match o {
-        Outcome::Dropped => false,
-        Outcome::Reported(_) => false,
-        Outcome::Restricted(_) => false,
-        Outcome::Halved => false,
-        Outcome::BadWeight => true,
-    }
+    matches!(o, Outcome::BadWeight)
 }
 
 // Where the search stands after the visit of a piece of depth d that came out as o, in a ring of so many slots.
@@ -142,16 +116,10 @@ pub(crate) fn after_visit(q: Search, d: usize, o: Outcome, slots: usize) -> Sear
     requires visited_bound { (q.counts.visited ≤ 0x1000_0000) × (q.counts.cuts ≤ 0x1000_0000) × (cuts_of o ≤ 2) }
     ensures { Next slots q d o result }
 {
-    let head = wrap(q.head + 1, slots);
-    let pending = q.pending - 1 + children(o);
-    let so_far = q.counts;
-    let counts = counted(so_far, d, o);
-    let before = q.found;
-    let found = with_report(before, o);
     Search {
-        head,
-        pending,
-        counts,
-        found,
+        head: wrap(q.head + 1, slots),
+        pending: q.pending - 1 + children(o),
+        counts: counted(q.counts, d, o),
+        found: with_report(q.found, o),
     }
 }

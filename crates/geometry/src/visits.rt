@@ -14,9 +14,7 @@ ghost use Rattle.geometry.specs.State.{asked_of, Visited};
 ghost use Rattle.geometry.specs.Plan.{plan_hat, plan_clip, planned};
 
 use crate::aabb::aabb_could_overlap;
-use crate::fat_line::{
-    carried, fat_line_zeros, from_first, greville_abscissae, halves, restricts,
-};
+use crate::fat_line::{carried, fat_line_zeros, from_first, greville_abscissae, halves, restricts};
 use crate::nurb_curve::{coordinate, domain, repeats, scalar_at, weights_positive};
 use crate::slots::{Shape, count_at, knots_in, points_in};
 use crate::split::{restrict, split_mid};
@@ -213,9 +211,7 @@ pub(crate) fn planned<R: Revision>(
     if !aabb_could_overlap::<R>(points, point_box, dim, count) {
         return Plan::Skip;
     }
-    plan_clip::<R>(
-        knots, points, point_box, dim, degree, count, resolution,
-    )
+    plan_clip::<R>(knots, points, point_box, dim, degree, count, resolution)
 }
 
 // What a visit is to make of the piece in the slot at base.
@@ -235,9 +231,7 @@ fn plan_in<R: Revision>(
     let n = count_at(work, base);
     let knots = knots_in(work, base, s);
     let points = points_in(work, base, s);
-    planned::<R>(
-        knots, points, point_box, s.dim, s.degree, n, resolution,
-    )
+    planned::<R>(knots, points, point_box, s.dim, s.degree, n, resolution)
 }
 
 // Every weight of the piece in the slot at base has its lo above zero.

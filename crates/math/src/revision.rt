@@ -36,7 +36,9 @@ pub trait Revision {
 
     // The interval that `close` makes of bounds, and the bounds that `pick` and `join` may put together.
     ghost closed: { Bounds → Scalar };
+
     ghost Picked: { Bounds → Type 0 };
+
     ghost Joined: { Bounds → Type 0 };
 
     fn add(x: Scalar, y: Scalar) -> Scalar
@@ -131,7 +133,9 @@ impl Revision for First {
     ghost Own = { λ d. d ≡ divisor_of d.value };
 
     ghost closed = { widen_b };
+
     ghost Picked = { AreNumbers };
+
     ghost Joined = { AreDoubles };
 
     fn add(x: Scalar, y: Scalar) -> Scalar {
@@ -235,7 +239,9 @@ impl Revision for Second {
     ghost Own = { λ _. ⊤ };
 
     ghost closed = { λ b. record { lo = b.lo; hi = b.hi } };
+
     ghost Picked = { λ _. ⊤ };
+
     ghost Joined = { λ _. ⊤ };
 
     fn add(x: Scalar, y: Scalar) -> Scalar {

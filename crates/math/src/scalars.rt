@@ -243,7 +243,13 @@ impl Scalar {
     }
 
     // Alpha and beta are factors, and what `between` multiplies by them is in order: diff is b - a before it is widened.
-    pub(crate) fn all_in_order(alpha: Scalar, beta: Scalar, a: Scalar, b: Scalar, diff: Scalar) -> bool
+    pub(crate) fn all_in_order(
+        alpha: Scalar,
+        beta: Scalar,
+        a: Scalar,
+        b: Scalar,
+        diff: Scalar,
+    ) -> bool
         ensures { result ≡ all_in_order alpha beta a b diff }
     {
         alpha.is_factor() && beta.is_factor() && a.in_order() && b.in_order() && diff.in_order()

@@ -1,5 +1,6 @@
 -- The search over the ring, turn by turn: what is left to search from where it stands is what was to search from the start. Leans on the laws of `advance` and of one turn.
 use mathlib.Core.Path.{◌≡◌, refl, sym, ap, ◌∙◌, subst}
+use Rattle.std.specs.Prelude.{None}
 use mathlib.Core.Bool.{true, false}
 use mathlib.Core.List.{List, [], ◌∷◌}
 use mathlib.Core.Option.{Option, none, some}
@@ -7,7 +8,7 @@ use Prim.Native.Nat.{ℕ, suc, ◌+◌, ◌-◌, ◌*◌, ◌≤◌, ◌<◌}
 use native.Mathlib.Nat.{zero-mul}
 use native.Mathlib.Omega.{arith}
 use lib.ListN.{length, drop}
-use lib.Ieee.{Float, binary64, of_bits}
+use lib.Ieee.{Float}
 use borrow.Author.Tests.{lt-ltb, le-ltb}
 use Rattle.lists.specs.Ring.{wrapped}
 use Rattle.math.specs.declared.scalars.Scalar.{Scalar}
@@ -76,7 +77,7 @@ module _ (see : Piece → Visit) (few : (c : Piece) → OneOrTwo (see c)) (nodes
 
   -- The start.
   abbrev pub origin : Search
-  origin = record { head = 0; pending = 1; counts = no_counts; found = record { any = 0; all = record { lo = of_bits binary64 0; hi = of_bits binary64 0 } } }
+  origin = record { head = 0; pending = 1; counts = no_counts; found = None }
 
   pub going_start : Ring s l₀ (nodes + 3) 0 1 → depth_at s l₀ 0 ≡ 0 → Going see nodes s l₀ l₀ origin
   going_start r top = record {
@@ -97,7 +98,7 @@ module _ (see : Piece → Visit) (few : (c : Piece) → OneOrTwo (see c)) (nodes
           ∙ ap (λ (w : Waiting). w ∷ []) whole
 
       state : state_of s l₀ (nodes + 3) origin ≡ begun (piece_at s l₀ 0)
-      state = unfold state_of found_of in (λ i. record { queue = first i; counts = no_counts; found = none })
+      state = unfold state_of in (λ i. record { queue = first i; counts = no_counts; found = none })
 
   module _ (l : List Float) (x : Search) (g : Going see nodes s l₀ l x) where
     -- The state.

@@ -2,17 +2,15 @@
 use mathlib.Core.Path.{◌≡◌, refl, sym, ap, ◌∙◌, subst}
 use mathlib.Core.Bool.{true, false}
 use mathlib.Core.List.{List}
-use mathlib.Core.Option.{Option, none, some}
+use mathlib.Core.Option.{Option}
 use Prim.Native.Nat.{ℕ, suc, ◌+◌, ◌-◌, ◌*◌, ◌≤◌, ◌<◌}
 use native.Mathlib.Nat.{add-zero}
 use native.Mathlib.Omega.{arith}
 use lib.ListN.{length, drop}
-use lib.Dec.{eqb}
-use borrow.Author.Tests.{eq-eqb, ne_eqb}
 use lib.Ieee.{Float}
 use Rattle.lists.specs.Ring.{wrapped}
 use Rattle.math.specs.declared.scalars.Scalar.{Scalar}
-use Rattle.math.proofs.Bools.{yes, no, pick_yes, pick_no}
+use Rattle.math.proofs.Bools.{yes, no}
 use Rattle.model.specs.NurbCurve.{Piece}
 use Rattle.model.specs.Subdivide.{Visit, Waiting, State, going, over, at_depth, with_visit, with_cuts, failed_with, after, step}
 use Rattle.math.specs.Scalars.{Arithmetic}
@@ -23,7 +21,6 @@ use Rattle.model.specs.declared.subdivide.Counts.{Counts}
 use Rattle.geometry.specs.declared.slots.Shape.{Shape}
 use Rattle.geometry.specs.declared.subdivide.Outcome.{Outcome}
 use Rattle.geometry.specs.declared.subdivide.Outcome.TheVariants.{Dropped, Reported, Restricted, Halved, BadWeight}
-use Rattle.geometry.specs.declared.subdivide.Reports.{Reports}
 use Rattle.geometry.specs.declared.subdivide.Search.{Search}
 use Rattle.geometry.proofs.slots.Apart.{other}
 use Rattle.geometry.proofs.slots.Depth.{waits_by, waiting_by}
@@ -31,13 +28,6 @@ use Rattle.geometry.proofs.subdivide.Depths.{turned_by}
 use Rattle.geometry.proofs.slots.Ring.{beside_inside, base_is, ring_inside, head-waits, head_apart, ring-apart, waiting-pop, ring-pop, next-base, push_none, push_one, push_two, push-behind, ring_none, ring_one, ring_two}
 
 -- ---- what was reported so far
-pub found_none : (f : Reports) → f.any ≡ 0 → found_of f ≡ none
-unfolding found_of
-found_none f e = sym (pick_yes (eqb f.any 0) none (some f.all) (eq-eqb f.any 0 e))
-
-pub found_some : (f : Reports) → (f.any ≡ 0 → ⊥) → found_of f ≡ some f.all
-unfolding found_of
-found_some f e = sym (pick_no (eqb f.any 0) none (some f.all) (ne_eqb f.any 0 e))
 
 pub children-few : (o : Outcome) → children o ≤ 2
 children-few Dropped = omega arith

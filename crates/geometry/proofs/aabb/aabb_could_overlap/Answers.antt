@@ -21,8 +21,8 @@ returns-then-not-could_be_equal ty c =
 pub loop-k-preserved : goal.loop-k-preserved
 loop-k-preserved ty c =
     let a = c.args in
-      overlap-keep a.dim (axis_at_lem (arithmetic ty.R.Revision.second) a.dim a.count a.points.now) (scalar_at a.point_box.now) c.loop-k.k c.loop-k.invariant (omega arith)
-          _ _ _ c.axis_box-extent.ensures c.scalar_at-other.ensures c.could_be_equal.ensures c.if-not-could_be_equal.false
+    overlap-keep a.dim (axis_at_lem (arithmetic ty.R.Revision.second) a.dim a.count a.points.now) (scalar_at a.point_box.now) c.loop-k.k c.loop-k.invariant (omega arith)
+    _ _ _ c.axis_box-extent.ensures c.scalar_at-other.ensures c.could_be_equal.ensures c.if-not-could_be_equal.false
 
 pub returns : goal.returns
 unfolding aabb

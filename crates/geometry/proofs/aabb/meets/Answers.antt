@@ -26,14 +26,14 @@ returns-then-not-could_be_equal ty c =
 pub loop-k-preserved : goal.loop-k-preserved
 loop-k-preserved ty c =
     let a = c.args in
-      elim c.match-along.branch [
-        | in-Some+else-not-could_be_equal w ↦
-            segment_narrow (arithmetic ty.R.Revision.second) a.dim (point_at (suc a.dim) a.points.now 0) (point_at (suc a.dim) a.points.now 1) a.point_box.now c.loop-k.range c.loop-k.k _ c.loop-k.invariant (omega arith)
-            _ _ _ c.scalar_at.ensures c.place-a.ensures c.place-b.ensures _ c.along.ensures _ w.in-Some.is _ w.could_be_equal.ensures _ _ w.if-not-could_be_equal.false w.intersect-range.ensures w.range-is
-        | in_default w ↦
-            segment_skip (arithmetic ty.R.Revision.second) a.dim (point_at (suc a.dim) a.points.now 0) (point_at (suc a.dim) a.points.now 1) a.point_box.now c.loop-k.range c.loop-k.k _ c.loop-k.invariant (omega arith)
-            _ _ _ c.scalar_at.ensures c.place-a.ensures c.place-b.ensures _ c.along.ensures _ w.in_default.is w.range-is
-      ]
+    elim c.match-along.branch [
+      | in-Some+else-not-could_be_equal w ↦
+          segment_narrow (arithmetic ty.R.Revision.second) a.dim (point_at (suc a.dim) a.points.now 0) (point_at (suc a.dim) a.points.now 1) a.point_box.now c.loop-k.range c.loop-k.k _ c.loop-k.invariant (omega arith)
+          _ _ _ c.scalar_at.ensures c.place-a.ensures c.place-b.ensures _ c.along.ensures _ w.in-Some.is _ w.could_be_equal.ensures _ _ w.if-not-could_be_equal.false w.intersect-range.ensures w.range-is
+      | in_default w ↦
+          segment_skip (arithmetic ty.R.Revision.second) a.dim (point_at (suc a.dim) a.points.now 0) (point_at (suc a.dim) a.points.now 1) a.point_box.now c.loop-k.range c.loop-k.k _ c.loop-k.invariant (omega arith)
+          _ _ _ c.scalar_at.ensures c.place-a.ensures c.place-b.ensures _ c.along.ensures _ w.in_default.is w.range-is
+    ]
 
 pub returns : goal.returns
 returns ty c =

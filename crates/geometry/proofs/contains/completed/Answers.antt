@@ -1,16 +1,17 @@
 -- `completed` equals its definition: nothing was reported, or something.
 use mathlib.Core.Path.{sym, ap, ◌∙◌}
+use Rattle.model.specs.Hat.{Hat}
 use Rattle.model.specs.Subdivide.{complete}
 use Rattle.model.specs.declared.contains.Found.TheVariants.{Enclosed}
-use Rattle.geometry.proofs.subdivide.State.{found_some, found_none}
+use Rattle.geometry.specs.State.{found_of}
 use Rattle.geometry.proofs.contains.completed.Goals as goal
 
-pub returns-then-f-eq0 : goal.returns-then-f-eq0
+pub returns-in-None : goal.returns-in-None
 unfolding complete
-returns-then-f-eq0 c = let a = c.args in ap (λ f. complete f a.v) (sym (found_none a.f c.if-f-eq0.true))
+returns-in-None c = sym (ap (λ (f : Hat). complete (found_of f) c.args.v) c.in-None.is)
 
-pub returns : goal.returns
+pub returns-in-Some : goal.returns-in-Some
 unfolding complete
-returns c =
-    let a = c.args in
-    (λ i. Enclosed (c.positive_zero.ensures i) (c.positive_zero-2.ensures i) a.v.visited a.v.cuts a.v.depth) ∙ ap (λ f. complete f a.v) (sym (found_some a.f c.if-f-eq0.false))
+returns-in-Some c =
+    let v = c.args.v in
+    (λ i. Enclosed (c.positive_zero-lo.ensures i) (c.positive_zero-hi.ensures i) v.visited v.cuts v.depth) ∙ sym (ap (λ (f : Hat). complete (found_of f) v) c.in-Some.is)
