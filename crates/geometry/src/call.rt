@@ -8,10 +8,12 @@ ghost use Rattle.math.specs.Scalars.{zero_f};
 ghost use Rattle.model.specs.Layout.{scalars_of, slot_words};
 ghost use Rattle.model.specs.Call.{AllDoubles, curve_of, lent, usable, ordered, rising, multiplicity_ok};
 ghost use Rattle.model.specs.Call.{knots_valid, nodes_fit, revision_fits, revision_refusal, sizes_refusal, stated_words};
+ghost use Rattle.model.specs.Numbers.{code_of};
 ghost use Rattle.geometry.specs.Call.{CurveRefused, QuestionRefused, CallRefused};
 ghost use Rattle.geometry.specs.Multiplicity.{repeats_at, multiplicity_ok_at};
 
 use crate::nurb_curve::weights_positive;
+use model::refusal::Refusal;
 
 // A number, and at most 2^100 in size.
 fn usable(x: f64) -> bool
@@ -152,14 +154,14 @@ pub(crate) fn revision_fits(rev: usize) -> bool
     rev == 1 || rev == 2
 }
 
-// 16, or 0 where the revision is 1 or 2.
-pub fn revision_refusal(rev: usize) -> usize
-    ensures { result ≡ revision_refusal rev }
+// 16, unless the revision is 1 or 2.
+pub fn revision_refusal(rev: usize) -> Result<(), Refusal>
+    ensures { code_of result ≡ revision_refusal rev }
 {
     if !revision_fits(rev) {
-        return 16;
+        return Err(Refusal::Revision);
     }
-    0
+    Ok(())
 }
 
 // 1: the dimension is 2 or 3.
@@ -177,20 +179,20 @@ fn count_fits(degree: usize, count: usize) -> bool
     degree + 1 <= count && count <= 32
 }
 
-// The number from 1 to 3 by which the sizes of a curve are refused, or 0.
-pub fn sizes_refusal(dim: usize, degree: usize, count: usize) -> usize
-    ensures { result ≡ sizes_refusal dim degree count }
+// By which of 1 to 3 the sizes of a curve are refused.
+pub fn sizes_refusal(dim: usize, degree: usize, count: usize) -> Result<(), Refusal>
+    ensures { code_of result ≡ sizes_refusal dim degree count }
 {
     if !dim_fits(dim) {
-        return 1;
+        return Err(Refusal::Dim);
     }
     if degree > 7 {
-        return 2;
+        return Err(Refusal::Degree);
     }
     if !count_fits(degree, count) {
-        return 3;
+        return Err(Refusal::Count);
     }
-    0
+    Ok(())
 }
 
 // 4: each slice has its length.
@@ -251,7 +253,7 @@ fn bounds_ordered(dim: usize, count: usize, points: &[f64], sides: usize, point_
     all_ordered(point_box, sides)
 }
 
-// The number from 1 to 8 by which a curve is refused, or 0. Beside the curve, `sides` intervals are lent in `point_box`, and a resolution.
+// By which of 1 to 8 a curve is refused. Beside the curve, `sides` intervals are lent in `point_box`, and a resolution.
 pub(crate) fn curve_refusal(
     dim: usize,
     degree: usize,
@@ -261,31 +263,28 @@ pub(crate) fn curve_refusal(
     sides: usize,
     point_box: &[f64],
     resolution: f64,
-) -> usize
+) -> Result<(), Refusal>
     requires { sides ≤ dim + 1 }
     ensures { let v = curve_of dim degree count knots.now points.now in
-        CurveRefused sides point_box.now resolution v result }
+        CurveRefused sides point_box.now resolution v (code_of result) }
 {
-    let number = sizes_refusal(dim, degree, count);
-    if number != 0 {
-        return number;
-    }
+    sizes_refusal(dim, degree, count)?;
     if !lengths_fit(dim, degree, count, knots, points, sides, point_box) {
-        return 4;
+        return Err(Refusal::Length);
     }
     if !numbers_usable(knots, points, point_box, resolution) {
-        return 5;
+        return Err(Refusal::Value);
     }
     if !bounds_ordered(dim, count, points, sides, point_box) {
-        return 6;
+        return Err(Refusal::Order);
     }
     if !weights_positive(points, dim, count) {
-        return 7;
+        return Err(Refusal::Weight);
     }
     if !knots_valid(degree, count, knots) {
-        return 8;
+        return Err(Refusal::Knots);
     }
-    0
+    Ok(())
 }
 
 // 9: there are at most 4,096 nodes.
@@ -307,7 +306,7 @@ pub(crate) fn slot_words(dim: usize, degree: usize, count: usize) -> usize
 pub fn stated_words(dim: usize, degree: usize, count: usize, nodes: usize) -> usize
     ensures { result ≡ stated_words dim degree count nodes }
 {
-    if sizes_refusal(dim, degree, count) != 0 {
+    if sizes_refusal(dim, degree, count).is_err() {
         return 0;
     }
     if !nodes_fit(nodes) {
@@ -316,7 +315,7 @@ pub fn stated_words(dim: usize, degree: usize, count: usize, nodes: usize) -> us
     (nodes + 3) * slot_words(dim, degree, count)
 }
 
-// The number by which a question is refused, whatever is lent to search it, or 0: 16, then 1 to 9.
+// By which of 16, then 1 to 9, a question is refused, whatever is lent to search it.
 pub fn question_refusal(
     rev: usize,
     dim: usize,
@@ -327,27 +326,21 @@ pub fn question_refusal(
     point_box: &[f64],
     resolution: f64,
     nodes: usize,
-) -> usize
+) -> Result<(), Refusal>
     ensures { let v = curve_of dim degree count knots.now points.now in
-        QuestionRefused rev v point_box.now resolution nodes result }
+        QuestionRefused rev v point_box.now resolution nodes (code_of result) }
 {
-    let first = revision_refusal(rev);
-    if first != 0 {
-        return first;
-    }
-    let number = curve_refusal(
+    revision_refusal(rev)?;
+    curve_refusal(
         dim, degree, count, knots, points, dim, point_box, resolution,
-    );
-    if number != 0 {
-        return number;
-    }
+    )?;
     if !nodes_fit(nodes) {
-        return 9;
+        return Err(Refusal::Nodes);
     }
-    0
+    Ok(())
 }
 
-// The number by which a call is refused, or 0: that of its question, then 10.
+// By what a call is refused: as its question is, then by 10.
 pub(crate) fn refusal(
     rev: usize,
     dim: usize,
@@ -359,18 +352,15 @@ pub(crate) fn refusal(
     resolution: f64,
     nodes: usize,
     work_len: usize,
-) -> usize
+) -> Result<(), Refusal>
     ensures { let k = knots.now in let p = points.now in let b = point_box.now in
-        CallRefused (lent rev dim degree count k p b resolution nodes work_len) result }
+        CallRefused (lent rev dim degree count k p b resolution nodes work_len) (code_of result) }
 {
-    let number = question_refusal(
+    question_refusal(
         rev, dim, degree, count, knots, points, point_box, resolution, nodes,
-    );
-    if number != 0 {
-        return number;
-    }
+    )?;
     if stated_words(dim, degree, count, nodes) > work_len {
-        return 10;
+        return Err(Refusal::Work);
     }
-    0
+    Ok(())
 }
