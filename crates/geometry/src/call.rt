@@ -1,12 +1,11 @@
 // What a call may lend: the check 16 of request E8 and 1 to 10 of the scope, each equal to its definition. 16 looks at
 // the revision, 1 to 3 at the sizes, 1 to 8 at a curve, 9 and 10 at the nodes and the work area.
-ghost use Rattle.std.specs.Prelude.{◌≡◌, suc, max, ◌+◌, ◌*◌, ◌≤◌, ◌<◌, length, T, leb, eqb, true, ◌&&◌, ◌||◌};
-ghost use Rattle.std.specs.Float.{binary64};
-ghost use Rattle.std.specs.Float.Ieee.{fits, lt, le, eq};
+ghost use Rattle.std.specs.Prelude.{◌≡◌, suc, ◌+◌, ◌*◌, ◌≤◌, ◌<◌, length, leb, eqb, true, ◌&&◌, ◌||◌};
+ghost use Rattle.std.specs.Float.Ieee.{lt, le, eq};
 ghost use Rattle.lists.specs.Lists.{all};
 ghost use Rattle.math.specs.Scalars.{zero_f};
 ghost use Rattle.model.specs.Layout.{scalars_of, slot_words};
-ghost use Rattle.model.specs.Call.{AllDoubles, curve_of, lent, usable, ordered, rising, multiplicity_ok};
+ghost use Rattle.model.specs.Call.{curve_of, lent, usable, ordered, rising, multiplicity_ok};
 ghost use Rattle.model.specs.Call.{knots_valid, nodes_fit, revision_fits, revision_refusal, sizes_refusal, stated_words};
 ghost use Rattle.model.specs.Numbers.{code_of};
 ghost use Rattle.geometry.specs.Call.{CurveRefused, QuestionRefused, CallRefused};
@@ -17,8 +16,7 @@ use model::refusal::Refusal;
 
 // A number, and at most 2^100 in size.
 fn usable(x: f64) -> bool
-    ensures equal { result ≡ usable x }
-    ensures double { T (fits binary64 x) }
+    ensures { result ≡ usable x }
 {
     let most = f64::from_bits(0x4630_0000_0000_0000);
     -most <= x && x <= most
@@ -26,17 +24,9 @@ fn usable(x: f64) -> bool
 
 // Every number of a list is usable.
 fn all_usable(l: &[f64]) -> bool
-    ensures equal { result ≡ all usable l.now }
-    ensures doubles { result ≡ true → AllDoubles l.now }
+    ensures { result ≡ all usable l.now }
 {
-    let mut i = 0;
-    while i < l.len() {
-        if !usable(l[i]) {
-            return false;
-        }
-        i += 1;
-    }
-    true
+    l.iter().all(|x| usable(*x))
 }
 
 // No interval of the first n has its lo above its hi.
@@ -44,28 +34,14 @@ fn all_ordered(l: &[f64], n: usize) -> bool
     requires { 2 * n ≤ length l.now }
     ensures { result ≡ all ordered (scalars_of n l.now) }
 {
-    let mut i = 0;
-    while i < n {
-        if !(l[2 * i] <= l[2 * i + 1]) {
-            return false;
-        }
-        i += 1;
-    }
-    true
+    (0..n).all(|i| l[2 * i] <= l[2 * i + 1])
 }
 
 // No knot is below the one before.
 fn rising(knots: &[f64]) -> bool
     ensures { result ≡ rising knots.now }
 {
-    let mut i = 1;
-    while i < knots.len() {
-        if !(knots[i - 1] <= knots[i]) {
-            return false;
-        }
-        i += 1;
-    }
-    true
+    knots.windows(2).all(|w| w[0] <= w[1])
 }
 
 // The knot u is an end of the domain from a to b.
@@ -80,13 +56,6 @@ fn is_inner(a: f64, b: f64, u: f64) -> bool
     ensures { result ≡ (lt a u && lt u b) }
 {
     a < u && u < b
-}
-
-// How often a knot inside the domain may occur.
-fn inner_most(degree: usize) -> usize
-    ensures { result ≡ max degree 1 }
-{
-    if degree == 0 { 1 } else { degree }
 }
 
 // Knot number i is followed by an equal one, k places on.
@@ -110,7 +79,7 @@ fn multiplicity_ok(degree: usize, a: f64, b: f64, knots: &[f64], i: usize) -> bo
         return !repeats_at(knots, i, degree + 1);
     }
     if is_inner(a, b, u) {
-        return !repeats_at(knots, i, inner_most(degree));
+        return !repeats_at(knots, i, degree.max(1));
     }
     true
 }
@@ -121,14 +90,7 @@ fn multiplicities_ok(degree: usize, a: f64, b: f64, knots: &[f64]) -> bool
     ensures { let l = knots.now in
         result ≡ all (λ u. multiplicity_ok degree a b l u) l }
 {
-    let mut i = 0;
-    while i < knots.len() {
-        if !multiplicity_ok(degree, a, b, knots, i) {
-            return false;
-        }
-        i += 1;
-    }
-    true
+    (0..knots.len()).all(|i| multiplicity_ok(degree, a, b, knots, i))
 }
 
 // No knot falls, the domain's start is below its end, and no value occurs too often.
@@ -221,9 +183,8 @@ fn lengths_fit(
 
 // 5: every number is usable, and the resolution is not below 0.
 fn numbers_usable(knots: &[f64], points: &[f64], point_box: &[f64], resolution: f64) -> bool
-    ensures equal { result ≡ (all usable knots.now && all usable points.now
+    ensures { result ≡ (all usable knots.now && all usable points.now
         && all usable point_box.now && usable resolution && le zero_f resolution) }
-    ensures doubles { result ≡ true → AllDoubles knots.now × AllDoubles point_box.now }
 {
     if !all_usable(knots) {
         return false;

@@ -1,5 +1,5 @@
--- `curve_refusal` equals its definition: the sizes, then the first check from 4 on that fails gives its number. Where none fails, check 5 has read each knot and each bound of the box,
--- so they are doubles.
+-- `curve_refusal` equals its definition: the sizes, then the first check from 4 on that fails gives its number. Each
+-- knot and each bound of the box is an f64, and so a double.
 use mathlib.Core.Path.{◌≡◌, sym, ◌∙◌}
 use mathlib.Core.List.{List, [], ◌∷◌}
 use mathlib.Core.Bool.{Bool, true}
@@ -78,7 +78,7 @@ returns-then-not-numbers_usable c =
     let a = c.args in
     let sizes = sym c.in_ok-sizes_refusal.ensures in
     let long = sym c.lengths_fit.ensures ∙ c.if-not-lengths_fit.false in
-    given _ _ _ _ 5 (λ z. omega (arith, z)) (sym (past4 _ _ _ _ sizes long ∙ fail _ 5 (numbers a.sides a.point_box.now a.resolution (curve_of a.dim a.degree a.count a.knots.now a.points.now)) _ (sym c.numbers_usable.ensures.equal ∙ c.if-not-numbers_usable.true)))
+    given _ _ _ _ 5 (λ z. omega (arith, z)) (sym (past4 _ _ _ _ sizes long ∙ fail _ 5 (numbers a.sides a.point_box.now a.resolution (curve_of a.dim a.degree a.count a.knots.now a.points.now)) _ (sym c.numbers_usable.ensures ∙ c.if-not-numbers_usable.true)))
 
 pub bounds_ordered-requires : goal.bounds_ordered-requires
 bounds_ordered-requires c =
@@ -93,7 +93,7 @@ returns-then-not-bounds_ordered c =
     let a = c.args in
     let sizes = sym c.in_ok-sizes_refusal.ensures in
     let long = sym c.lengths_fit.ensures ∙ c.if-not-lengths_fit.false in
-    let finite = sym c.numbers_usable.ensures.equal ∙ c.if-not-numbers_usable.false in
+    let finite = sym c.numbers_usable.ensures ∙ c.if-not-numbers_usable.false in
     given _ _ _ _ 6 (λ z. omega (arith, z)) (sym (past5 _ _ _ _ sizes long finite ∙ fail _ 6 (bounds a.sides a.point_box.now a.resolution (curve_of a.dim a.degree a.count a.knots.now a.points.now)) _ (sym c.bounds_ordered.ensures ∙ c.if-not-bounds_ordered.true)))
 
 pub weights_positive-requires : goal.weights_positive-requires
@@ -108,7 +108,7 @@ unfolding lengths_fit numbers_usable bounds_ordered weights_fit
 returns-then-not-weights_positive c =
     let sizes = sym c.in_ok-sizes_refusal.ensures in
     let long = sym c.lengths_fit.ensures ∙ c.if-not-lengths_fit.false in
-    let finite = sym c.numbers_usable.ensures.equal ∙ c.if-not-numbers_usable.false in
+    let finite = sym c.numbers_usable.ensures ∙ c.if-not-numbers_usable.false in
     let ordered = sym c.bounds_ordered.ensures ∙ c.if-not-bounds_ordered.false in
     given _ _ _ _ 7 (λ z. omega (arith, z)) (sym (past6 _ _ _ _ sizes long finite ordered ∙ fail _ 7 weights_fit _ (sym c.weights_positive.ensures ∙ c.if-not-weights_positive.true)))
 
@@ -124,7 +124,7 @@ unfolding lengths_fit numbers_usable bounds_ordered weights_fit knots_fit
 returns-then-not-knots_valid c =
     let sizes = sym c.in_ok-sizes_refusal.ensures in
     let long = sym c.lengths_fit.ensures ∙ c.if-not-lengths_fit.false in
-    let finite = sym c.numbers_usable.ensures.equal ∙ c.if-not-numbers_usable.false in
+    let finite = sym c.numbers_usable.ensures ∙ c.if-not-numbers_usable.false in
     let ordered = sym c.bounds_ordered.ensures ∙ c.if-not-bounds_ordered.false in
     let weights = sym c.weights_positive.ensures ∙ c.if-not-weights_positive.false in
     given _ _ _ _ 8 (λ z. omega (arith, z)) (sym (past7 _ _ _ _ sizes long finite ordered weights ∙ fail _ 8 knots_fit _ (sym c.knots_valid.ensures ∙ c.if-not-knots_valid.true)))
@@ -134,11 +134,10 @@ unfolding lengths_fit numbers_usable bounds_ordered weights_fit knots_fit
 returns c =
     let sizes = sym c.in_ok-sizes_refusal.ensures in
     let long = sym c.lengths_fit.ensures ∙ c.if-not-lengths_fit.false in
-    let finite = sym c.numbers_usable.ensures.equal ∙ c.if-not-numbers_usable.false in
+    let finite = sym c.numbers_usable.ensures ∙ c.if-not-numbers_usable.false in
     let ordered = sym c.bounds_ordered.ensures ∙ c.if-not-bounds_ordered.false in
-    let weights = sym c.weights_positive.ensures ∙ c.if-not-weights_positive.false in
-    let doubles = c.numbers_usable.ensures.doubles c.if-not-numbers_usable.false in record {
+    let weights = sym c.weights_positive.ensures ∙ c.if-not-weights_positive.false in record {
       number = sym (past7 _ _ _ _ sizes long finite ordered weights ∙ pass _ 8 knots_fit _ (sym c.knots_valid.ensures ∙ c.if-not-knots_valid.false) ∙ none_left _ 9);
-      knots = λ _. doubles.0;
-      bounds = λ _. doubles.1;
+      knots = λ _ i _. c.type_inv.knots i;
+      bounds = λ _ i _. c.type_inv.point_box i;
     }
