@@ -5,10 +5,11 @@ ghost use Rattle.std.specs.Float.Ieee.{lt, le, eq};
 ghost use Rattle.lists.specs.Lists.{all};
 ghost use Rattle.math.specs.Scalars.{zero_f};
 ghost use Rattle.model.specs.Layout.{scalars_of, slot_words};
-ghost use Rattle.model.specs.Call.{curve_of, lent, usable, ordered, rising, multiplicity_ok};
+ghost use Rattle.model.specs.Call.{curve_of, usable, ordered, rising, multiplicity_ok};
+ghost use Rattle.model.specs.Call.{lengths_fit, numbers_usable, bounds_ordered, curve_refusal, question_refusal, refusal};
 ghost use Rattle.model.specs.Call.{knots_valid, nodes_fit, revision_fits, revision_refusal, sizes_refusal, stated_words};
 ghost use Rattle.model.specs.Numbers.{code_of};
-ghost use Rattle.geometry.specs.Call.{CurveRefused, QuestionRefused, CallRefused};
+ghost use Rattle.geometry.specs.Call.{curve_in, call_in, QuestionRefused};
 ghost use Rattle.geometry.specs.Multiplicity.{repeats_at, multiplicity_ok_at};
 
 use crate::nurb_curve::weights_positive;
@@ -157,97 +158,6 @@ pub fn sizes_refusal(dim: usize, degree: usize, count: usize) -> Result<(), Refu
     Ok(())
 }
 
-// 4: each slice has its length.
-fn lengths_fit(
-    dim: usize,
-    degree: usize,
-    count: usize,
-    knots: &[f64],
-    points: &[f64],
-    sides: usize,
-    point_box: &[f64],
-) -> bool
-    requires { (dim ≤ 3) × (degree ≤ 7) × (count ≤ 32) × (sides ≤ 4) }
-    ensures { result ≡ (eqb (length knots.now) (count + degree + 1)
-        && eqb (length points.now) (2 * suc dim * count)
-        && eqb (length point_box.now) (2 * sides)) }
-{
-    if knots.len() != count + degree + 1 {
-        return false;
-    }
-    if points.len() != 2 * (dim + 1) * count {
-        return false;
-    }
-    point_box.len() == 2 * sides
-}
-
-// 5: every number is usable, and the resolution is not below 0.
-fn numbers_usable(knots: &[f64], points: &[f64], point_box: &[f64], resolution: f64) -> bool
-    ensures { result ≡ (all usable knots.now && all usable points.now
-        && all usable point_box.now && usable resolution && le zero_f resolution) }
-{
-    if !all_usable(knots) {
-        return false;
-    }
-    if !all_usable(points) {
-        return false;
-    }
-    if !all_usable(point_box) {
-        return false;
-    }
-    if !usable(resolution) {
-        return false;
-    }
-    0.0 <= resolution
-}
-
-// 6: no lo is above its hi.
-fn bounds_ordered(dim: usize, count: usize, points: &[f64], sides: usize, point_box: &[f64]) -> bool
-    requires dim_bound { (dim ≤ 3) × (count ≤ 32) × (2 * (suc dim * count) ≤ length points.now) }
-    requires sides_in_bounds { 2 * sides ≤ length point_box.now }
-    ensures { result ≡ (all ordered (scalars_of (suc dim * count) points.now)
-        && all ordered (scalars_of sides point_box.now)) }
-{
-    if !all_ordered(points, (dim + 1) * count) {
-        return false;
-    }
-    all_ordered(point_box, sides)
-}
-
-// By which of 1 to 8 a curve is refused. Beside the curve, `sides` intervals are lent in `point_box`, and a resolution.
-pub(crate) fn curve_refusal(
-    dim: usize,
-    degree: usize,
-    count: usize,
-    knots: &[f64],
-    points: &[f64],
-    sides: usize,
-    point_box: &[f64],
-    resolution: f64,
-) -> Result<(), Refusal>
-    requires { sides ≤ dim + 1 }
-    ensures { let v = curve_of dim degree count knots.now points.now in
-        CurveRefused sides point_box.now resolution v (code_of result) }
-{
-    sizes_refusal(dim, degree, count)?;
-    if !lengths_fit(dim, degree, count, knots, points, sides, point_box) {
-        return Err(Refusal::Length);
-    }
-    if !numbers_usable(knots, points, point_box, resolution) {
-        return Err(Refusal::Value);
-    }
-    if !bounds_ordered(dim, count, points, sides, point_box) {
-        return Err(Refusal::Order);
-    }
-    if !weights_positive(points, dim, count) {
-        return Err(Refusal::Weight);
-    }
-    if !knots_valid(degree, count, knots) {
-        return Err(Refusal::Knots);
-    }
-    Ok(())
-}
-
 // 9: there are at most 4,096 nodes.
 fn nodes_fit(nodes: usize) -> bool
     ensures { result ≡ nodes_fit nodes }
@@ -276,6 +186,106 @@ pub fn stated_words(dim: usize, degree: usize, count: usize, nodes: usize) -> us
     (nodes + 3) * slot_words(dim, degree, count)
 }
 
+// What a call lends beside its work area, and what it asks: a curve, a box and a resolution, at most so many nodes, and
+// the revision.
+#[derive(Clone, Copy)]
+pub(crate) struct Lent<'a> {
+    pub(crate) rev: usize,
+    pub(crate) dim: usize,
+    pub(crate) degree: usize,
+    pub(crate) count: usize,
+    pub(crate) knots: &'a [f64],
+    pub(crate) points: &'a [f64],
+    pub(crate) point_box: &'a [f64],
+    pub(crate) resolution: f64,
+    pub(crate) nodes: usize,
+}
+
+impl Lent<'_> {
+    // 4: each slice has its length.
+    fn lengths_fit(self) -> bool
+        requires { (self.dim ≤ 3) × (self.degree ≤ 7) × (self.count ≤ 32) }
+        ensures { let q = self.entry in
+            result ≡ lengths_fit q.dim q.point_box.now (curve_in q) }
+    {
+        self.knots.len() == self.count + self.degree + 1
+            && self.points.len() == 2 * (self.dim + 1) * self.count
+            && self.point_box.len() == 2 * self.dim
+    }
+
+    // 5: every number is usable, and the resolution is not below 0.
+    fn numbers_usable(self) -> bool
+        ensures { let q = self.entry in
+            result ≡ numbers_usable q.point_box.now q.resolution (curve_in q) }
+    {
+        all_usable(self.knots)
+            && all_usable(self.points)
+            && all_usable(self.point_box)
+            && usable(self.resolution)
+            && 0.0 <= self.resolution
+    }
+
+    // 6: no lo is above its hi.
+    fn bounds_ordered(self) -> bool
+        requires sizes { (self.dim ≤ 3) × (self.count ≤ 32) }
+        requires points_in_bounds { 2 * (suc self.dim * self.count) ≤ length self.points.now }
+        requires sides_in_bounds { 2 * self.dim ≤ length self.point_box.now }
+        ensures { let q = self.entry in
+            result ≡ bounds_ordered q.dim q.point_box.now (curve_in q) }
+    {
+        all_ordered(self.points, (self.dim + 1) * self.count)
+            && all_ordered(self.point_box, self.dim)
+    }
+
+    // By which of 1 to 8 the curve is refused, with the box and the resolution.
+    fn curve_refusal(self) -> Result<(), Refusal>
+        ensures { let q = self.entry in
+            code_of result ≡ curve_refusal q.dim q.point_box.now q.resolution (curve_in q) }
+    {
+        sizes_refusal(self.dim, self.degree, self.count)?;
+        if !self.lengths_fit() {
+            return Err(Refusal::Length);
+        }
+        if !self.numbers_usable() {
+            return Err(Refusal::Value);
+        }
+        if !self.bounds_ordered() {
+            return Err(Refusal::Order);
+        }
+        if !weights_positive(self.points, self.dim, self.count) {
+            return Err(Refusal::Weight);
+        }
+        if !knots_valid(self.degree, self.count, self.knots) {
+            return Err(Refusal::Knots);
+        }
+        Ok(())
+    }
+
+    // By which of 16, then 1 to 9, the question is refused, whatever is lent to search it.
+    fn question_refusal(self) -> Result<(), Refusal>
+        ensures { let q = self.entry in
+            code_of result ≡ question_refusal q.rev (curve_in q) q.point_box.now q.resolution q.nodes }
+    {
+        revision_refusal(self.rev)?;
+        self.curve_refusal()?;
+        if !nodes_fit(self.nodes) {
+            return Err(Refusal::Nodes);
+        }
+        Ok(())
+    }
+
+    // By what the call is refused, with a work area of so many words: as its question is, then by 10.
+    pub(crate) fn refusal(self, work_len: usize) -> Result<(), Refusal>
+        ensures { code_of result ≡ refusal (call_in self.entry work_len) }
+    {
+        self.question_refusal()?;
+        if stated_words(self.dim, self.degree, self.count, self.nodes) > work_len {
+            return Err(Refusal::Work);
+        }
+        Ok(())
+    }
+}
+
 // By which of 16, then 1 to 9, a question is refused, whatever is lent to search it.
 pub fn question_refusal(
     rev: usize,
@@ -291,37 +301,16 @@ pub fn question_refusal(
     ensures { let v = curve_of dim degree count knots.now points.now in
         QuestionRefused rev v point_box.now resolution nodes (code_of result) }
 {
-    revision_refusal(rev)?;
-    curve_refusal(
-        dim, degree, count, knots, points, dim, point_box, resolution,
-    )?;
-    if !nodes_fit(nodes) {
-        return Err(Refusal::Nodes);
-    }
-    Ok(())
-}
-
-// By what a call is refused: as its question is, then by 10.
-pub(crate) fn refusal(
-    rev: usize,
-    dim: usize,
-    degree: usize,
-    count: usize,
-    knots: &[f64],
-    points: &[f64],
-    point_box: &[f64],
-    resolution: f64,
-    nodes: usize,
-    work_len: usize,
-) -> Result<(), Refusal>
-    ensures { let k = knots.now in let p = points.now in let b = point_box.now in
-        CallRefused (lent rev dim degree count k p b resolution nodes work_len) (code_of result) }
-{
-    question_refusal(
-        rev, dim, degree, count, knots, points, point_box, resolution, nodes,
-    )?;
-    if stated_words(dim, degree, count, nodes) > work_len {
-        return Err(Refusal::Work);
-    }
-    Ok(())
+    let lent = Lent {
+        rev,
+        dim,
+        degree,
+        count,
+        knots,
+        points,
+        point_box,
+        resolution,
+        nodes,
+    };
+    lent.question_refusal()
 }

@@ -7,13 +7,13 @@ ghost use Rattle.model.specs.Subdivide.{positive_zero, complete};
 ghost use Rattle.model.specs.Call.{lent, arithmetic_of};
 ghost use Rattle.model.specs.Enclosure.{Doubles, Accepted};
 ghost use Rattle.model.specs.Promise.{Answers};
-ghost use Rattle.geometry.specs.Call.{Searches};
+ghost use Rattle.geometry.specs.Call.{call_in, Searches};
 ghost use Rattle.geometry.specs.Slots.{words_of, piece_at, depth_at, Inside, Waits, Fit};
 ghost use Rattle.geometry.specs.Ring.{base_of, ring_base, Ring};
 ghost use Rattle.geometry.specs.State.{found_of, with_depths, asked_of, Turned, Begins, RingSearched};
 
 use crate::aabb::curve_could_meet_aabb;
-use crate::call::{refusal, slot_words, stated_words};
+use crate::call::{Lent, slot_words, stated_words};
 use crate::slots::{Shape, depth_at, fill, load, set_depth, slot_base};
 use crate::subdivide::{Outcome, Reports, Search, after_visit, has_bad_weight, wrap};
 use crate::visits::visit;
@@ -162,34 +162,25 @@ fn search_ring(
 }
 
 // The search of a call that nothing is wrong with. The stated words of the work area are 0 at its end.
-fn search_lent(
-    rev: usize,
-    dim: usize,
-    degree: usize,
-    count: usize,
-    knots: &[f64],
-    points: &[f64],
-    point_box: &[f64],
-    resolution: f64,
-    nodes: usize,
-    work: &mut [f64],
-) -> Found
-    requires { let c = lent rev dim degree count knots.now points.now point_box.now resolution nodes (length work.old) in
+fn search_lent(q: Lent<'_>, work: &mut [f64]) -> Found
+    requires { let c = call_in q (length work.old) in
         Accepted c × Doubles c }
-    ensures { let k = knots.now in let p = points.now in let b = point_box.now in
-        let c = lent rev dim degree count k p b resolution nodes (length work.old) in
+    ensures { let c = call_in q.entry (length work.old) in
         Searches (arithmetic_of c) c work.old work.new result }
 {
-    let second = rev == 2;
-    let words = stated_words(dim, degree, count, nodes);
-    if !curve_could_meet_aabb(points, point_box, dim, degree, count, second) {
+    let dim = q.dim;
+    let degree = q.degree;
+    let count = q.count;
+    let second = q.rev == 2;
+    let words = stated_words(dim, degree, count, q.nodes);
+    if !curve_could_meet_aabb(q.points, q.point_box, dim, degree, count, second) {
         fill(work, 0, words, 0.0);
         return Found::Nothing(0, 0, 0);
     }
     let s = Shape { dim, degree, count };
-    load(work, 0, s, knots, points);
+    load(work, 0, s, q.knots, q.points);
     set_depth(work, 0, slot_words(dim, degree, count), 0);
-    let r = search_ring(work, s, point_box, resolution, nodes, second);
+    let r = search_ring(work, s, q.point_box, q.resolution, q.nodes, second);
     fill(work, 0, words, 0.0);
     r
 }
@@ -224,7 +215,7 @@ pub fn curve_could_contain(
         let c = lent rev dim degree count k p b resolution nodes (length work.old) in
         Answers c work.old work.new result }
 {
-    if let Err(refused) = refusal(
+    let q = Lent {
         rev,
         dim,
         degree,
@@ -234,11 +225,9 @@ pub fn curve_could_contain(
         point_box,
         resolution,
         nodes,
-        work.len(),
-    ) {
+    };
+    if let Err(refused) = q.refusal(work.len()) {
         return Found::Refused(refused.number(), 0, 0, 0);
     }
-    search_lent(
-        rev, dim, degree, count, knots, points, point_box, resolution, nodes, work,
-    )
+    search_lent(q, work)
 }
