@@ -1,22 +1,23 @@
 // What a call may lend: the check 16 of request E8 and 1 to 10 of the scope, each equal to its definition. 16 looks at
 // the revision, 1 to 3 at the sizes, 1 to 8 at a curve, 9 and 10 at the nodes and the work area.
-ghost use Rattle.std.specs.Prelude.{◌≡◌, suc, max, ◌+◌, ◌*◌, ◌≤◌, ◌<◌, length, T, leb, eqb, true, ◌&&◌, ◌||◌};
-ghost use Rattle.std.specs.Float.{binary64};
-ghost use Rattle.std.specs.Float.Ieee.{fits, lt, le, eq};
+ghost use Rattle.std.specs.Prelude.{◌≡◌, suc, ◌+◌, ◌*◌, ◌≤◌, ◌<◌, length, leb, eqb, true, ◌&&◌, ◌||◌};
+ghost use Rattle.std.specs.Float.Ieee.{lt, le, eq};
 ghost use Rattle.lists.specs.Lists.{all};
 ghost use Rattle.math.specs.Scalars.{zero_f};
 ghost use Rattle.model.specs.Layout.{scalars_of, slot_words};
-ghost use Rattle.model.specs.Call.{AllDoubles, curve_of, lent, usable, ordered, rising, multiplicity_ok};
+ghost use Rattle.model.specs.Call.{curve_of, usable, ordered, rising, multiplicity_ok};
+ghost use Rattle.model.specs.Call.{lengths_fit, numbers_usable, bounds_ordered, curve_refusal, question_refusal, refusal};
 ghost use Rattle.model.specs.Call.{knots_valid, nodes_fit, revision_fits, revision_refusal, sizes_refusal, stated_words};
-ghost use Rattle.geometry.specs.Call.{CurveRefused, QuestionRefused, CallRefused};
+ghost use Rattle.model.specs.Numbers.{code_of};
+ghost use Rattle.geometry.specs.Call.{curve_in, call_in, QuestionRefused};
 ghost use Rattle.geometry.specs.Multiplicity.{repeats_at, multiplicity_ok_at};
 
 use crate::nurb_curve::weights_positive;
+use model::refusal::Refusal;
 
 // A number, and at most 2^100 in size.
 fn usable(x: f64) -> bool
-    ensures equal { result ≡ usable x }
-    ensures double { T (fits binary64 x) }
+    ensures { result ≡ usable x }
 {
     let most = f64::from_bits(0x4630_0000_0000_0000);
     -most <= x && x <= most
@@ -24,17 +25,9 @@ fn usable(x: f64) -> bool
 
 // Every number of a list is usable.
 fn all_usable(l: &[f64]) -> bool
-    ensures equal { result ≡ all usable l.now }
-    ensures doubles { result ≡ true → AllDoubles l.now }
+    ensures { result ≡ all usable l.now }
 {
-    let mut i = 0;
-    while i < l.len() {
-        if !usable(l[i]) {
-            return false;
-        }
-        i += 1;
-    }
-    true
+    l.iter().all(|x| usable(*x))
 }
 
 // No interval of the first n has its lo above its hi.
@@ -42,28 +35,14 @@ fn all_ordered(l: &[f64], n: usize) -> bool
     requires { 2 * n ≤ length l.now }
     ensures { result ≡ all ordered (scalars_of n l.now) }
 {
-    let mut i = 0;
-    while i < n {
-        if !(l[2 * i] <= l[2 * i + 1]) {
-            return false;
-        }
-        i += 1;
-    }
-    true
+    (0..n).all(|i| l[2 * i] <= l[2 * i + 1])
 }
 
 // No knot is below the one before.
 fn rising(knots: &[f64]) -> bool
     ensures { result ≡ rising knots.now }
 {
-    let mut i = 1;
-    while i < knots.len() {
-        if !(knots[i - 1] <= knots[i]) {
-            return false;
-        }
-        i += 1;
-    }
-    true
+    knots.windows(2).all(|w| w[0] <= w[1])
 }
 
 // The knot u is an end of the domain from a to b.
@@ -78,13 +57,6 @@ fn is_inner(a: f64, b: f64, u: f64) -> bool
     ensures { result ≡ (lt a u && lt u b) }
 {
     a < u && u < b
-}
-
-// How often a knot inside the domain may occur.
-fn inner_most(degree: usize) -> usize
-    ensures { result ≡ max degree 1 }
-{
-    if degree == 0 { 1 } else { degree }
 }
 
 // Knot number i is followed by an equal one, k places on.
@@ -108,7 +80,7 @@ fn multiplicity_ok(degree: usize, a: f64, b: f64, knots: &[f64], i: usize) -> bo
         return !repeats_at(knots, i, degree + 1);
     }
     if is_inner(a, b, u) {
-        return !repeats_at(knots, i, inner_most(degree));
+        return !repeats_at(knots, i, degree.max(1));
     }
     true
 }
@@ -119,14 +91,7 @@ fn multiplicities_ok(degree: usize, a: f64, b: f64, knots: &[f64]) -> bool
     ensures { let l = knots.now in
         result ≡ all (λ u. multiplicity_ok degree a b l u) l }
 {
-    let mut i = 0;
-    while i < knots.len() {
-        if !multiplicity_ok(degree, a, b, knots, i) {
-            return false;
-        }
-        i += 1;
-    }
-    true
+    (0..knots.len()).all(|i| multiplicity_ok(degree, a, b, knots, i))
 }
 
 // No knot falls, the domain's start is below its end, and no value occurs too often.
@@ -152,14 +117,14 @@ pub(crate) fn revision_fits(rev: usize) -> bool
     rev == 1 || rev == 2
 }
 
-// 16, or 0 where the revision is 1 or 2.
-pub fn revision_refusal(rev: usize) -> usize
-    ensures { result ≡ revision_refusal rev }
+// 16, unless the revision is 1 or 2.
+pub fn revision_refusal(rev: usize) -> Result<(), Refusal>
+    ensures { code_of result ≡ revision_refusal rev }
 {
     if !revision_fits(rev) {
-        return 16;
+        return Err(Refusal::Revision);
     }
-    0
+    Ok(())
 }
 
 // 1: the dimension is 2 or 3.
@@ -177,115 +142,20 @@ fn count_fits(degree: usize, count: usize) -> bool
     degree + 1 <= count && count <= 32
 }
 
-// The number from 1 to 3 by which the sizes of a curve are refused, or 0.
-pub fn sizes_refusal(dim: usize, degree: usize, count: usize) -> usize
-    ensures { result ≡ sizes_refusal dim degree count }
+// By which of 1 to 3 the sizes of a curve are refused.
+pub fn sizes_refusal(dim: usize, degree: usize, count: usize) -> Result<(), Refusal>
+    ensures { code_of result ≡ sizes_refusal dim degree count }
 {
     if !dim_fits(dim) {
-        return 1;
+        return Err(Refusal::Dim);
     }
     if degree > 7 {
-        return 2;
+        return Err(Refusal::Degree);
     }
     if !count_fits(degree, count) {
-        return 3;
+        return Err(Refusal::Count);
     }
-    0
-}
-
-// 4: each slice has its length.
-fn lengths_fit(
-    dim: usize,
-    degree: usize,
-    count: usize,
-    knots: &[f64],
-    points: &[f64],
-    sides: usize,
-    point_box: &[f64],
-) -> bool
-    requires { (dim ≤ 3) × (degree ≤ 7) × (count ≤ 32) × (sides ≤ 4) }
-    ensures { result ≡ (eqb (length knots.now) (count + degree + 1)
-        && eqb (length points.now) (2 * suc dim * count)
-        && eqb (length point_box.now) (2 * sides)) }
-{
-    if knots.len() != count + degree + 1 {
-        return false;
-    }
-    if points.len() != 2 * (dim + 1) * count {
-        return false;
-    }
-    point_box.len() == 2 * sides
-}
-
-// 5: every number is usable, and the resolution is not below 0.
-fn numbers_usable(knots: &[f64], points: &[f64], point_box: &[f64], resolution: f64) -> bool
-    ensures equal { result ≡ (all usable knots.now && all usable points.now
-        && all usable point_box.now && usable resolution && le zero_f resolution) }
-    ensures doubles { result ≡ true → AllDoubles knots.now × AllDoubles point_box.now }
-{
-    if !all_usable(knots) {
-        return false;
-    }
-    if !all_usable(points) {
-        return false;
-    }
-    if !all_usable(point_box) {
-        return false;
-    }
-    if !usable(resolution) {
-        return false;
-    }
-    0.0 <= resolution
-}
-
-// 6: no lo is above its hi.
-fn bounds_ordered(dim: usize, count: usize, points: &[f64], sides: usize, point_box: &[f64]) -> bool
-    requires dim_bound { (dim ≤ 3) × (count ≤ 32) × (2 * (suc dim * count) ≤ length points.now) }
-    requires sides_in_bounds { 2 * sides ≤ length point_box.now }
-    ensures { result ≡ (all ordered (scalars_of (suc dim * count) points.now)
-        && all ordered (scalars_of sides point_box.now)) }
-{
-    if !all_ordered(points, (dim + 1) * count) {
-        return false;
-    }
-    all_ordered(point_box, sides)
-}
-
-// The number from 1 to 8 by which a curve is refused, or 0. Beside the curve, `sides` intervals are lent in `point_box`, and a resolution.
-pub(crate) fn curve_refusal(
-    dim: usize,
-    degree: usize,
-    count: usize,
-    knots: &[f64],
-    points: &[f64],
-    sides: usize,
-    point_box: &[f64],
-    resolution: f64,
-) -> usize
-    requires { sides ≤ dim + 1 }
-    ensures { let v = curve_of dim degree count knots.now points.now in
-        CurveRefused sides point_box.now resolution v result }
-{
-    let number = sizes_refusal(dim, degree, count);
-    if number != 0 {
-        return number;
-    }
-    if !lengths_fit(dim, degree, count, knots, points, sides, point_box) {
-        return 4;
-    }
-    if !numbers_usable(knots, points, point_box, resolution) {
-        return 5;
-    }
-    if !bounds_ordered(dim, count, points, sides, point_box) {
-        return 6;
-    }
-    if !weights_positive(points, dim, count) {
-        return 7;
-    }
-    if !knots_valid(degree, count, knots) {
-        return 8;
-    }
-    0
+    Ok(())
 }
 
 // 9: there are at most 4,096 nodes.
@@ -307,7 +177,7 @@ pub(crate) fn slot_words(dim: usize, degree: usize, count: usize) -> usize
 pub fn stated_words(dim: usize, degree: usize, count: usize, nodes: usize) -> usize
     ensures { result ≡ stated_words dim degree count nodes }
 {
-    if sizes_refusal(dim, degree, count) != 0 {
+    if sizes_refusal(dim, degree, count).is_err() {
         return 0;
     }
     if !nodes_fit(nodes) {
@@ -316,7 +186,107 @@ pub fn stated_words(dim: usize, degree: usize, count: usize, nodes: usize) -> us
     (nodes + 3) * slot_words(dim, degree, count)
 }
 
-// The number by which a question is refused, whatever is lent to search it, or 0: 16, then 1 to 9.
+// What a call lends beside its work area, and what it asks: a curve, a box and a resolution, at most so many nodes, and
+// the revision.
+#[derive(Clone, Copy)]
+pub(crate) struct Lent<'a> {
+    pub(crate) rev: usize,
+    pub(crate) dim: usize,
+    pub(crate) degree: usize,
+    pub(crate) count: usize,
+    pub(crate) knots: &'a [f64],
+    pub(crate) points: &'a [f64],
+    pub(crate) point_box: &'a [f64],
+    pub(crate) resolution: f64,
+    pub(crate) nodes: usize,
+}
+
+impl Lent<'_> {
+    // 4: each slice has its length.
+    fn lengths_fit(self) -> bool
+        requires { (self.dim ≤ 3) × (self.degree ≤ 7) × (self.count ≤ 32) }
+        ensures { let q = self.entry in
+            result ≡ lengths_fit q.dim q.point_box.now (curve_in q) }
+    {
+        self.knots.len() == self.count + self.degree + 1
+            && self.points.len() == 2 * (self.dim + 1) * self.count
+            && self.point_box.len() == 2 * self.dim
+    }
+
+    // 5: every number is usable, and the resolution is not below 0.
+    fn numbers_usable(self) -> bool
+        ensures { let q = self.entry in
+            result ≡ numbers_usable q.point_box.now q.resolution (curve_in q) }
+    {
+        all_usable(self.knots)
+            && all_usable(self.points)
+            && all_usable(self.point_box)
+            && usable(self.resolution)
+            && 0.0 <= self.resolution
+    }
+
+    // 6: no lo is above its hi.
+    fn bounds_ordered(self) -> bool
+        requires sizes { (self.dim ≤ 3) × (self.count ≤ 32) }
+        requires points_in_bounds { 2 * (suc self.dim * self.count) ≤ length self.points.now }
+        requires sides_in_bounds { 2 * self.dim ≤ length self.point_box.now }
+        ensures { let q = self.entry in
+            result ≡ bounds_ordered q.dim q.point_box.now (curve_in q) }
+    {
+        all_ordered(self.points, (self.dim + 1) * self.count)
+            && all_ordered(self.point_box, self.dim)
+    }
+
+    // By which of 1 to 8 the curve is refused, with the box and the resolution.
+    fn curve_refusal(self) -> Result<(), Refusal>
+        ensures { let q = self.entry in
+            code_of result ≡ curve_refusal q.dim q.point_box.now q.resolution (curve_in q) }
+    {
+        sizes_refusal(self.dim, self.degree, self.count)?;
+        if !self.lengths_fit() {
+            return Err(Refusal::Length);
+        }
+        if !self.numbers_usable() {
+            return Err(Refusal::Value);
+        }
+        if !self.bounds_ordered() {
+            return Err(Refusal::Order);
+        }
+        if !weights_positive(self.points, self.dim, self.count) {
+            return Err(Refusal::Weight);
+        }
+        if !knots_valid(self.degree, self.count, self.knots) {
+            return Err(Refusal::Knots);
+        }
+        Ok(())
+    }
+
+    // By which of 16, then 1 to 9, the question is refused, whatever is lent to search it.
+    fn question_refusal(self) -> Result<(), Refusal>
+        ensures { let q = self.entry in
+            code_of result ≡ question_refusal q.rev (curve_in q) q.point_box.now q.resolution q.nodes }
+    {
+        revision_refusal(self.rev)?;
+        self.curve_refusal()?;
+        if !nodes_fit(self.nodes) {
+            return Err(Refusal::Nodes);
+        }
+        Ok(())
+    }
+
+    // By what the call is refused, with a work area of so many words: as its question is, then by 10.
+    pub(crate) fn refusal(self, work_len: usize) -> Result<(), Refusal>
+        ensures { code_of result ≡ refusal (call_in self.entry work_len) }
+    {
+        self.question_refusal()?;
+        if stated_words(self.dim, self.degree, self.count, self.nodes) > work_len {
+            return Err(Refusal::Work);
+        }
+        Ok(())
+    }
+}
+
+// By which of 16, then 1 to 9, a question is refused, whatever is lent to search it.
 pub fn question_refusal(
     rev: usize,
     dim: usize,
@@ -327,50 +297,20 @@ pub fn question_refusal(
     point_box: &[f64],
     resolution: f64,
     nodes: usize,
-) -> usize
+) -> Result<(), Refusal>
     ensures { let v = curve_of dim degree count knots.now points.now in
-        QuestionRefused rev v point_box.now resolution nodes result }
+        QuestionRefused rev v point_box.now resolution nodes (code_of result) }
 {
-    let first = revision_refusal(rev);
-    if first != 0 {
-        return first;
-    }
-    let number = curve_refusal(
-        dim, degree, count, knots, points, dim, point_box, resolution,
-    );
-    if number != 0 {
-        return number;
-    }
-    if !nodes_fit(nodes) {
-        return 9;
-    }
-    0
-}
-
-// The number by which a call is refused, or 0: that of its question, then 10.
-pub(crate) fn refusal(
-    rev: usize,
-    dim: usize,
-    degree: usize,
-    count: usize,
-    knots: &[f64],
-    points: &[f64],
-    point_box: &[f64],
-    resolution: f64,
-    nodes: usize,
-    work_len: usize,
-) -> usize
-    ensures { let k = knots.now in let p = points.now in let b = point_box.now in
-        CallRefused (lent rev dim degree count k p b resolution nodes work_len) result }
-{
-    let number = question_refusal(
-        rev, dim, degree, count, knots, points, point_box, resolution, nodes,
-    );
-    if number != 0 {
-        return number;
-    }
-    if stated_words(dim, degree, count, nodes) > work_len {
-        return 10;
-    }
-    0
+    let lent = Lent {
+        rev,
+        dim,
+        degree,
+        count,
+        knots,
+        points,
+        point_box,
+        resolution,
+        nodes,
+    };
+    lent.question_refusal()
 }

@@ -7,13 +7,13 @@ ghost use Rattle.model.specs.Subdivide.{positive_zero, complete};
 ghost use Rattle.model.specs.Call.{lent};
 ghost use Rattle.model.specs.Enclosure.{Doubles, Accepted};
 ghost use Rattle.model.specs.Promise.{Answers};
-ghost use Rattle.geometry.specs.Call.{rev_of, Searches};
+ghost use Rattle.geometry.specs.Call.{call_in, Searches};
 ghost use Rattle.geometry.specs.Slots.{words_of, piece_at, depth_at, Inside, Waits, Fit};
 ghost use Rattle.geometry.specs.Ring.{base_of, ring_base, Ring};
 ghost use Rattle.geometry.specs.State.{found_of, with_depths, asked_of, Turned, Begins, RingSearched};
 
 use crate::aabb::curve_could_meet_aabb;
-use crate::call::{refusal, slot_words, stated_words};
+use crate::call::{Lent, slot_words, stated_words};
 use crate::slots::{Shape, depth_at, fill, load, set_depth, slot_base};
 use crate::subdivide::{Outcome, Search, after_visit, has_bad_weight, wrap};
 use crate::visits::visit;
@@ -143,33 +143,25 @@ fn search_ring<R: Revision>(
     completed(q.found, q.counts)
 }
 
-// The search of a call that nothing is wrong with, in its revision. The stated words of the work area are 0 at its end.
-fn search_lent<R: Revision>(
-    dim: usize,
-    degree: usize,
-    count: usize,
-    knots: &[f64],
-    points: &[f64],
-    point_box: &[f64],
-    resolution: f64,
-    nodes: usize,
-    work: &mut [f64],
-) -> Found
-    requires { let c = lent (rev_of R.second) dim degree count knots.now points.now point_box.now resolution nodes (length work.old) in
+// The search of a call that nothing is wrong with, in a revision. The stated words of the work area are 0 at its end.
+fn search_lent<R: Revision>(q: Lent<'_>, work: &mut [f64]) -> Found
+    requires { let c = call_in q (length work.old) in
         Accepted c × Doubles c }
-    ensures { let k = knots.now in let p = points.now in let b = point_box.now in
-        let c = lent (rev_of R.second) dim degree count k p b resolution nodes (length work.old) in
+    ensures { let c = call_in q.entry (length work.old) in
         Searches (arithmetic R.second) c work.old work.new result }
 {
-    let words = stated_words(dim, degree, count, nodes);
-    if !curve_could_meet_aabb::<R>(points, point_box, dim, degree, count) {
+    let dim = q.dim;
+    let degree = q.degree;
+    let count = q.count;
+    let words = stated_words(dim, degree, count, q.nodes);
+    if !curve_could_meet_aabb::<R>(q.points, q.point_box, dim, degree, count) {
         fill(work, 0, words, 0.0);
         return Found::Nothing(0, 0, 0);
     }
     let s = Shape { dim, degree, count };
-    load(work, 0, s, knots, points);
+    load(work, 0, s, q.knots, q.points);
     set_depth(work, 0, slot_words(dim, degree, count), 0);
-    let r = search_ring::<R>(work, s, point_box, resolution, nodes);
+    let r = search_ring::<R>(work, s, q.point_box, q.resolution, q.nodes);
     fill(work, 0, words, 0.0);
     r
 }
@@ -204,7 +196,7 @@ pub fn curve_could_contain(
         let c = lent rev dim degree count k p b resolution nodes (length work.old) in
         Answers c work.old work.new result }
 {
-    let number = refusal(
+    let q = Lent {
         rev,
         dim,
         degree,
@@ -214,17 +206,12 @@ pub fn curve_could_contain(
         point_box,
         resolution,
         nodes,
-        work.len(),
-    );
-    if number != 0 {
-        return Found::Refused(number as u64, 0, 0, 0);
+    };
+    if let Err(refused) = q.refusal(work.len()) {
+        return Found::Refused(refused.number(), 0, 0, 0);
     }
     if rev == 2 {
-        return search_lent::<Second>(
-            dim, degree, count, knots, points, point_box, resolution, nodes, work,
-        );
+        return search_lent::<Second>(q, work);
     }
-    search_lent::<First>(
-        dim, degree, count, knots, points, point_box, resolution, nodes, work,
-    )
+    search_lent::<First>(q, work)
 }

@@ -50,9 +50,8 @@ fn read_sizes(text: &[u8], at: usize, rev: usize, lines: &mut [f64]) -> Asked
     let Head::Heads(dim, degree, count, rest) = sizes(text, at) else {
         return Asked::No(12);
     };
-    let number = sizes_refusal(dim, degree, count);
-    if number != 0 {
-        return Asked::No(number as u64);
+    if let Err(refused) = sizes_refusal(dim, degree, count) {
+        return Asked::No(refused.number());
     }
     read_numbers(text, rest, rev, dim, degree, count, lines)
 }
@@ -65,9 +64,8 @@ pub(crate) fn read(text: &[u8], lines: &mut [f64]) -> Asked
     let Small::Number(rev, at) = revision(text) else {
         return Asked::No(12);
     };
-    let refused = revision_refusal(rev);
-    if refused != 0 {
-        return Asked::No(refused as u64);
+    if let Err(refused) = revision_refusal(rev) {
+        return Asked::No(refused.number());
     }
     read_sizes(text, at, rev, lines)
 }

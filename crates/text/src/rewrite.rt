@@ -2,6 +2,7 @@
 ghost use Rattle.std.specs.Prelude.{◌≡◌, true, cond, ◌+◌, ◌*◌, ◌≤◌, length, get_or, leb};
 ghost use Rattle.std.specs.Float.{nan};
 ghost use Rattle.lists.specs.Lists.{all, part};
+ghost use Rattle.model.specs.Numbers.{code_of};
 ghost use Rattle.text.specs.Bytes.{bytes};
 ghost use Rattle.text.specs.Counts.{Counts};
 ghost use Rattle.text.specs.Question.{sizes_of, asks};
@@ -16,6 +17,7 @@ use crate::question::behind;
 use crate::reading::{read, room};
 use geometry::call::question_refusal;
 use geometry::contains::positive_zero;
+use model::refusal::Refusal;
 
 // What the writer gives.
 #[derive(Clone, Copy)]
@@ -183,7 +185,7 @@ pub fn give(text: &[u8], out: &mut [u8]) -> Rewritten
     Rewritten::Bytes(n)
 }
 
-// The number by which the question whose doubles stand in `lines` is refused, or 0.
+// By what the question whose doubles stand in `lines` is refused.
 fn lines_refusal(
     rev: usize,
     dim: usize,
@@ -191,10 +193,10 @@ fn lines_refusal(
     count: usize,
     nodes: usize,
     lines: &[f64],
-) -> usize
+) -> Result<(), Refusal>
     requires { (303 ≤ length lines.now) × (dim ≤ 3) × (degree ≤ 7) × (count ≤ 32) }
     ensures { let s = sizes_of dim degree count in
-        result ≡ refusal_of rev s (numbers_in s nodes lines.now) }
+        code_of result ≡ refusal_of rev s (numbers_in s nodes lines.now) }
 {
     let k = 1 + (count + degree + 1);
     let p = k + 2 * (dim + 1) * count;
@@ -226,9 +228,8 @@ fn rewrite_lines(
     ensures { let s = sizes_of dim degree count in let a = accepted_by (asks rev s (numbers_in s nodes lines.now)) in
         Rewrites a out.old out.new result }
 {
-    let number = lines_refusal(rev, dim, degree, count, nodes, lines);
-    if number != 0 {
-        return Rewritten::Refused(number as u64);
+    if let Err(refused) = lines_refusal(rev, dim, degree, count, nodes, lines) {
+        return Rewritten::Refused(refused.number());
     }
     let mut text = blank_form();
     let n = put_form(&mut text, rev, dim, degree, count, nodes, lines);

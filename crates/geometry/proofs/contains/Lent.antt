@@ -1,11 +1,11 @@
 -- What a call gives and leaves: a refused one; and an accepted one, whose search begins with the curve in the first slot. Leans on Enclosure.antt, and on the laws of slots and of the search.
 use mathlib.Core.Path.{◌≡◌, refl, sym, ap, ◌∙◌, subst}
-use mathlib.Core.Bool.{Bool, true, false, ◌||◌}
+use mathlib.Core.Bool.{Bool, true, false}
 use mathlib.Core.List.{List, [], ◌∷◌}
 use Prim.Native.Nat.{ℕ, zero, suc, ◌+◌, ◌-◌, ◌*◌, ◌≤◌, ◌<◌}
 use native.Mathlib.Nat.{mul_assoc, zero-mul}
 use native.Mathlib.Omega.{arith}
-use lib.Dec.{T, eqb, eqb→eq}
+use lib.Dec.{eqb}
 use lib.ListN.{length, drop, replicate}
 use lib.Ieee.{Float}
 use Rattle.lists.specs.Lists.{put, cleared}
@@ -19,7 +19,7 @@ use Rattle.model.specs.Layout.{area_words}
 use Rattle.model.specs.Aabb.{could_meet}
 use Rattle.model.specs.Subdivide.{advance, answered}
 use Rattle.model.specs.Contains.{visit, begun, could_contain}
-use Rattle.model.specs.Call.{Call, as_piece, box_of, question, refusal, stated, stated_words, arithmetic_of, revision_fits, searched_by, searched, area_by, area_after}
+use Rattle.model.specs.Call.{Call, as_piece, box_of, question, refusal, stated, stated_words, arithmetic_of, searched_by, searched, area_by, area_after}
 use Rattle.model.specs.Enclosure.{Doubles, Accepted, HitsEnclosed, BoundsInDomain, BoundsPositiveZero, BoundsInOrder}
 use Rattle.model.specs.Paper.{paper}
 use Rattle.model.specs.Promise.{Answers}
@@ -29,8 +29,7 @@ use Rattle.geometry.specs.Ring.{ring_base, Ring}
 use Rattle.geometry.specs.State.{AllFit, Begins}
 use Rattle.model.specs.declared.contains.Found.{Found}
 use Rattle.model.specs.declared.contains.Found.TheVariants.{Nothing, Refused}
-use borrow.Author.Tests.{ne_eqb}
-use Rattle.model.proofs.Checks.{stated_is, revision-passes, revision-accepted}
+use Rattle.model.proofs.Checks.{stated_is}
 use Rattle.model.proofs.Sound.Accepted.{Sizes, sizes}
 use Rattle.geometry.proofs.Lists.Numbers.{length-points, wide-points}
 use Rattle.geometry.proofs.slots.Counts.{inside_of}
@@ -75,18 +74,6 @@ answered_by_lem c before after r d h = record {
 }
 
 -- ---- a call that is accepted
-
--- a revision that fits and is not 2 is 1
-fits_one : (rev : ℕ) → T (revision_fits rev) → (rev ≡ 2 → ⊥) → rev ≡ 1
-unfolding revision_fits
-fits_one rev t h = eqb→eq rev 1 (left (eqb rev 1) (eqb rev 2) (ne_eqb rev 2 h) t)
-  where
-    left : (a b : Bool) → b ≡ false → T (a || b) → T a
-    left true b e t = tt
-    left false b e t = absurd (subst T e t)
-
-pub rev_one : (c : Call) → refusal c ≡ 0 → (c.rev ≡ 2 → ⊥) → c.rev ≡ 1
-rev_one c e h = fits_one c.rev (revision-passes c.rev (revision-accepted c e)) h
 
 module _ (c : Call) (acc : Accepted c) (area : List Float) (long : length area ≡ c.work_len) where
   z : Sizes c

@@ -7,9 +7,6 @@ use Rattle.geometry.proofs.knot_insertion.Insert.{blend_zero, blend_one, blend-m
 use native.Mathlib.Omega.{arith}
 use Rattle.geometry.proofs.knot_insertion.blend_into.Goals as goal
 
-pub copy-requires : goal.copy-requires
-copy-requires ty c = record { w_in_bounds = (omega arith, omega arith); fact = inl (omega arith) }
-
 pub returns-then-eq : goal.returns-then-eq
 unfolding of_bits
 returns-then-eq ty c =

@@ -1,6 +1,7 @@
 -- `read_sizes` equals its definition: the three lines of the sizes are bad, or refused, or the other lines say it.
-use mathlib.Core.Path.{sym, ◌∙◌}
+use mathlib.Core.Path.{refl, sym, ◌∙◌}
 use native.Mathlib.Omega.{arith}
+use Rattle.model.proofs.Numbers.{some_number}
 use Rattle.model.proofs.Checks.{small-sizes}
 use Rattle.text.proofs.reading.Cases.{head-bad, head_inside, head-refused, head-asked}
 use Rattle.text.proofs.reading.read_sizes.Goals as goal
@@ -10,16 +11,17 @@ returns-in_default c =
     let a = c.args in
     head-bad a.rev a.text.now a.at _ c.sizes.ensures c.in_default.is
 
-pub returns-then-number-ne0 : goal.returns-then-number-ne0
-returns-then-number-ne0 c =
+pub returns-in-Err : goal.returns-in-Err
+returns-in-Err c =
     let a = c.args in
+    let some = some_number _ in
     head-refused a.rev a.text.now a.at _ c.sizes.ensures _ _ _ _ c.in-Heads.is _
-    c.sizes_refusal-number.ensures c.if-number-ne0.true
+    (c.number.ensures ∙ c.in-Err.ensures) (λ z. some (sym c.number.ensures ∙ z))
 
 pub read_numbers-requires : goal.read_numbers-requires
 read_numbers-requires c =
     let a = c.args in
-    let small = small-sizes _ _ _ (sym c.sizes_refusal-number.ensures ∙ c.if-number-ne0.false) in (
+    let small = small-sizes _ _ _ (sym c.in_default-sizes_refusal.ensures) in (
       head_inside a.rev a.text.now a.at _ c.sizes.ensures _ _ _ _ c.in-Heads.is,
       small.dim,
       small.degree,
@@ -31,4 +33,4 @@ pub returns : goal.returns
 returns c =
     let a = c.args in
     head-asked a.rev a.text.now a.at _ c.sizes.ensures _ _ _ _ c.in-Heads.is _ _
-    c.read_numbers.result c.sizes_refusal-number.ensures c.if-number-ne0.false c.read_numbers.ensures
+    c.read_numbers.result c.in_default-sizes_refusal.ensures refl c.read_numbers.ensures

@@ -1,6 +1,7 @@
 -- `rewrite_lines` equals its definition: the question is refused, or its form is given.
-use mathlib.Core.Path.{sym, ap, ◌∙◌}
+use mathlib.Core.Path.{refl, sym, ap, ◌∙◌}
 use lib.ListN.{length}
+use Rattle.model.proofs.Numbers.{some_number}
 use Rattle.text.specs.Question.{Sizes, sizes_of, Numbers}
 use Rattle.text.specs.Cursor.{numbers_in}
 use Rattle.text.specs.Form.{count_for, output_for}
@@ -10,19 +11,21 @@ use Rattle.text.proofs.rewrite.Cases.{question-refused, question-given}
 use native.Mathlib.Omega.{arith}
 use Rattle.text.proofs.rewrite.rewrite_lines.Goals as goal
 
-pub returns-then-number-ne0 : goal.returns-then-number-ne0
-returns-then-number-ne0 c =
+pub returns-in-Err : goal.returns-in-Err
+returns-in-Err c =
     let a = c.args in
+    let some = some_number _ in
     let sizes : Sizes = sizes_of a.dim a.degree a.count in
     let asked : Numbers = numbers_in sizes a.nodes a.lines.now in
-    question-refused c.args.rev sizes asked c.args.out.now _ c.lines_refusal-number.ensures c.if-number-ne0.true
+    question-refused c.args.rev sizes asked c.args.out.now _
+    (c.number.ensures ∙ c.in-Err.ensures) (λ z. some (sym c.number.ensures ∙ z))
 
 pub put_form-n-requires : goal.put_form-n-requires
 put_form-n-requires c =
     let a = c.args in
     let sizes : Sizes = sizes_of a.dim a.degree a.count in
     let asked : Numbers = numbers_in sizes a.nodes a.lines.now in
-    let n = all_numbers c.args.rev sizes asked (sym c.lines_refusal-number.ensures ∙ c.if-number-ne0.false) in record { in_bounds = (omega arith, omega arith, omega arith, omega arith, omega arith); all_numbers = record { resolution = n.resolution; knots = n.knots; points = n.points; box = n.box } }
+    let n = all_numbers c.args.rev sizes asked (sym c.in_default.ensures) in record { in_bounds = (omega arith, omega arith, omega arith, omega arith, omega arith); all_numbers = record { resolution = n.resolution; knots = n.knots; points = n.points; box = n.box } }
 
 pub returns : goal.returns
 returns c =
@@ -31,6 +34,6 @@ returns c =
     let asked : Numbers = numbers_in sizes a.nodes a.lines.now in
     let l = c.args.out.now in
     let e = written-front c.put_form-n.ensures.written in
-    question-given c.args.rev sizes asked l _ c.lines_refusal-number.ensures _ c.give.result c.if-number-ne0.false
+    question-given c.args.rev sizes asked l _ c.in_default.ensures _ c.give.result refl
     (c.give.ensures.count ∙ ap (count_for (length l)) e)
     (c.give.ensures.output ∙ ap (output_for l) e)
