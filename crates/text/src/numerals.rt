@@ -5,8 +5,6 @@ ghost use Rattle.text.specs.Numerals.{is_digit, digits, decimal_of, is_small, sm
 ghost use Rattle.text.specs.Numerals.{nibble, is_hex, hex_of, is_double, double_of};
 ghost use Rattle.text.specs.Cursor.{SmallRead};
 
-use crate::cursor::Small;
-
 // The byte is from low to high.
 fn between(b: u8, low: u8, high: u8) -> bool
     ensures { result ≡ (leb low b && leb b high) }
@@ -68,16 +66,16 @@ fn is_small(text: &[u8], at: usize, n: usize) -> bool
     text[at] != 48
 }
 
-// A small number from `at` on.
-pub(crate) fn small(text: &[u8], at: usize) -> Small
+// A small number from `at` on. As of all that read here, what was read stands before the place at which the rest begins.
+pub(crate) fn small(text: &[u8], at: usize) -> Option<(usize, usize)>
     requires { at ≤ length text.now }
     ensures { SmallRead text.now (small (drop at text.now)) result }
 {
     let n = digits(text, at);
     if !is_small(text, at, n) {
-        return Small::NoNumber;
+        return None;
     }
-    Small::Number(decimal_of(text, at, n), at + n)
+    Some((decimal_of(text, at, n), at + n))
 }
 
 // The value of a hexadecimal digit of either case, and 16 for any other byte.

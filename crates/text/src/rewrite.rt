@@ -4,13 +4,13 @@ ghost use Rattle.std.specs.Float.{nan};
 ghost use Rattle.lists.specs.Lists.{all, part};
 ghost use Rattle.text.specs.Bytes.{bytes};
 ghost use Rattle.text.specs.Counts.{Counts};
-ghost use Rattle.text.specs.Question.{sizes_of, asks};
-ghost use Rattle.text.specs.Cursor.{numbers_in};
+ghost use Rattle.text.specs.Question.{asks};
+ghost use Rattle.text.specs.Cursor.{Small, numbers_in};
 ghost use Rattle.text.specs.Printable.{Written, is_number, AllNumbers};
 ghost use Rattle.text.specs.Form.{small_text, values_text, line_text, lines_text, sizes_text, limits_text, shape_text, form};
 ghost use Rattle.text.specs.Form.{refusal_of, accepted_by, accepted, count_for, output_for, Rewrites, Within};
 
-use crate::cursor::Asked;
+use crate::cursor::{Asked, Sizes};
 use crate::print::{put_count, put_double, put_word};
 use crate::question::behind;
 use crate::reading::{read, room};
@@ -86,15 +86,14 @@ fn put_points(out: &mut [u8], at: usize, xs: &[f64], from: usize, n: usize, k: u
 // ---- the text
 
 // The lines of the revision and the sizes, at the front.
-fn put_sizes(out: &mut [u8], rev: usize, dim: usize, degree: usize, count: usize) -> usize
+fn put_sizes(out: &mut [u8], rev: usize, s: Sizes) -> usize
     requires { 105 ≤ length out.old }
-    ensures { let s = sizes_of dim degree count in
-        Written out.old 0 (sizes_text rev s) out.new result × (result ≤ 105) }
+    ensures { Written out.old 0 (sizes_text rev s) out.new result × (result ≤ 105) }
 {
     let i = put_small(out, 0, b"rev=", rev);
-    let j = put_small(out, i, b"dim=", dim);
-    let k = put_small(out, j, b"degree=", degree);
-    put_small(out, k, b"count=", count)
+    let j = put_small(out, i, b"dim=", s.dim);
+    let k = put_small(out, j, b"degree=", s.degree);
+    put_small(out, k, b"count=", s.count)
 }
 
 // The line of the nodes and that of the resolution, which is the first of `lines`, from `at` on.
@@ -109,48 +108,29 @@ fn put_limits(out: &mut [u8], at: usize, nodes: usize, lines: &[f64]) -> usize
 }
 
 // The lines of the knots, the points and the box, which stand in `lines` from its second place on, from `at` on.
-fn put_shape(
-    out: &mut [u8],
-    at: usize,
-    dim: usize,
-    degree: usize,
-    count: usize,
-    lines: &[f64],
-) -> usize
-    requires at_in_bounds { (at + 5336 ≤ length out.old) × (dim ≤ 3) × (degree ≤ 7) × (count ≤ 32)
-        × (303 ≤ length lines.now) }
-    requires all_numbers { AllNumbers (numbers_in (sizes_of dim degree count) 0 lines.now) }
-    ensures { let q = numbers_in (sizes_of dim degree count) 0 lines.now in
-        let w = shape_text (sizes_of dim degree count) q.knots q.points q.box in
-        Written out.old at w out.new result × (result ≤ at + 5336) }
+fn put_shape(out: &mut [u8], at: usize, s: Sizes, lines: &[f64]) -> usize
+    requires at_in_bounds { (at + 5336 ≤ length out.old) × Small s × (303 ≤ length lines.now) }
+    requires all_numbers { AllNumbers (numbers_in s 0 lines.now) }
+    ensures { let q = numbers_in s 0 lines.now in
+        Written out.old at (shape_text s q.knots q.points q.box) out.new result × (result ≤ at + 5336) }
 {
-    let k = count + degree + 1;
+    let k = s.count + s.degree + 1;
     let i = put_line(out, at, b"knots=", lines, 1, k);
-    let w = 2 * (dim + 1);
-    let j = put_points(out, i, lines, 1 + k, w, count);
-    put_line(out, j, b"box=", lines, 1 + k + w * count, 2 * dim)
+    let w = 2 * (s.dim + 1);
+    let j = put_points(out, i, lines, 1 + k, w, s.count);
+    put_line(out, j, b"box=", lines, 1 + k + w * s.count, 2 * s.dim)
 }
 
 // The one form of the question whose doubles stand in `lines`, at the front. The result is how many bytes it has.
-fn put_form(
-    out: &mut [u8],
-    rev: usize,
-    dim: usize,
-    degree: usize,
-    count: usize,
-    nodes: usize,
-    lines: &[f64],
-) -> usize
-    requires in_bounds { (5496 ≤ length out.old) × (dim ≤ 3) × (degree ≤ 7) × (count ≤ 32)
-        × (303 ≤ length lines.now) }
-    requires all_numbers { AllNumbers (numbers_in (sizes_of dim degree count) 0 lines.now) }
-    ensures written { let s = sizes_of dim degree count in let w = form rev s (numbers_in s nodes lines.now) in
-        Written out.old 0 w out.new result }
+fn put_form(out: &mut [u8], rev: usize, s: Sizes, nodes: usize, lines: &[f64]) -> usize
+    requires in_bounds { (5496 ≤ length out.old) × Small s × (303 ≤ length lines.now) }
+    requires all_numbers { AllNumbers (numbers_in s 0 lines.now) }
+    ensures written { Written out.old 0 (form rev s (numbers_in s nodes lines.now)) out.new result }
     ensures within { Counts result out.new }
 {
-    let i = put_sizes(out, rev, dim, degree, count);
+    let i = put_sizes(out, rev, s);
     let j = put_limits(out, i, nodes, lines);
-    put_shape(out, j, dim, degree, count, lines)
+    put_shape(out, j, s, lines)
 }
 
 // ---- what is given
@@ -184,26 +164,18 @@ pub fn give(text: &[u8], out: &mut [u8]) -> Rewritten
 }
 
 // The number by which the question whose doubles stand in `lines` is refused, or 0.
-fn lines_refusal(
-    rev: usize,
-    dim: usize,
-    degree: usize,
-    count: usize,
-    nodes: usize,
-    lines: &[f64],
-) -> usize
-    requires { (303 ≤ length lines.now) × (dim ≤ 3) × (degree ≤ 7) × (count ≤ 32) }
-    ensures { let s = sizes_of dim degree count in
-        result ≡ refusal_of rev s (numbers_in s nodes lines.now) }
+fn lines_refusal(rev: usize, s: Sizes, nodes: usize, lines: &[f64]) -> usize
+    requires { (303 ≤ length lines.now) × Small s }
+    ensures { result ≡ refusal_of rev s (numbers_in s nodes lines.now) }
 {
-    let k = 1 + (count + degree + 1);
-    let p = k + 2 * (dim + 1) * count;
-    let b = p + 2 * dim;
+    let k = 1 + (s.count + s.degree + 1);
+    let p = k + 2 * (s.dim + 1) * s.count;
+    let b = p + 2 * s.dim;
     question_refusal(
         rev,
-        dim,
-        degree,
-        count,
+        s.dim,
+        s.degree,
+        s.count,
         &lines[1..k],
         &lines[k..p],
         &lines[p..b],
@@ -215,23 +187,21 @@ fn lines_refusal(
 // What is given for the question whose doubles stand in `lines`.
 fn rewrite_lines(
     rev: usize,
-    dim: usize,
-    degree: usize,
-    count: usize,
+    s: Sizes,
     nodes: usize,
     lines: &[f64],
     out: &mut [u8],
 ) -> Rewritten
-    requires { (303 ≤ length lines.now) × (dim ≤ 3) × (degree ≤ 7) × (count ≤ 32) }
-    ensures { let s = sizes_of dim degree count in let a = accepted_by (asks rev s (numbers_in s nodes lines.now)) in
+    requires { (303 ≤ length lines.now) × Small s }
+    ensures { let a = accepted_by (asks rev s (numbers_in s nodes lines.now)) in
         Rewrites a out.old out.new result }
 {
-    let number = lines_refusal(rev, dim, degree, count, nodes, lines);
+    let number = lines_refusal(rev, s, nodes, lines);
     if number != 0 {
         return Rewritten::Refused(number as u64);
     }
     let mut text = blank_form();
-    let n = put_form(&mut text, rev, dim, degree, count, nodes, lines);
+    let n = put_form(&mut text, rev, s, nodes, lines);
     give(&text[..n], out)
 }
 
@@ -249,8 +219,6 @@ pub fn rewrite(text: &[u8], out: &mut [u8]) -> Rewritten
     let mut lines = room();
     match read(text, &mut lines) {
         Asked::No(n) => Rewritten::Refused(n),
-        Asked::Yes(rev, dim, degree, count, nodes) => {
-            rewrite_lines(rev, dim, degree, count, nodes, &lines, out)
-        }
+        Asked::Yes(rev, s, nodes) => rewrite_lines(rev, s, nodes, &lines, out),
     }
 }

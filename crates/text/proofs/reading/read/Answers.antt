@@ -8,14 +8,14 @@ returns-in_default c = revision-bad _ _ c.revision.ensures c.in_default.is
 
 pub returns-then-refused-ne0 : goal.returns-then-refused-ne0
 returns-then-refused-ne0 c =
-    revision-refused _ _ c.revision.ensures _ _ c.in-Number.is _ c.revision_refusal-refused.ensures
+    revision-refused _ _ c.revision.ensures _ _ c.in-Some.is _ c.revision_refusal-refused.ensures
     c.if-refused-ne0.true
 
 pub read_sizes-requires : goal.read_sizes-requires
 read_sizes-requires c =
-    (revision_inside _ _ c.revision.ensures _ _ c.in-Number.is, omega arith)
+    (revision_inside _ _ c.revision.ensures _ _ c.in-Some.is, omega arith)
 
 pub returns : goal.returns
 returns c =
-    revision-named _ _ c.revision.ensures _ _ c.in-Number.is _ _ c.read_sizes.result
+    revision-named _ _ c.revision.ensures _ _ c.in-Some.is _ _ c.read_sizes.result
     c.revision_refusal-refused.ensures c.if-refused-ne0.false c.read_sizes.ensures

@@ -8,7 +8,7 @@ use Rattle.text.proofs.respond.answered.Goals as goal
 pub ask_lines-requires : goal.ask_lines-requires
 ask_lines-requires c =
     let q = subst (TextRead _ _) c.in-Yes.is c.read.ensures in
-    (omega arith, q.dim_small, q.degree_small, q.count_small)
+    (omega arith, q.small)
 
 pub returns-in-No : goal.returns-in-No
 returns-in-No c =

@@ -8,7 +8,7 @@ use Rattle.text.proofs.rewrite.rewrite.Goals as goal
 pub rewrite_lines-requires : goal.rewrite_lines-requires
 rewrite_lines-requires c =
     let q = subst (TextRead _ _) c.in-Yes.is c.read.ensures in
-    (omega arith, q.dim_small, q.degree_small, q.count_small)
+    (omega arith, q.small)
 
 pub returns-in-No : goal.returns-in-No
 returns-in-No c =
