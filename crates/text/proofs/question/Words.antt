@@ -5,8 +5,8 @@ use mathlib.Core.List.{List, [], ◌∷◌}
 use Prim.Native.Nat.{ℕ, suc, ◌+◌, ◌-◌, ◌≤◌, ◌<◌}
 use native.Mathlib.Numerals.{add-one}
 use native.Mathlib.Omega.{arith}
-use lib.ListN.{length, take, drop, get_or, drop_of_length-le, length-drop}
-use lib.Seq.{drop-cons, drop-drop, take-length}
+use lib.ListN.{length, take, drop, get_or, drop_of_length-le}
+use lib.Seq.{drop-cons, drop-drop}
 use lib.Dec.{eqb}
 use borrow.Author.Tests.{eq-eqb, ne_eqb, eqb-true}
 use Rattle.math.proofs.Bools.{pick_yes, pick_no}
@@ -16,6 +16,7 @@ use Rattle.text.specs.Bytes.{Read, bad, got, then, word}
 use Rattle.text.specs.Numerals.{small}
 use Rattle.text.specs.Question.{small_line}
 use Rattle.text.specs.Cursor.{WordRead, SmallRead}
+use Rattle.text.proofs.numerals.Decimal.{rest_whole}
 
 -- ---- one after the other
 
@@ -58,8 +59,7 @@ word_is (b ∷ w) (c ∷ t) = by (eqb b c) refl (word_is w t)
 module _ (text w : List ℕ) (a : ℕ) (r : Bool) (R : r ≡ starts_with eqb (take (length text - a) (drop a text)) w) where
   same : r ≡ starts_with eqb (drop a text) w
   same =
-      R ∙ ap (λ (n : ℕ). starts_with eqb (take n (drop a text)) w) (sym (length-drop a text))
-      ∙ ap (λ (t : List ℕ). starts_with eqb t w) (take-length (drop a text))
+      R ∙ ap (λ (t : List ℕ). starts_with eqb t w) (rest_whole text a)
 
   -- the text does not go on so
   pub word-other : r ≡ false → word w (drop a text) ≡ bad
