@@ -45,13 +45,11 @@ fn put_values(out: &mut [u8], at: usize, xs: &[f64], from: usize, n: usize) -> u
     ensures { let v = part xs.now from n in
         Written out.old at (values_text v) out.new result × (result ≡ at + 17 * n) }
 {
-    let mut i = 0;
-    while i < n {
+    for i in 0..n {
         let x = xs[from + i];
         let y = positive_zero(x);
         let k = put_double(out, at + 17 * i, y);
         out[k] = behind(n - i - 1);
-        i += 1;
     }
     at + 17 * n
 }
@@ -74,11 +72,9 @@ fn put_points(out: &mut [u8], at: usize, xs: &[f64], from: usize, n: usize, k: u
     ensures { let w = lines_text (bytes "point=") n k (part xs.now from (n * k)) in
         Written out.old at w out.new result × (result ≡ at + (6 + 17 * n) * k) }
 {
-    let mut i = 0;
     let mut p = at;
-    while i < k {
+    for i in 0..k {
         p = put_line(out, p, b"point=", xs, from + n * i, n);
-        i += 1;
     }
     p
 }
