@@ -1,5 +1,5 @@
 -- Laws of doubles in a text: of hexadecimal digits, and of the double that sixteen of them are. Assumes nothing.
-use mathlib.Core.Path.{◌≡◌, refl, sym, ap, ◌∙◌, subst}
+use mathlib.Core.Path.{◌≡◌, refl, ap, ◌∙◌}
 use mathlib.Core.Bool.{Bool, true, false, not, ◌&&◌}
 use mathlib.Core.List.{List, [], ◌∷◌}
 use Prim.Native.Nat.{ℕ, ◌+◌, ◌-◌, ◌/◌, ◌%◌, ◌≤◌, ◌<◌}
@@ -7,7 +7,7 @@ use native.Mathlib.Omega.{arith}
 use lib.ListN.{length, take, drop, get_or, length-drop}
 use lib.Dec.{leb}
 use lib.Ieee.{nan, binary64, nan_bits, of_bits}
-use borrow.Author.Tests.{leb-true, le-leb, lt-leb, eqb-true, eq-eqb, ne_eqb}
+use borrow.Author.Tests.{leb-true, le-leb, eqb-true, eq-eqb, ne_eqb}
 use Rattle.std.specs.List.{list_all}
 use Rattle.lists.specs.Lists.{part, all}
 use Rattle.text.specs.Numerals.{is_digit, is_hex, is_double, nibble, double_of}

@@ -1,14 +1,11 @@
 -- `add_at` adds. The invariant: what the bytes are, and what is left to add from byte i on, make up the sum.
 use Prim.Native.Nat.{ℕ, ◌+◌, ◌*◌, ◌/◌, ◌%◌, ◌^◌}
 use native.Mathlib.Omega.{arith}
-use mathlib.Core.Path.{refl, ap, ◌∙◌}
+use mathlib.Core.Path.{ap, ◌∙◌}
 use lib.ListN.{set, length-set}
 use Rattle.sheet.specs.Sum.{number}
 use Rattle.sheet.proofs.sum.Numbers.{sum_turn, added}
 use Rattle.sheet.proofs.sum.add_at.Goals as goal
-
-pub loop-i-init : goal.loop-i-init
-loop-i-init c = (c.well_formed.0.1.0.1, omega (arith, c.ranges.x.fits), refl)
 
 pub loop-i-preserved : goal.loop-i-preserved
 loop-i-preserved c =

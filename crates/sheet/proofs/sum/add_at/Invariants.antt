@@ -1,5 +1,5 @@
 -- `add_at` adds. The invariant: what the bytes are, and what is left to add from byte i on, make up the sum.
-use Prim.Native.Nat.{◌+◌, ◌-◌, ◌*◌, ◌^◌, ◌≤◌}
+use Prim.Native.Nat.{◌+◌, ◌*◌, ◌^◌, ◌≤◌}
 use mathlib.Core.Path.{◌≡◌}
 use lib.ListN.{length}
 use Rattle.sheet.specs.Sum.{number}

@@ -1,14 +1,11 @@
 -- `take_at` takes away. The invariant: what the bytes were, and what is left to take away from byte i on, are what the bytes are and what is taken away.
 use Prim.Native.Nat.{ℕ, ◌+◌, ◌-◌, ◌*◌, ◌/◌, ◌%◌, ◌^◌}
 use native.Mathlib.Omega.{arith}
-use mathlib.Core.Path.{refl, sym, ap, ◌∙◌}
+use mathlib.Core.Path.{sym, ap, ◌∙◌}
 use lib.ListN.{set, length-set}
 use Rattle.sheet.specs.Sum.{number}
 use Rattle.sheet.proofs.sum.Numbers.{rest_turn, taken}
 use Rattle.sheet.proofs.sum.take_at.Goals as goal
-
-pub loop-i-init : goal.loop-i-init
-loop-i-init c = (c.well_formed.0.1.0.1, omega (arith, c.ranges.x.fits), refl)
 
 pub loop-i-preserved : goal.loop-i-preserved
 loop-i-preserved c =

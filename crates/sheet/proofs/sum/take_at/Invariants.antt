@@ -1,5 +1,5 @@
 -- `take_at` takes away. The invariant: what the bytes were, and what is left to take away from byte i on, are what the bytes are and what is taken away.
-use Prim.Native.Nat.{◌+◌, ◌-◌, ◌*◌, ◌^◌, ◌≤◌}
+use Prim.Native.Nat.{◌+◌, ◌*◌, ◌^◌, ◌≤◌}
 use mathlib.Core.Path.{◌≡◌}
 use lib.ListN.{length}
 use Rattle.sheet.specs.Sum.{number}

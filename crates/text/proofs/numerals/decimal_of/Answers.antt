@@ -1,11 +1,9 @@
 -- `decimal_of` gives the number that the digits are. Invariant: v is the number that those passed are.
-use mathlib.Core.Path.{◌≡◌, ap, ◌∙◌}
-use Prim.Native.Nat.{ℕ, ◌+◌, ◌-◌, ◌≤◌, ◌<◌}
+use mathlib.Core.Path.{◌≡◌}
+use Prim.Native.Nat.{◌+◌, ◌-◌, ◌<◌}
 use native.Mathlib.Omega.{arith}
 use lib.ListN.{get_or}
-use Rattle.lists.specs.Lists.{part}
-use Rattle.text.specs.Numerals.{decimal_of}
-use Rattle.text.proofs.numerals.Base.{known_none, known_turn, known_most}
+use Rattle.text.proofs.numerals.Base.{known_none, known_turn}
 use Rattle.text.proofs.numerals.Decimal.{digit-between, length_cut, get_or_cut}
 use Rattle.text.proofs.numerals.decimal_of.Goals as goal
 
@@ -31,10 +29,3 @@ loop-b-preserved c =
     let same = get_or_cut a.text.now a.at a.n h.1 i less in
     let e : c.from.result ≡ get_or a.text.now (a.at + i) 0 - 48 = omega (arith, c.from.ensures, same) in
     known_turn c.loop-b.invariant _ (omega arith) e (omega (arith, d, e))
-
-pub returns : goal.returns
-returns c =
-    let a = c.args in
-    let e : c.loop-b.b-index ≡ a.n = omega (arith, length_cut a.text.now a.at a.n c.requires.1) in
-    let few : c.loop-b.v < 1000000000 = known_most c.loop-b.invariant 9 (omega arith) (omega arith) in
-    (c.loop-b.invariant.number ∙ ap (λ (k : ℕ). decimal_of (part a.text.now a.at k)) e, omega (arith, few))

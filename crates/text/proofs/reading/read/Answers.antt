@@ -1,6 +1,5 @@
 -- `read` equals its definition: the line of the revision is bad, or refused, or the rest says it.
-use native.Mathlib.Omega.{arith}
-use Rattle.text.proofs.reading.Cases.{revision-bad, revision_inside, revision-refused, revision-named}
+use Rattle.text.proofs.reading.Cases.{revision-bad, revision-refused, revision-named}
 use Rattle.text.proofs.reading.read.Goals as goal
 
 pub returns-in_default : goal.returns-in_default
@@ -10,10 +9,6 @@ pub returns-then-refused-ne0 : goal.returns-then-refused-ne0
 returns-then-refused-ne0 c =
     revision-refused _ _ c.revision.ensures _ _ c.in-Some.is _ c.revision_refusal-refused.ensures
     c.if-refused-ne0.true
-
-pub read_sizes-requires : goal.read_sizes-requires
-read_sizes-requires c =
-    (revision_inside _ _ c.revision.ensures _ _ c.in-Some.is, omega arith)
 
 pub returns : goal.returns
 returns c =

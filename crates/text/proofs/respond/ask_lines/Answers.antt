@@ -1,31 +1,9 @@
 -- `ask_lines` asks what its numbers say.
-use Prim.Native.Nat.{ℕ, ◌+◌, ◌-◌, ◌*◌, ◌≤◌}
-use native.Mathlib.Omega.{arith}
+use Prim.Native.Nat.{ℕ, ◌+◌, ◌-◌, ◌*◌}
 use Rattle.lists.specs.Lists.{part}
-use Rattle.text.proofs.question.Others.{few_numbers}
 use Rattle.text.proofs.reading.Back.{parts-lent}
 use Rattle.text.proofs.respond.Lent.{lines-answer}
 use Rattle.text.proofs.respond.ask_lines.Goals as goal
-
-pub overflow_mul-p-2 : goal.overflow_mul-p-2
-overflow_mul-p-2 c =
-    let few : 2 * (c.args.s.dim + 1) * c.args.s.count ≤ 256 = few_numbers (2 * (c.args.s.dim + 1)) c.args.s.count (omega arith) (omega arith) in
-    omega (arith, few)
-
-pub overflow_add-p-2 : goal.overflow_add-p-2
-overflow_add-p-2 c =
-    let few : 2 * (c.args.s.dim + 1) * c.args.s.count ≤ 256 = few_numbers (2 * (c.args.s.dim + 1)) c.args.s.count (omega arith) (omega arith) in
-    omega (arith, few)
-
-pub overflow_add-b : goal.overflow_add-b
-overflow_add-b c =
-    let few : 2 * (c.args.s.dim + 1) * c.args.s.count ≤ 256 = few_numbers (2 * (c.args.s.dim + 1)) c.args.s.count (omega arith) (omega arith) in
-    omega (arith, few)
-
-pub offset_bounds-lines-p : goal.offset_bounds-lines-p
-offset_bounds-lines-p c =
-    let few : 2 * (c.args.s.dim + 1) * c.args.s.count ≤ 256 = few_numbers (2 * (c.args.s.dim + 1)) c.args.s.count (omega arith) (omega arith) in
-    omega (arith, few)
 
 pub returns : goal.returns
 returns c =

@@ -1,5 +1,5 @@
 -- `put_points` writes k lines. Invariant: the first i stand there, and the others begin at p.
-use mathlib.Core.Path.{◌≡◌, refl, ap, ◌∙◌}
+use mathlib.Core.Path.{◌≡◌, ap, ◌∙◌}
 use Prim.Native.Nat.{ℕ, ◌+◌, ◌*◌}
 use native.Mathlib.Nat.{mul-suc, mul-zero}
 use native.Mathlib.Numerals.{add-one}
@@ -16,16 +16,6 @@ loop-i-init c =
       omega (arith, mul-zero (6 + 17 * a.n)),
       lines_none _ a.xs.now a.from a.n a.k c.requires.k_in_bounds.1 a.out.now a.at (6 + 17 * a.n),
     )
-
-pub overflow_mul-n : goal.overflow_mul-n
-overflow_mul-n c =
-    let doubles-in = row_in c.args.n c.loop-i.i c.args.k (omega arith) in
-    omega (arith, doubles-in)
-
-pub overflow_add-from : goal.overflow_add-from
-overflow_add-from c =
-    let doubles-in = row_in c.args.n c.loop-i.i c.args.k (omega arith) in
-    omega (arith, doubles-in)
 
 pub put_line-p-requires : goal.put_line-p-requires
 put_line-p-requires c =

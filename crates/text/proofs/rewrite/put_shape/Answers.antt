@@ -1,13 +1,12 @@
 -- `put_shape` writes the line of the knots, the lines of the points and that of the box, one behind the other.
-use mathlib.Core.Path.{◌≡◌, sym, subst}
-use mathlib.Core.Bool.{true}
+use mathlib.Core.Path.{◌≡◌, subst}
 use mathlib.Core.List.{◌++◌}
 use Prim.Native.Nat.{ℕ, suc, ◌+◌, ◌*◌, ◌≤◌}
 use native.Mathlib.Nat.{mul-le-mul}
 use native.Mathlib.Omega.{arith}
-use Rattle.lists.specs.Lists.{part, all}
+use Rattle.lists.specs.Lists.{part}
 use Rattle.text.specs.Bytes.{bytes}
-use Rattle.text.specs.Printable.{Written, is_number}
+use Rattle.text.specs.Printable.{Written}
 use Rattle.text.specs.Form.{line_text, lines_text, shape_text}
 use Rattle.text.proofs.question.Others.{few_numbers}
 use Rattle.text.proofs.print.Writing.{joined}
@@ -23,28 +22,6 @@ short : (dim count : ℕ) → dim ≤ 3 → count ≤ 32 → (6 + 17 * (2 * (dim
 short dim count d n =
     let h : 6 + 17 * (2 * (dim + 1)) ≤ 142 = omega arith in
     mul-le-mul h n
-
-pub put_points-j-requires : goal.put_points-j-requires
-put_points-j-requires c =
-    let d : c.args.s.dim ≤ 3 = c.requires.at_in_bounds.1.0 in
-    let n : c.args.s.count ≤ 32 = c.requires.at_in_bounds.1.2 in
-    let point : 2 * (c.args.s.dim + 1) ≡ 2 * suc c.args.s.dim = omega arith in
-    let a = c.args in record {
-      k_in_bounds = (omega (arith, short c.args.s.dim c.args.s.count d n, c.put_line-i.ensures.1), omega (arith, few c.args.s.dim c.args.s.count d n));
-      k_value = subst (λ (w : ℕ). all is_number (part a.lines.now (1 + (a.s.count + a.s.degree + 1)) (w * a.s.count)) ≡ true) (sym point)
-          c.requires.all_numbers.points;
-    }
-
-pub put_line-requires : goal.put_line-requires
-put_line-requires c =
-    let d : c.args.s.dim ≤ 3 = c.requires.at_in_bounds.1.0 in
-    let n : c.args.s.count ≤ 32 = c.requires.at_in_bounds.1.2 in
-    let point : 2 * (c.args.s.dim + 1) ≡ 2 * suc c.args.s.dim = omega arith in
-    let a = c.args in record {
-      n_in_bounds = (omega (arith, short c.args.s.dim c.args.s.count d n, c.put_line-i.ensures.1, c.put_points-j.ensures.1), omega (arith, few c.args.s.dim c.args.s.count d n));
-      n_value = subst (λ (w : ℕ). all is_number (part a.lines.now (1 + (a.s.count + a.s.degree + 1) + w * a.s.count) (2 * a.s.dim)) ≡ true)
-          (sym point) c.requires.all_numbers.box;
-    }
 
 pub returns : goal.returns
 unfolding shape_text bytes

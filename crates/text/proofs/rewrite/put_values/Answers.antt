@@ -2,7 +2,7 @@
 use mathlib.Core.Path.{◌≡◌, refl, sym, ◌∙◌, subst}
 use Prim.Native.Nat.{◌+◌, ◌*◌}
 use native.Mathlib.Omega.{arith}
-use lib.ListN.{length, length-set}
+use lib.ListN.{length}
 use lib.Dec.{T}
 use lib.Ieee.{Float, nan}
 use Rattle.math.proofs.Bools.{yes}
@@ -27,11 +27,6 @@ put_double-k-requires c =
       subst (λ (x : Float). T (is_number x)) (sym c.positive_zero-y.ensures)
           (positive_number _ (yes _ (part-passes is_number a.xs.now a.from a.n l.i nan c.requires.n_in_bounds.1 c.requires.n_value (omega arith)))),
     )
-
-pub bounds-out-k : goal.bounds-out-k
-bounds-out-k c =
-    let l = c.loop-i in
-    omega (arith, c.put_double-k.ensures.1, c.put_double-k.auto.out, l.auto.out)
 
 pub loop-i-preserved : goal.loop-i-preserved
 loop-i-preserved c =

@@ -2,13 +2,7 @@
 use mathlib.Core.Path.{subst}
 use Rattle.text.specs.Cursor.{TextRead}
 use Rattle.text.proofs.rewrite.Cases.{rewrites_refused, rewrites_asked, within}
-use native.Mathlib.Omega.{arith}
 use Rattle.text.proofs.rewrite.rewrite.Goals as goal
-
-pub rewrite_lines-requires : goal.rewrite_lines-requires
-rewrite_lines-requires c =
-    let q = subst (TextRead _ _) c.in-Yes.is c.read.ensures in
-    (omega arith, q.small)
 
 pub returns-in-No : goal.returns-in-No
 returns-in-No c =
