@@ -1,22 +1,22 @@
 // What a call may lend: the check 16 of request E8 and 1 to 10 of the scope, each equal to its definition. 16 looks at
 // the revision, 1 to 3 at the sizes, 1 to 8 at a curve, 9 and 10 at the nodes and the work area.
-ghost use Rattle.std.specs.Prelude.{◌≡◌, suc, max, ◌+◌, ◌*◌, ◌≤◌, ◌<◌, length, T, leb, eqb, true, ◌&&◌, ◌||◌};
-ghost use Rattle.std.specs.Float.{binary64};
-ghost use Rattle.std.specs.Float.Ieee.{fits, lt, le, eq};
+ghost use Rattle.std.specs.Prelude.{◌≡◌, suc, ◌+◌, ◌*◌, ◌≤◌, ◌<◌, length, leb, eqb, true, ◌&&◌, ◌||◌};
+ghost use Rattle.std.specs.Float.Ieee.{lt, le, eq};
 ghost use Rattle.lists.specs.Lists.{all};
 ghost use Rattle.math.specs.Scalars.{zero_f};
 ghost use Rattle.model.specs.Layout.{scalars_of, slot_words};
-ghost use Rattle.model.specs.Call.{AllDoubles, curve_of, lent, usable, ordered, rising, multiplicity_ok};
+ghost use Rattle.model.specs.Call.{curve_of, lent, usable, ordered, rising, multiplicity_ok};
 ghost use Rattle.model.specs.Call.{knots_valid, nodes_fit, revision_fits, revision_refusal, sizes_refusal, stated_words};
+ghost use Rattle.model.specs.Numbers.{code_of};
 ghost use Rattle.geometry.specs.Call.{CurveRefused, QuestionRefused, CallRefused};
 ghost use Rattle.geometry.specs.Multiplicity.{repeats_at, multiplicity_ok_at};
 
 use crate::nurb_curve::weights_positive;
+use model::refusal::Refusal;
 
 // A number, and at most 2^100 in size.
 fn usable(x: f64) -> bool
-    ensures equal { result ≡ usable x }
-    ensures double { T (fits binary64 x) }
+    ensures { result ≡ usable x }
 {
     let most = f64::from_bits(0x4630_0000_0000_0000);
     -most <= x && x <= most
@@ -24,17 +24,9 @@ fn usable(x: f64) -> bool
 
 // Every number of a list is usable.
 fn all_usable(l: &[f64]) -> bool
-    ensures equal { result ≡ all usable l.now }
-    ensures doubles { result ≡ true → AllDoubles l.now }
+    ensures { result ≡ all usable l.now }
 {
-    let mut i = 0;
-    while i < l.len() {
-        if !usable(l[i]) {
-            return false;
-        }
-        i += 1;
-    }
-    true
+    l.iter().all(|x| usable(*x))
 }
 
 // No interval of the first n has its lo above its hi.
@@ -42,28 +34,14 @@ fn all_ordered(l: &[f64], n: usize) -> bool
     requires { 2 * n ≤ length l.now }
     ensures { result ≡ all ordered (scalars_of n l.now) }
 {
-    let mut i = 0;
-    while i < n {
-        if !(l[2 * i] <= l[2 * i + 1]) {
-            return false;
-        }
-        i += 1;
-    }
-    true
+    (0..n).all(|i| l[2 * i] <= l[2 * i + 1])
 }
 
 // No knot is below the one before.
 fn rising(knots: &[f64]) -> bool
     ensures { result ≡ rising knots.now }
 {
-    let mut i = 1;
-    while i < knots.len() {
-        if !(knots[i - 1] <= knots[i]) {
-            return false;
-        }
-        i += 1;
-    }
-    true
+    knots.windows(2).all(|w| w[0] <= w[1])
 }
 
 // The knot u is an end of the domain from a to b.
@@ -78,13 +56,6 @@ fn is_inner(a: f64, b: f64, u: f64) -> bool
     ensures { result ≡ (lt a u && lt u b) }
 {
     a < u && u < b
-}
-
-// How often a knot inside the domain may occur.
-fn inner_most(degree: usize) -> usize
-    ensures { result ≡ max degree 1 }
-{
-    if degree == 0 { 1 } else { degree }
 }
 
 // Knot number i is followed by an equal one, k places on.
@@ -108,7 +79,7 @@ fn multiplicity_ok(degree: usize, a: f64, b: f64, knots: &[f64], i: usize) -> bo
         return !repeats_at(knots, i, degree + 1);
     }
     if is_inner(a, b, u) {
-        return !repeats_at(knots, i, inner_most(degree));
+        return !repeats_at(knots, i, degree.max(1));
     }
     true
 }
@@ -119,14 +90,7 @@ fn multiplicities_ok(degree: usize, a: f64, b: f64, knots: &[f64]) -> bool
     ensures { let l = knots.now in
         result ≡ all (λ u. multiplicity_ok degree a b l u) l }
 {
-    let mut i = 0;
-    while i < knots.len() {
-        if !multiplicity_ok(degree, a, b, knots, i) {
-            return false;
-        }
-        i += 1;
-    }
-    true
+    (0..knots.len()).all(|i| multiplicity_ok(degree, a, b, knots, i))
 }
 
 // No knot falls, the domain's start is below its end, and no value occurs too often.
@@ -152,14 +116,14 @@ pub(crate) fn revision_fits(rev: usize) -> bool
     rev == 1 || rev == 2
 }
 
-// 16, or 0 where the revision is 1 or 2.
-pub fn revision_refusal(rev: usize) -> usize
-    ensures { result ≡ revision_refusal rev }
+// 16, unless the revision is 1 or 2.
+pub fn revision_refusal(rev: usize) -> Result<(), Refusal>
+    ensures { code_of result ≡ revision_refusal rev }
 {
     if !revision_fits(rev) {
-        return 16;
+        return Err(Refusal::Revision);
     }
-    0
+    Ok(())
 }
 
 // 1: the dimension is 2 or 3.
@@ -177,20 +141,20 @@ fn count_fits(degree: usize, count: usize) -> bool
     degree + 1 <= count && count <= 32
 }
 
-// The number from 1 to 3 by which the sizes of a curve are refused, or 0.
-pub fn sizes_refusal(dim: usize, degree: usize, count: usize) -> usize
-    ensures { result ≡ sizes_refusal dim degree count }
+// By which of 1 to 3 the sizes of a curve are refused.
+pub fn sizes_refusal(dim: usize, degree: usize, count: usize) -> Result<(), Refusal>
+    ensures { code_of result ≡ sizes_refusal dim degree count }
 {
     if !dim_fits(dim) {
-        return 1;
+        return Err(Refusal::Dim);
     }
     if degree > 7 {
-        return 2;
+        return Err(Refusal::Degree);
     }
     if !count_fits(degree, count) {
-        return 3;
+        return Err(Refusal::Count);
     }
-    0
+    Ok(())
 }
 
 // 4: each slice has its length.
@@ -219,9 +183,8 @@ fn lengths_fit(
 
 // 5: every number is usable, and the resolution is not below 0.
 fn numbers_usable(knots: &[f64], points: &[f64], point_box: &[f64], resolution: f64) -> bool
-    ensures equal { result ≡ (all usable knots.now && all usable points.now
+    ensures { result ≡ (all usable knots.now && all usable points.now
         && all usable point_box.now && usable resolution && le zero_f resolution) }
-    ensures doubles { result ≡ true → AllDoubles knots.now × AllDoubles point_box.now }
 {
     if !all_usable(knots) {
         return false;
@@ -251,7 +214,7 @@ fn bounds_ordered(dim: usize, count: usize, points: &[f64], sides: usize, point_
     all_ordered(point_box, sides)
 }
 
-// The number from 1 to 8 by which a curve is refused, or 0. Beside the curve, `sides` intervals are lent in `point_box`, and a resolution.
+// By which of 1 to 8 a curve is refused. Beside the curve, `sides` intervals are lent in `point_box`, and a resolution.
 pub(crate) fn curve_refusal(
     dim: usize,
     degree: usize,
@@ -261,31 +224,28 @@ pub(crate) fn curve_refusal(
     sides: usize,
     point_box: &[f64],
     resolution: f64,
-) -> usize
+) -> Result<(), Refusal>
     requires { sides ≤ dim + 1 }
     ensures { let v = curve_of dim degree count knots.now points.now in
-        CurveRefused sides point_box.now resolution v result }
+        CurveRefused sides point_box.now resolution v (code_of result) }
 {
-    let number = sizes_refusal(dim, degree, count);
-    if number != 0 {
-        return number;
-    }
+    sizes_refusal(dim, degree, count)?;
     if !lengths_fit(dim, degree, count, knots, points, sides, point_box) {
-        return 4;
+        return Err(Refusal::Length);
     }
     if !numbers_usable(knots, points, point_box, resolution) {
-        return 5;
+        return Err(Refusal::Value);
     }
     if !bounds_ordered(dim, count, points, sides, point_box) {
-        return 6;
+        return Err(Refusal::Order);
     }
     if !weights_positive(points, dim, count) {
-        return 7;
+        return Err(Refusal::Weight);
     }
     if !knots_valid(degree, count, knots) {
-        return 8;
+        return Err(Refusal::Knots);
     }
-    0
+    Ok(())
 }
 
 // 9: there are at most 4,096 nodes.
@@ -307,7 +267,7 @@ pub(crate) fn slot_words(dim: usize, degree: usize, count: usize) -> usize
 pub fn stated_words(dim: usize, degree: usize, count: usize, nodes: usize) -> usize
     ensures { result ≡ stated_words dim degree count nodes }
 {
-    if sizes_refusal(dim, degree, count) != 0 {
+    if sizes_refusal(dim, degree, count).is_err() {
         return 0;
     }
     if !nodes_fit(nodes) {
@@ -316,7 +276,7 @@ pub fn stated_words(dim: usize, degree: usize, count: usize, nodes: usize) -> us
     (nodes + 3) * slot_words(dim, degree, count)
 }
 
-// The number by which a question is refused, whatever is lent to search it, or 0: 16, then 1 to 9.
+// By which of 16, then 1 to 9, a question is refused, whatever is lent to search it.
 pub fn question_refusal(
     rev: usize,
     dim: usize,
@@ -327,27 +287,21 @@ pub fn question_refusal(
     point_box: &[f64],
     resolution: f64,
     nodes: usize,
-) -> usize
+) -> Result<(), Refusal>
     ensures { let v = curve_of dim degree count knots.now points.now in
-        QuestionRefused rev v point_box.now resolution nodes result }
+        QuestionRefused rev v point_box.now resolution nodes (code_of result) }
 {
-    let first = revision_refusal(rev);
-    if first != 0 {
-        return first;
-    }
-    let number = curve_refusal(
+    revision_refusal(rev)?;
+    curve_refusal(
         dim, degree, count, knots, points, dim, point_box, resolution,
-    );
-    if number != 0 {
-        return number;
-    }
+    )?;
     if !nodes_fit(nodes) {
-        return 9;
+        return Err(Refusal::Nodes);
     }
-    0
+    Ok(())
 }
 
-// The number by which a call is refused, or 0: that of its question, then 10.
+// By what a call is refused: as its question is, then by 10.
 pub(crate) fn refusal(
     rev: usize,
     dim: usize,
@@ -359,18 +313,15 @@ pub(crate) fn refusal(
     resolution: f64,
     nodes: usize,
     work_len: usize,
-) -> usize
+) -> Result<(), Refusal>
     ensures { let k = knots.now in let p = points.now in let b = point_box.now in
-        CallRefused (lent rev dim degree count k p b resolution nodes work_len) result }
+        CallRefused (lent rev dim degree count k p b resolution nodes work_len) (code_of result) }
 {
-    let number = question_refusal(
+    question_refusal(
         rev, dim, degree, count, knots, points, point_box, resolution, nodes,
-    );
-    if number != 0 {
-        return number;
-    }
+    )?;
     if stated_words(dim, degree, count, nodes) > work_len {
-        return 10;
+        return Err(Refusal::Work);
     }
-    0
+    Ok(())
 }

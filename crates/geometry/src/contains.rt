@@ -224,7 +224,7 @@ pub fn curve_could_contain(
         let c = lent rev dim degree count k p b resolution nodes (length work.old) in
         Answers c work.old work.new result }
 {
-    let number = refusal(
+    if let Err(refused) = refusal(
         rev,
         dim,
         degree,
@@ -235,9 +235,8 @@ pub fn curve_could_contain(
         resolution,
         nodes,
         work.len(),
-    );
-    if number != 0 {
-        return Found::Refused(number as u64, 0, 0, 0);
+    ) {
+        return Found::Refused(refused.number(), 0, 0, 0);
     }
     search_lent(
         rev, dim, degree, count, knots, points, point_box, resolution, nodes, work,

@@ -11,9 +11,7 @@ ghost use Rattle.model.specs.Layout.{flat};
 ghost use Rattle.geometry.specs.Slots.{knots_from, place_of, count_at, vector_at, blend_at, between_at, with_sides};
 ghost use Rattle.geometry.specs.Slots.{numbers, piece_at, placed, Inside, Held, CutAt};
 
-use crate::slots::{
-    Shape, copy, copy_up, count_at, fill, knots_from, knots_in, place_of, set_count,
-};
+use crate::slots::{Shape, copy, count_at, fill, knots_from, knots_in, place_of, set_count};
 use crate::vector::{interpolate_tight, interpolate_wide};
 use math::scalars::{Divided, Scalar};
 
@@ -190,7 +188,7 @@ fn open_points(work: &mut [f64], base: usize, s: Shape, n: usize, k: usize)
     let from = place_of(s, base, k);
     let to = place_of(s, base, k + 1);
     let end = place_of(s, base, n);
-    copy_up(work, from, to, end - from);
+    copy(work, from, to, end - from);
 }
 
 // Of the m knots behind the count at base, those behind number k move up by one, and t is put in.
@@ -200,7 +198,7 @@ fn insert_knot(work: &mut [f64], base: usize, m: usize, k: usize, t: f64)
         work.new ≡ put old (knots_from base) (knots_with k t (part old (knots_from base) m)) }
 {
     let at = knots_from(base) + k + 1;
-    copy_up(work, at, at + 1, m - k - 1);
+    copy(work, at, at + 1, m - k - 1);
     work[at] = t;
 }
 

@@ -74,29 +74,12 @@ pub(crate) fn set_depth(work: &mut [f64], base: usize, w: usize, d: usize)
     set_count(work, base + (w - 1), d);
 }
 
-// The w words at b become those at a, which lie in front of them or begin at or behind the first of them.
+// The w words at b become those at a; the two may overlap.
 pub(crate) fn copy(work: &mut [f64], a: usize, b: usize, w: usize)
-    requires w_in_bounds { (b + w ≤ length work.old) × (a + w ≤ length work.old) }
-    requires fact { (a + w ≤ b) ⊎ (b ≤ a) }
+    requires { (b + w ≤ length work.old) × (a + w ≤ length work.old) }
     ensures { work.new ≡ put work.old b (part work.old a w) }
 {
-    let mut i = 0;
-    while i < w {
-        work[b + i] = work[a + i];
-        i += 1;
-    }
-}
-
-// The w words at b become those at a, which begin at or before the first of them.
-pub(crate) fn copy_up(work: &mut [f64], a: usize, b: usize, w: usize)
-    requires { (a ≤ b) × (b + w ≤ length work.old) }
-    ensures { work.new ≡ put work.old b (part work.old a w) }
-{
-    let mut i = w;
-    while 0 < i {
-        i -= 1;
-        work[b + i] = work[a + i];
-    }
+    work.copy_within(a..a + w, b);
 }
 
 // The knots of the piece in the slot at base.
@@ -126,11 +109,7 @@ pub(crate) fn write(work: &mut [f64], a: usize, source: &[f64])
     requires { a + length source.now ≤ length work.old }
     ensures { work.new ≡ put work.old a source.now }
 {
-    let mut i = 0;
-    while i < source.len() {
-        work[a + i] = source[i];
-        i += 1;
-    }
+    work[a..a + source.len()].copy_from_slice(source);
 }
 
 // The slot at base holds the whole curve, from its knots and the numbers of its points.
@@ -181,9 +160,5 @@ pub(crate) fn fill(work: &mut [f64], a: usize, n: usize, v: f64)
     requires { a + n ≤ length work.old }
     ensures { work.new ≡ put work.old a (replicate n v) }
 {
-    let mut i = 0;
-    while i < n {
-        work[a + i] = v;
-        i += 1;
-    }
+    work[a..a + n].fill(v);
 }

@@ -7,20 +7,20 @@ ghost use Rattle.text.specs.Form.{Within};
 
 use input::read_input;
 use std::io;
-use text::rewrite::{Rewritten, rewrite};
-
-// Says on standard error by which number the text is refused.
-fn say_refused(rt: &impl Eprint, number: u64) -> io::Result<()> {
-    eprintln!(rt; "griptext: refused-{number}")
-}
+use model::refusal::Refusal;
+use text::rewrite::rewrite;
 
 // Prints what the writer gave, which stands at the front of `form`.
-fn print(rt: &(impl Print + Eprint), form: &[u8], given: Rewritten) -> io::Result<()>
+fn print(
+    rt: &(impl Print + Eprint),
+    form: &[u8],
+    given: Result<usize, Refusal>,
+) -> io::Result<()>
     requires { Within given form.now }
 {
     match given {
-        Rewritten::Refused(number) => say_refused(rt, number),
-        Rewritten::Bytes(n) => {
+        Err(refused) => eprintln!(rt; "griptext: {refused}"),
+        Ok(n) => {
             if rt.write_all(&form[..n]).is_err() {
                 return eprintln!(rt; "griptext: the form could not be written");
             }

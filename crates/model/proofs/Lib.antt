@@ -4,6 +4,7 @@ pub mod Texts
 pub mod Table
 pub mod Spans
 pub mod Pause
+pub mod Numbers
 pub mod Checks
 pub mod Nodes
 pub mod Every

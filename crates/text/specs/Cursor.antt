@@ -1,14 +1,15 @@
 -- How the code says what it read: by the place at which the rest of the text begins. Definitions only.
-use Rattle.std.specs.Prelude.{ℕ, ◌+◌, ◌*◌, ◌≤◌, ◌≡◌, true, List, [], ◌∷◌, ◌++◌, length, drop, get_or, Option, Some, None, Float}
+use Rattle.std.specs.Prelude.{ℕ, ◌+◌, ◌*◌, ◌≤◌, ◌≡◌, true, List, [], ◌∷◌, ◌++◌, length, drop, get_or, Option, Some, None, Result, Ok, Err, Float}
 use Rattle.std.specs.Float.{nan}
 use Rattle.lists.specs.Lists.{all, part, put}
+use Rattle.model.specs.Numbers.{number_of}
+use Rattle.model.specs.declared.refusal.Refusal.{Refusal}
 use Rattle.text.specs.Bytes.{bytes, Read, bad, got, then, word}
 use Rattle.text.specs.Numerals.{is_hex, hex_of, double_of, double}
 use Rattle.text.specs.Question.{small_line, line, lines}
 use Rattle.text.specs.Question.{Sizes, knot_doubles, point_doubles, box_doubles, Numbers}
 use Rattle.text.specs.Question.{Reading, refused_by, asks}
 use Rattle.text.specs.declared.cursor.Asked.{Asked}
-use Rattle.text.specs.declared.cursor.Asked.TheVariants.{No, Yes}
 
 -- These sizes are in range.
 abbrev pub Small : Sizes → Type 0
@@ -142,12 +143,16 @@ NumbersRead text spec s l m (Some (nodes, i)) = NumbersAt text spec s l m nodes 
 
 -- ---- the whole text
 
+-- The question a, whose doubles are laid down at the front of the memory l.
+abbrev pub question_in : Asked → List Float → Reading
+question_in a l = asks a.rev a.sizes (numbers_in a.sizes a.nodes l)
+
 -- The text comes to a question of small sizes, whose doubles were written to the front of the memory m.
-pub record QuestionAt (r : Reading) (m : List Float) (rev : ℕ) (s : Sizes) (nodes : ℕ) : Type 0 where
-  pub says : r ≡ asks rev s (numbers_in s nodes m)
-  pub small : Small s
+pub record QuestionAt (r : Reading) (m : List Float) (a : Asked) : Type 0 where
+  pub says : r ≡ question_in a m
+  pub small : Small a.sizes
 
 -- It was read.
-abbrev pub TextRead : Reading → List Float → Asked → Type 0
-TextRead r m (No n) = r ≡ refused_by n
-TextRead r m (Yes rev s nodes) = QuestionAt r m rev s nodes
+abbrev pub TextRead : Reading → List Float → Result Asked Refusal → Type 0
+TextRead r m (Ok a) = QuestionAt r m a
+TextRead r m (Err e) = r ≡ refused_by (number_of e)

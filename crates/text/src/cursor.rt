@@ -8,11 +8,10 @@ pub struct Sizes {
     pub count: usize,
 }
 
-// A whole text.
+// The numbers of a question, but for its doubles.
 #[derive(Clone, Copy)]
-pub enum Asked {
-    // The number by which it is refused.
-    No(u64),
-    // The revision, the sizes and the nodes of its question.
-    Yes(usize, Sizes, usize),
+pub struct Asked {
+    pub rev: usize,
+    pub sizes: Sizes,
+    pub nodes: usize,
 }

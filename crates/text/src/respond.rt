@@ -1,12 +1,12 @@
 // The answer to a text.
 ghost use Rattle.std.specs.Prelude.{◌≡◌, ◌&&◌, ◌≤◌, length, take};
-ghost use Rattle.text.specs.Question.{asks, reading};
-ghost use Rattle.text.specs.Cursor.{Small, numbers_in};
+ghost use Rattle.text.specs.Question.{reading};
+ghost use Rattle.text.specs.Cursor.{Small, question_in};
 ghost use Rattle.text.specs.Respond.{fitting, printed_in, AnswersReading, SaysAnswer};
 ghost use Rattle.text.specs.Printable.{Written, is_number, is_printable};
 ghost use Rattle.text.specs.Counts.{Counts};
 
-use crate::cursor::{Asked, Sizes};
+use crate::cursor::Asked;
 use crate::print::write;
 use crate::reading::{read, room};
 use geometry::contains::curve_could_contain;
@@ -22,16 +22,17 @@ fn area() -> [f64; 8192]
 
 // The answer of the search to the question whose numbers stand in `lines`: the resolution, the knots, the points, the box.
 // It keeps every promise of the search.
-fn ask_lines(lines: &[f64], rev: usize, s: Sizes, nodes: usize) -> Found
-    requires { (303 ≤ length lines.now) × Small s }
-    ensures { AnswersReading (asks rev s (numbers_in s nodes lines.now)) result }
+fn ask_lines(asked: Asked, lines: &[f64]) -> Found
+    requires { (303 ≤ length lines.now) × Small asked.sizes }
+    ensures { AnswersReading (question_in asked lines.now) result }
 {
     let mut work = area();
+    let s = asked.sizes;
     let k = 1 + (s.count + s.degree + 1);
     let p = k + 2 * (s.dim + 1) * s.count;
     let b = p + 2 * s.dim;
     curve_could_contain(
-        rev,
+        asked.rev,
         s.dim,
         s.degree,
         s.count,
@@ -39,7 +40,7 @@ fn ask_lines(lines: &[f64], rev: usize, s: Sizes, nodes: usize) -> Found
         &lines[k..p],
         &lines[p..b],
         lines[0],
-        nodes,
+        asked.nodes,
         &mut work,
     )
 }
@@ -50,8 +51,8 @@ pub fn answered(text: &[u8]) -> Found
 {
     let mut lines = room();
     match read(text, &mut lines) {
-        Asked::No(n) => Found::Refused(n, 0, 0, 0),
-        Asked::Yes(rev, s, nodes) => ask_lines(&lines, rev, s, nodes),
+        Ok(asked) => ask_lines(asked, &lines),
+        Err(refused) => Found::Refused(refused.number(), 0, 0, 0),
     }
 }
 

@@ -4,8 +4,8 @@ ghost use Rattle.std.specs.Float.{nan};
 ghost use Rattle.lists.specs.Lists.{all, part};
 ghost use Rattle.text.specs.Bytes.{bytes};
 ghost use Rattle.text.specs.Counts.{Counts};
-ghost use Rattle.text.specs.Question.{asks};
-ghost use Rattle.text.specs.Cursor.{Small, numbers_in};
+ghost use Rattle.model.specs.Numbers.{code_of};
+ghost use Rattle.text.specs.Cursor.{Small, numbers_in, question_in};
 ghost use Rattle.text.specs.Printable.{Written, is_number, AllNumbers};
 ghost use Rattle.text.specs.Form.{small_text, values_text, line_text, lines_text, sizes_text, limits_text, shape_text, form};
 ghost use Rattle.text.specs.Form.{refusal_of, accepted_by, accepted, count_for, output_for, Rewrites, Within};
@@ -16,15 +16,7 @@ use crate::question::behind;
 use crate::reading::{read, room};
 use geometry::call::question_refusal;
 use geometry::contains::positive_zero;
-
-// What the writer gives.
-#[derive(Clone, Copy)]
-pub enum Rewritten {
-    // The output begins with the text, of so many bytes.
-    Bytes(usize),
-    // The number of the refusal; nothing is written.
-    Refused(u64),
-}
+use model::refusal::Refusal;
 
 // ---- lines
 
@@ -118,15 +110,16 @@ fn put_shape(out: &mut [u8], at: usize, s: Sizes, lines: &[f64]) -> usize
 }
 
 // The one form of the question whose doubles stand in `lines`, at the front. The result is how many bytes it has.
-fn put_form(out: &mut [u8], rev: usize, s: Sizes, nodes: usize, lines: &[f64]) -> usize
-    requires in_bounds { (5496 ≤ length out.old) × Small s × (303 ≤ length lines.now) }
-    requires all_numbers { AllNumbers (numbers_in s 0 lines.now) }
-    ensures written { Written out.old 0 (form rev s (numbers_in s nodes lines.now)) out.new result }
+fn put_form(out: &mut [u8], asked: Asked, lines: &[f64]) -> usize
+    requires in_bounds { (5496 ≤ length out.old) × Small asked.sizes × (303 ≤ length lines.now) }
+    requires all_numbers { AllNumbers (numbers_in asked.sizes 0 lines.now) }
+    ensures written { let s = asked.sizes in let q = numbers_in s asked.nodes lines.now in
+        Written out.old 0 (form asked.rev s q) out.new result }
     ensures within { Counts result out.new }
 {
-    let i = put_sizes(out, rev, s);
-    let j = put_limits(out, i, nodes, lines);
-    put_shape(out, j, s, lines)
+    let i = put_sizes(out, asked.rev, asked.sizes);
+    let j = put_limits(out, i, asked.nodes, lines);
+    put_shape(out, j, asked.sizes, lines)
 }
 
 // ---- what is given
@@ -145,8 +138,9 @@ fn given(n: usize, room: usize) -> usize
     if n <= room { n } else { 0 }
 }
 
-// The text, written to the front of `out` where it fits. Where it does not, nothing is written, and the number is 15.
-pub fn give(text: &[u8], out: &mut [u8]) -> Rewritten
+// The text, written to the front of `out` where it fits: how many bytes it has. Where it does not fit, nothing is written,
+// and the number is 15.
+pub fn give(text: &[u8], out: &mut [u8]) -> Result<usize, Refusal>
     ensures count { result ≡ count_for (length out.old) text.now }
     ensures output { out.new ≡ output_for out.old text.now }
 {
@@ -154,21 +148,23 @@ pub fn give(text: &[u8], out: &mut [u8]) -> Rewritten
     let k = given(n, out.len());
     put_word(out, 0, &text[..k]);
     if k < n {
-        return Rewritten::Refused(15);
+        return Err(Refusal::Room);
     }
-    Rewritten::Bytes(n)
+    Ok(n)
 }
 
-// The number by which the question whose doubles stand in `lines` is refused, or 0.
-fn lines_refusal(rev: usize, s: Sizes, nodes: usize, lines: &[f64]) -> usize
-    requires { (303 ≤ length lines.now) × Small s }
-    ensures { result ≡ refusal_of rev s (numbers_in s nodes lines.now) }
+// By what the question whose doubles stand in `lines` is refused.
+fn lines_refusal(asked: Asked, lines: &[f64]) -> Result<(), Refusal>
+    requires { (303 ≤ length lines.now) × Small asked.sizes }
+    ensures { let s = asked.sizes in
+        code_of result ≡ refusal_of asked.rev s (numbers_in s asked.nodes lines.now) }
 {
+    let s = asked.sizes;
     let k = 1 + (s.count + s.degree + 1);
     let p = k + 2 * (s.dim + 1) * s.count;
     let b = p + 2 * s.dim;
     question_refusal(
-        rev,
+        asked.rev,
         s.dim,
         s.degree,
         s.count,
@@ -176,45 +172,33 @@ fn lines_refusal(rev: usize, s: Sizes, nodes: usize, lines: &[f64]) -> usize
         &lines[k..p],
         &lines[p..b],
         lines[0],
-        nodes,
+        asked.nodes,
     )
 }
 
 // What is given for the question whose doubles stand in `lines`.
-fn rewrite_lines(
-    rev: usize,
-    s: Sizes,
-    nodes: usize,
-    lines: &[f64],
-    out: &mut [u8],
-) -> Rewritten
-    requires { (303 ≤ length lines.now) × Small s }
-    ensures { let a = accepted_by (asks rev s (numbers_in s nodes lines.now)) in
-        Rewrites a out.old out.new result }
+fn rewrite_lines(asked: Asked, lines: &[f64], out: &mut [u8]) -> Result<usize, Refusal>
+    requires { (303 ≤ length lines.now) × Small asked.sizes }
+    ensures { Rewrites (accepted_by (question_in asked lines.now)) out.old out.new result }
 {
-    let number = lines_refusal(rev, s, nodes, lines);
-    if number != 0 {
-        return Rewritten::Refused(number as u64);
-    }
+    lines_refusal(asked, lines)?;
     let mut text = blank_form();
-    let n = put_form(&mut text, rev, s, nodes, lines);
+    let n = put_form(&mut text, asked, lines);
     give(&text[..n], out)
 }
 
-// The one form of a text, written to the front of `out`: lower-case digits, no negative zero, and always the line of
+// The one form of a text, written to the front of `out`, and how many bytes it has: lower-case digits, no negative zero, and always the line of
 // the revision. A text that 16, 1 to 9 or 12 refuses has that number, whatever room there is; an output that is too
 // short for any other has 15. Nothing is written then. 5,405 bytes are enough for any text.
 //
 // Its laws are stated in crates/text/specs/OneForm.antt and proved in crates/text/proofs/rewrite/Laws.antt:
 // `AllReadBack`, what is written reads back to the same numbers, and writing it again changes no byte; `OneForm`, two
 // texts have equal numbers exactly when they are given equal bytes.
-pub fn rewrite(text: &[u8], out: &mut [u8]) -> Rewritten
+pub fn rewrite(text: &[u8], out: &mut [u8]) -> Result<usize, Refusal>
     ensures rewrites { Rewrites (accepted text.now) out.old out.new result }
     ensures within { Within result out.new }
 {
     let mut lines = room();
-    match read(text, &mut lines) {
-        Asked::No(n) => Rewritten::Refused(n),
-        Asked::Yes(rev, s, nodes) => rewrite_lines(rev, s, nodes, &lines, out),
-    }
+    let asked = read(text, &mut lines)?;
+    rewrite_lines(asked, &lines, out)
 }

@@ -1,17 +1,20 @@
--- Writes to a list: one in front of another, one that is read back from the same place, and copies that go up from the end. Laws of lists alone.
+-- Writes to a list: one in front of another, one that is read back from the same place, and what the library's copies
+-- leave. Laws of lists alone.
 use mathlib.Core.Path.{◌≡◌, refl, sym, ap, ◌∙◌}
 use mathlib.Core.Logic.{inr}
 use mathlib.Core.List.{List, [], ◌∷◌, ◌++◌}
-use Prim.Native.Nat.{ℕ, zero, suc, ◌+◌, ◌-◌, ◌≤◌, ◌<◌}
-use native.Mathlib.Nat.{not-suc-le-zero}
-use native.Mathlib.Numerals.{sub-one}
+use Prim.Native.Nat.{ℕ, ◌+◌, ◌-◌, ◌≤◌, ◌<◌}
 use native.Mathlib.Omega.{arith}
-use lib.ListN.{length, take, drop, get_or, set, length-take, length-drop}
-use lib.Seq.{take-take, take_all}
+use lib.ListN.{length, take, drop, set, length-take, length-drop}
+use lib.Seq.{paste, take-take, take_all}
+use borrow.Rule.Slice.PartMut.{put_mid}
+use Rattle.std.specs.List.{copy_within}
+use Rattle.std.proofs.Common.{append_assoc}
+use Rattle.std.proofs.lemmas.Slice.{put_mid-paste}
 use Rattle.lists.specs.Lists.{part, put}
-use Rattle.lists.proofs.Part.{length_part, part-cons, part-part}
-use Rattle.lists.proofs.Put.{put-nil, put-put, put-swap, put-cons, put_one, put-snoc, put-part}
-use Rattle.lists.proofs.Read.{take_put, drop-put, drop-put_in, get_or-put-before}
+use Rattle.lists.proofs.Part.{length_part, part-part}
+use Rattle.lists.proofs.Put.{put-put, put-swap, put_one, put-snoc, put-part}
+use Rattle.lists.proofs.Read.{take_put, drop-put, drop-put_in}
 
 module _ {A : Type 0} where
   -- a write in front of what was written
@@ -63,34 +66,24 @@ module _ {A : Type 0} where
   pub set_two : (l : List A) (i : ℕ) (x y : A) → i + 1 < length l → set (set l i x) (i + 1) y ≡ put l i (x ∷ y ∷ [])
   set_two l i x y h = ap (λ (k : List A). set k (i + 1) y) (put_one l i x (omega arith)) ∙ put-snoc l i (x ∷ []) y (omega arith)
 
-  -- ---- a copy from the end to a later place of the same list
+  -- ---- what the library's methods leave, as a write
 
-  -- before the first turn
-  pub up_none : (l : List A) (a b w : ℕ) → l ≡ put l (b + w) (part l (a + w) (w - w))
-  up_none l a b w = let e : w - w ≡ 0 = omega arith in sym (ap (λ (k : ℕ). put l (b + w) (part l (a + w) k)) e ∙ put-nil l (b + w))
+  pasted : (l zs : List A) (a n : ℕ) → length (take n zs) ≡ n → paste l a zs n ≡ put l a (take n zs)
+  unfolding put
+  pasted l zs a n e =
+      append_assoc (take a l) (take n zs) (drop (a + n) l)
+      ∙ ap (λ (k : ℕ). take a l ++ (take n zs ++ drop (a + k) l)) (sym e)
 
-  -- one turn
-  pub up_turn : (l : List A) (a b w i : ℕ) (d : A) → 0 < i → i ≤ w → a ≤ b → b + w ≤ length l
-      → set (put l (b + i) (part l (a + i) (w - i))) (b + (i - 1)) (get_or (put l (b + i) (part l (a + i) (w - i))) (a + (i - 1)) d)
-      ≡ put l (b + (i - 1)) (part l (a + (i - 1)) (w - (i - 1)))
-  up_turn l a b w zero d p h g k = absurd (not-suc-le-zero p)
-  up_turn l a b w (suc i) d p h g k =
-      let v : A = get_or l (a + i) d in
-      let vs : List A = part l (a + suc i) (w - suc i) in
-      let n : length vs ≡ w - suc i = length_part l (a + suc i) (w - suc i) (omega arith) in
-      let f : b + suc i ≡ suc (b + i) = omega arith in
-      let o : suc (a + i) ≡ a + suc i = omega arith in
-      let r : suc (w - suc i) ≡ w - i = omega arith in
-      let read : get_or (put l (b + suc i) vs) (a + i) d ≡ v = get_or-put-before l (b + suc i) vs (a + i) d (omega arith) (omega arith) in
-      let same : v ∷ vs ≡ part l (a + i) (w - i)
-      = sym (ap (λ (m : ℕ). part l (a + i) m) (sym r) ∙ part-cons l (a + i) (w - suc i) d (omega arith) ∙ ap (λ (m : ℕ). v ∷ part l m (w - suc i)) o) in
-      rw (sub-one (suc i), read)
-      (ap (λ (m : ℕ). set (put l m vs) (b + i) v) f ∙ put-cons l (b + i) vs v (omega arith) ∙ ap (put l (b + i)) same)
+  -- a copy within a list
+  pub copied : (l : List A) (a b w : ℕ) → a + w ≤ length l → copy_within l a (a + w) b ≡ put l b (part l a w)
+  copied l a b w h =
+      let e : a + w - a ≡ w = omega arith in
+      ap (paste l b (drop a l)) e ∙ pasted l (drop a l) b w (length_part l a w h)
 
-  -- after the last turn
-  pub up_done : (l : List A) (a b w i : ℕ) → i ≡ 0 → put l (b + i) (part l (a + i) (w - i)) ≡ put l b (part l a w)
-  up_done l a b w i e =
-      let f : b + i ≡ b = omega arith in
-      let g : a + i ≡ a = omega arith in
-      let h : w - i ≡ w = omega arith in
-      rw (f, g, h)
+  -- a part that became vs
+  pub part_became : (l : List A) (a w : ℕ) (ys vs : List A) → ys ≡ vs → length vs ≡ w → put_mid a (a + w - a) l ys ≡ put l a vs
+  part_became l a w ys vs e h =
+      let t : take w vs ≡ vs = take_all w vs (omega (arith, h)) in
+      put_mid-paste a (a + w - a) l ys vs w e (omega arith) (sym h)
+      ∙ pasted l vs a w (ap length t ∙ h)
+      ∙ ap (put l a) t

@@ -1,13 +1,16 @@
 -- A walk over a list that leaves at the first element that fails a test. Assumes nothing.
-use mathlib.Core.Path.{◌≡◌, sym, ap, ◌∙◌, subst}
-use mathlib.Core.Bool.{Bool, true, false, ◌&&◌}
-use mathlib.Core.List.{List}
-use Prim.Native.Nat.{ℕ, ◌+◌, ◌≤◌, ◌<◌}
-use native.Mathlib.Decide.{dec_lt}
+use mathlib.Core.Path.{◌≡◌, refl, sym, ap, ap₂, ◌∙◌, subst}
+use mathlib.Core.Bool.{Bool, true, false, ◌&&◌, true≢false}
+use mathlib.Core.List.{List, [], ◌∷◌}
+use Prim.Native.Nat.{ℕ, suc, ◌+◌, ◌≤◌, ◌<◌}
 use native.Mathlib.Omega.{arith}
 use lib.ListN.{length, drop, get_or}
-use Rattle.lists.specs.Lists.{all}
-use Rattle.lists.proofs.Fold.{all_turn, all_done}
+use Rattle.std.specs.Bool.{MatchBool}
+use Rattle.std.specs.List.{range_with_len, AllWithin, HoldsAt}
+use Rattle.std.proofs.lemmas.List.FromFn.{length-range_with_len, get_or-range_with_len}
+use Rattle.lists.specs.Lists.{all, tab}
+use Rattle.lists.proofs.Fold.{all_turn, all_done, all_get_or}
+use Rattle.lists.proofs.Tab.{length-tab, get_or-tab}
 
 -- ---- a test of all, where what is left to test answers for the whole
 module _ {A : Type 0} (p : A → Bool) (l : List A) (i : ℕ) (r : Bool) (inv : all p (drop i l) ≡ r) where
@@ -23,15 +26,61 @@ module _ {A : Type 0} (p : A → Bool) (l : List A) (i : ℕ) (r : Bool) (inv : 
   pub all_end : length l ≤ i → true ≡ r
   all_end h = sym (all_done p l i h) ∙ inv
 
--- ---- what is known of each element that was read
-module _ {A : Type 0} (d : A) (P : A → Type 0) (l : List A) where
-  abbrev pub KnownTo : ℕ → Type 0
-  KnownTo i = (j : ℕ) → j < i → P (get_or l j d)
+-- ---- a test of all, by what it found
+module _ {A : Type 0} (p : A → Bool) where
+  -- Where each element passes, all do.
+  pub all_each : (l : List A) (d : A) → ((j : ℕ) → j < length l → p (get_or l j d) ≡ true) → all p l ≡ true
+  unfolding all
+  all_each [] d f = refl
+  all_each (x ∷ l) d f =
+      ap₂ (λ (t u : Bool). t && u) (f 0 (omega arith)) (all_each l d (λ j h. f (suc j) (omega arith)))
 
-  -- one more was read
-  pub known_on : (i : ℕ) → KnownTo i → P (get_or l i d) → KnownTo (i + 1)
-  known_on i h k j e = by (dec_lt j i)
+  -- Where one does not, not all do.
+  pub all_miss : (l : List A) (i : ℕ) (d : A) → i < length l → p (get_or l i d) ≡ false → all p l ≡ false
+  all_miss l i d h e = go (all p l) (λ q. all_get_or p l i d q h)
     where
-      by : Dec (j < i) → P (get_or l j d)
-      by (yes f) = h j f
-      by (no f) = let z : i ≡ j = omega arith in subst (λ (m : ℕ). P (get_or l m d)) z k
+      go : (t : Bool) → (t ≡ true → p (get_or l i d) ≡ true) → t ≡ false
+      go true f = sym (f refl) ∙ e
+      go false f = refl
+
+  -- An answer that is true where each element passes, and false where one does not.
+  pub all_by : (l : List A) (d : A) (t : Bool) → (t ≡ true → (j : ℕ) → j < length l → p (get_or l j d) ≡ true)
+      → (t ≡ false → (i : ℕ) × (i < length l) × (p (get_or l i d) ≡ false)) → t ≡ all p l
+  all_by l d true f g = sym (all_each l d (f refl))
+  all_by l d false f g = let m = g refl in sym (all_miss l m.0 d m.1 m.2)
+
+  -- The same of a list that is given by its elements.
+  pub tab_by : (n : ℕ) (h : ℕ → A) (t : Bool) → (t ≡ true → (j : ℕ) → j < n → p (h j) ≡ true)
+      → (t ≡ false → (i : ℕ) × (i < n) × (p (h i) ≡ false)) → t ≡ all p (tab n h)
+  tab_by n h t f g =
+      all_by (tab n h) (h 0) t
+      (λ e j k. let w = same j (omega (arith, k, length-tab n h)) in ap p w ∙ f e j (omega (arith, k, length-tab n h)))
+      (λ e. let m = g e in (m.0, omega (arith, m.1, length-tab n h), ap p (same m.0 m.1) ∙ m.2))
+    where
+      same : (j : ℕ) → j < n → get_or (tab n h) j (h 0) ≡ h j
+      same j k = get_or-tab n h j (h 0) k
+
+-- ---- a test of the numbers below n, by what a walk over them found
+module _ (q : ℕ → Bool) (n : ℕ) where
+  abbrev range : List ℕ
+  range = range_with_len 0 n
+
+  -- What `all` gives over the numbers below n.
+  abbrev pub FoundBelow : Bool → Type 0
+  FoundBelow t =
+      MatchBool t (AllWithin (λ i. q i ≡ true) range 0 (length range))
+      ((k : ℕ) × (k < length range) × HoldsAt (λ i. q i ≡ false) range k)
+
+  -- Number j of them is j.
+  is_own : (j : ℕ) → j < n → get_or range j 0 ≡ j
+  is_own j h = omega (arith, get_or-range_with_len 0 n j 0 h)
+
+  pub each_below : (t : Bool) → FoundBelow t → t ≡ true → (j : ℕ) → j < n → q j ≡ true
+  each_below true m e j h = subst (λ (i : ℕ). q i ≡ true) (is_own j h) (m j 0 (omega arith) (omega (arith, h, length-range_with_len 0 n)))
+  each_below false m e j h = absurd (true≢false (sym e))
+
+  pub some_below : (t : Bool) → FoundBelow t → t ≡ false → (i : ℕ) × (i < n) × (q i ≡ false)
+  some_below true m e = absurd (true≢false e)
+  some_below false m e =
+      let h : m.0 < n = omega (arith, m.1, length-range_with_len 0 n) in
+      (m.0, h, subst (λ (i : ℕ). q i ≡ false) (is_own m.0 h) (m.2 0))

@@ -2,52 +2,16 @@
 use mathlib.Core.Path.{◌≡◌, refl, sym, ap, ◌∙◌}
 use mathlib.Core.Bool.{Bool, true, false, ◌&&◌, ◌||◌, true≢false}
 use mathlib.Core.List.{List, [], ◌∷◌}
-use Prim.Native.Nat.{ℕ, zero, suc, ◌+◌, ◌-◌, ◌*◌, ◌≤◌, ◌<◌}
+use Prim.Native.Nat.{ℕ, zero, suc, ◌+◌, ◌*◌, ◌≤◌, ◌<◌}
 use native.Mathlib.Nat.{le_trans, le_of_eq, mul_assoc, mul-le-mul_left, mul-le-mul_right}
 use native.Mathlib.Omega.{arith}
 use borrow.Author.Tests.{eqb-true}
 use lib.Dec.{eqb}
-use lib.ListN.{length, drop, get_or}
+use lib.ListN.{length, get_or}
 use lib.Ieee.{Float, nan, lt, le}
 use Rattle.lists.specs.Lists.{all}
 use Rattle.model.specs.Layout.{slot_words}
 use Rattle.model.specs.Call.{rising, multiplicity_ok, knots_valid}
-
--- one knot of those that are left, and the next
-rising_step : (l : List Float) (j : ℕ) → suc j < length l → rising (drop j l) ≡ le (get_or l j nan) (get_or l (suc j) nan) && rising (drop (suc j) l)
-unfolding rising
-rising_step [] j h = absurd (omega arith)
-rising_step (a ∷ []) j h = absurd (omega arith)
-rising_step (a ∷ b ∷ l) zero h = refl
-rising_step (a ∷ b ∷ l) (suc j) h = rising_step (b ∷ l) j (omega arith)
-
-rising_last : (l : List Float) (j : ℕ) → length l ≤ suc j → rising (drop j l) ≡ true
-unfolding rising
-rising_last [] zero h = refl
-rising_last [] (suc j) h = refl
-rising_last (a ∷ []) zero h = refl
-rising_last (a ∷ []) (suc j) h = rising_last [] j (omega arith)
-rising_last (a ∷ b ∷ l) zero h = absurd (omega arith)
-rising_last (a ∷ b ∷ l) (suc j) h = rising_last (b ∷ l) j (omega arith)
-
-module _ (l : List Float) (i : ℕ) (r : Bool) (one : 1 ≤ i) (inv : rising (drop (i - 1) l) ≡ r) where
-  before : suc (i - 1) ≡ i
-  before = omega arith
-
-  turn : i < length l → rising (drop (i - 1) l) ≡ le (get_or l (i - 1) nan) (get_or l i nan) && rising (drop i l)
-  turn h = rising_step l (i - 1) (omega arith) ∙ ap (λ (k : ℕ). le (get_or l (i - 1) nan) (get_or l k nan) && rising (drop k l)) before
-
-  pub rising-keep : i < length l → le (get_or l (i - 1) nan) (get_or l i nan) ≡ true → rising (drop (i + 1 - 1) l) ≡ r
-  rising-keep h e = ap (λ (k : ℕ). rising (drop k l)) same ∙ sym (turn h ∙ ap (λ (b : Bool). b && rising (drop i l)) e) ∙ inv
-    where
-      same : i + 1 - 1 ≡ i
-      same = omega arith
-
-  pub rising-stop : i < length l → le (get_or l (i - 1) nan) (get_or l i nan) ≡ false → false ≡ r
-  rising-stop h e = sym (turn h ∙ ap (λ (b : Bool). b && rising (drop i l)) e) ∙ inv
-
-  pub rising_end : length l ≤ i → true ≡ r
-  rising_end h = sym (rising_last l (i - 1) (omega arith)) ∙ inv
 
 -- ---- or, by its first side
 pub or_yes : (t u : Bool) → t ≡ true → t ≡ t || u
@@ -65,6 +29,34 @@ and-go t u e = sym (ap (λ (b : Bool). b && u) e)
 
 pub and_both : (t u : Bool) → t ≡ true → u ≡ true → t && u ≡ true
 and_both t u e f = sym (and-go t u e) ∙ f
+
+-- ---- rising knots, one by one
+rising_each : (l : List Float) → ((k : ℕ) → suc k < length l → le (get_or l k nan) (get_or l (suc k) nan) ≡ true)
+    → rising l ≡ true
+unfolding rising
+rising_each [] f = refl
+rising_each (a ∷ []) f = refl
+rising_each (a ∷ b ∷ l) f = and_both _ _ (f 0 (omega arith)) (rising_each (b ∷ l) (λ k h. f (suc k) (omega arith)))
+
+rising_miss : (l : List Float) (k : ℕ) → suc k < length l → le (get_or l k nan) (get_or l (suc k) nan) ≡ false
+    → rising l ≡ false
+unfolding rising
+rising_miss [] k h e = absurd (omega arith)
+rising_miss (a ∷ []) k h e = absurd (omega arith)
+rising_miss (a ∷ b ∷ l) zero h e = sym (and-stop _ _ e)
+rising_miss (a ∷ b ∷ l) (suc k) h e = ap (λ (t : Bool). le a b && t) (rising_miss (b ∷ l) k (omega arith) e) ∙ never (le a b)
+  where
+    never : (t : Bool) → t && false ≡ false
+    never true = refl
+    never false = refl
+
+-- an answer that is true where each knot is not above the next, and false where one is
+pub rising_by : (l : List Float) (t : Bool)
+    → (t ≡ true → (k : ℕ) → suc k < length l → le (get_or l k nan) (get_or l (suc k) nan) ≡ true)
+    → (t ≡ false → (k : ℕ) × (suc k < length l) × (le (get_or l k nan) (get_or l (suc k) nan) ≡ false))
+    → t ≡ rising l
+rising_by l true f g = sym (rising_each l (f refl))
+rising_by l false f g = let m = g refl in sym (rising_miss l m.0 m.1 m.2)
 
 -- ---- the words of a slot are few
 pub few-points : (d n p : ℕ) → d ≤ 3 → n ≤ 32 → p ≤ 7 → (2 * (d + 1) * n ≤ 256) × (2 * (d + 1) * (n + p + 1) ≤ 320)
@@ -117,27 +109,6 @@ fails_2 false u v e = refl
 
 pub passes_2 : (t u v : Bool) → t ≡ true → u ≡ true → v ≡ t && u && v
 passes_2 t u v e f = and-go (t && u) v (and_both t u e f)
-
--- ---- and five
-module _ (t u v w x : Bool) where
-  pub five_1 : t ≡ false → false ≡ t && u && v && w && x
-  five_1 e = fails_1 (t && u && v) w x (sym (fails_1 t u v e))
-
-  pub five_2 : u ≡ false → false ≡ t && u && v && w && x
-  five_2 e = fails_1 (t && u && v) w x (sym (fails_2 t u v e))
-
-  pub five_3 : v ≡ false → false ≡ t && u && v && w && x
-  five_3 e = fails_1 (t && u && v) w x (ap (λ (z : Bool). t && u && z) e ∙ sym (none (t && u)))
-    where
-      none : (z : Bool) → false ≡ z && false
-      none true = refl
-      none false = refl
-
-  pub five_4 : w ≡ false → false ≡ t && u && v && w && x
-  five_4 e = fails_2 (t && u && v) w x e
-
-  pub five-rest : t ≡ true → u ≡ true → v ≡ true → w ≡ true → x ≡ t && u && v && w && x
-  five-rest a b c d = passes_2 (t && u && v) w x (sym (passes_2 t u v a b) ∙ c) d
 
 -- ---- what the first checks leave
 both : (t u : Bool) → t && u ≡ true → (t ≡ true) × (u ≡ true)

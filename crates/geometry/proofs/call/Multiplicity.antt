@@ -5,14 +5,13 @@ use mathlib.Core.Logic.{◌⊎◌, inl, inr}
 use mathlib.Core.Bool.{Bool, true, false, not, cond, ◌&&◌, ◌||◌}
 use mathlib.Core.List.{List, [], ◌∷◌}
 use Prim.Native.Nat.{ℕ, zero, suc, ◌+◌, ◌≤◌, ◌<◌, max}
-use native.Mathlib.Decide.{dec_lt}
 use native.Mathlib.Omega.{arith}
 use borrow.Author.Tests.{not-true, not-false, lt-ltb, le-ltb, le-leb, lt-leb}
 use lib.Dec.{T, not_T, leb, ltb, ltb→lt, lt→ltb}
 use lib.ListN.{length, get_or}
 use lib.Ieee.{Float, nan, inf, fin, lt, le, eq}
 use Rattle.lists.specs.Lists.{all, count}
-use Rattle.lists.proofs.Fold.{all_get_or}
+use Rattle.geometry.proofs.Lists.Walks.{all_each, all_miss}
 use Rattle.math.proofs.Bools.{yes as holds, no as fails, decide, never, and_i, and_l, and_r, and_yes, and_no, or_r, or_split, pick_yes, pick_no}
 use Rattle.math.proofs.Laws.{number, le_number_r, le_trans, le_self, lt_not_le, lt_le, le_lt, eq→value, value→eq}
 use Rattle.model.specs.Call.{rising, multiplicity_ok}
@@ -208,20 +207,6 @@ module _ (u : Float) where
 
 -- ---- a test of each knot against one
 
--- Where each element passes, all do.
-all_each : {A : Type 0} (p : A → Bool) (l : List A) (d : A) → ((j : ℕ) → j < length l → p (get_or l j d) ≡ true) → all p l ≡ true
-unfolding all
-all_each p [] d f = refl
-all_each p (x ∷ l) d f = ap₂ (λ (t u : Bool). t && u) (f 0 (omega arith)) (all_each p l d (λ j h. f (suc j) (omega arith)))
-
--- Where one does not, not all do.
-all_miss : {A : Type 0} (p : A → Bool) (l : List A) (i : ℕ) (d : A) → i < length l → p (get_or l i d) ≡ false → all p l ≡ false
-all_miss p l i d h e = go (all p l) (λ q. all_get_or p l i d q h)
-  where
-    go : (t : Bool) → (t ≡ true → p (get_or l i d) ≡ true) → t ≡ false
-    go true f = sym (f refl) ∙ e
-    go false f = refl
-
 -- Two tests of one form, with one bound at an end and another inside.
 module _ (e i x y : Bool) where
   -- The test of a knot against one passed: the two are not equal, at an end or inside.
@@ -275,7 +260,7 @@ module _ (p : ℕ) (a b : Float) (ks : List Float) (rises : rising ks ≡ true) 
       g = (repeats i k t).1
 
   -- A knot that begins a run that is too long: not every value occurs seldom enough.
-  pub runs-miss : (i : ℕ) → i < length ks → multiplicity_ok_at p a b ks i ≡ false → all (λ u. multiplicity_ok p a b ks u) ks ≡ false
+  runs-miss : (i : ℕ) → i < length ks → multiplicity_ok_at p a b ks i ≡ false → all (λ u. multiplicity_ok p a b ks u) ks ≡ false
   unfolding multiplicity_ok_at multiplicity_ok
   runs-miss i h e =
       all_miss (λ u. multiplicity_ok p a b ks u) ks i nan h
@@ -314,8 +299,15 @@ module _ (p : ℕ) (a b : Float) (ks : List Float) (rises : rising ks ≡ true) 
         (λ e f. le-leb _ _ (few u ks (max p 1) r (λ i j q h s t. fails _ ((said i (omega arith)).1 (ends-like _ u s ∙ e) (inner-like _ u s ∙ f)) (repeated u i j (max p 1) q h s t))))
 
     -- No knot begins a run that is too long: every value occurs seldom enough.
-    pub runs_all : all (λ u. multiplicity_ok p a b ks u) ks ≡ true
+    runs_all : all (λ u. multiplicity_ok p a b ks u) ks ≡ true
     runs_all = all_each (λ u. multiplicity_ok p a b ks u) ks nan (λ j h. one_ok (get_or ks j nan))
+
+  -- The answer of the test of each knot: true where each passes, false where one does not.
+  pub runs_by : (t : Bool) → (t ≡ true → (j : ℕ) → j < length ks → multiplicity_ok_at p a b ks j ≡ true)
+      → (t ≡ false → (i : ℕ) × (i < length ks) × (multiplicity_ok_at p a b ks i ≡ false))
+      → t ≡ all (λ u. multiplicity_ok p a b ks u) ks
+  runs_by true f g = sym (runs_all (f refl))
+  runs_by false f g = let m = g refl in sym (runs-miss m.0 m.1 m.2)
 
 -- ---- what the code tests
 module _ (ks : List Float) (i k : ℕ) where
@@ -349,11 +341,3 @@ module _ (p : ℕ) (a b : Float) (ks : List Float) (i : ℕ) (e : Bool) (ee : e 
     pub ok_at_outer : e ≡ false → n ≡ false → true ≡ multiplicity_ok_at p a b ks i
     unfolding multiplicity_ok_at
     ok_at_outer h k = pick_no (lt a (get_or ks i nan) && lt (get_or ks i nan) b) _ _ (sym en ∙ k) ∙ pick_no (eq (get_or ks i nan) a || eq (get_or ks i nan) b) _ _ (sym ee ∙ h)
-
--- One more index is known to pass.
-pub each_on : (P : ℕ → Type 0) (i : ℕ) → ((j : ℕ) → j < i → P j) → P i → (j : ℕ) → j < i + 1 → P j
-each_on P i f p j h = by (dec_lt j i)
-  where
-    by : Dec (j < i) → P j
-    by (yes g) = f j g
-    by (no g) = let z : i ≡ j = omega arith in subst P z p

@@ -131,24 +131,6 @@ module _ (s : Shape) (l : List Float) (from at : ℕ) (h : Held s l from) (g : a
 
   -- the two slots are apart, or one and the same
   module _ (to : ℕ) (i : Inside s l to) (d : Apart s from to ⊎ (from ≡ to)) where
-    -- what the first copy asks
-    pub knots-clear : (from + 1 + at + (count_at l from - at + s.degree + 1) ≤ to + 1) ⊎ (to + 1 ≤ from + 1 + at)
-    knots-clear = by d
-      where
-        by : Apart s from to ⊎ (from ≡ to) → (from + 1 + at + (count_at l from - at + s.degree + 1) ≤ to + 1) ⊎ (to + 1 ≤ from + 1 + at)
-        by (inl (inl q)) = inl (omega (arith, right_knots_in, from-room s from))
-        by (inl (inr q)) = inr (omega arith)
-        by (inr q) = inr (omega arith)
-
-    -- what the second copy asks
-    pub points-clear : (place_of s from (count_at l from) ≤ place_of s to 0) ⊎ (place_of s to 0 ≤ place_of s from at)
-    points-clear = by d
-      where
-        by : Apart s from to ⊎ (from ≡ to) → (place_of s from (count_at l from) ≤ place_of s to 0) ⊎ (place_of s to 0 ≤ place_of s from at)
-        by (inl (inl q)) = inl (omega (arith, place-room s from (count_at l from) h.room, place-from s to 0))
-        by (inl (inr q)) = inr (omega (arith, place-room s to 0 (omega arith), place-from s from at))
-        by (inr q) = inr (omega (arith, ap (λ (k : ℕ). place_of s k 0) (sym q), place_le s from 0 at (omega arith)))
-
     -- the points are not touched by the first copy
     points-still : (K : List Float) → length K ≡ count_at l from - at + s.degree + 1
         → part (put l (to + 1) K) (place_of s from at) (place_of s from (count_at l from) - place_of s from at) ≡ part l (place_of s from at) (place_of s from (count_at l from) - place_of s from at)
@@ -183,12 +165,8 @@ module _ (s : Shape) (l : List Float) (from at : ℕ) (h : Held s l from) (g : a
     -- what the code asks, in its own numbers
     module _ (n : ℕ) (en : n ≡ count_at l from) where
       pub knots-asked : (u v : ℕ) → u ≡ knots_from from → v ≡ knots_from to
-          → ((v + (n - at + s.degree + 1) ≤ length l) × (u + at + (n - at + s.degree + 1) ≤ length l)) × ((u + at + (n - at + s.degree + 1) ≤ v) ⊎ (v ≤ u + at))
-      knots-asked u v eu ev = ((omega (arith, from-room s to, i.within, h.room), omega (arith, right_knots_in, from-room s from, h.inside.within)), by knots-clear)
-        where
-          by : (knots_from from + at + (count_at l from - at + s.degree + 1) ≤ knots_from to) ⊎ (knots_from to ≤ knots_from from + at) → (u + at + (n - at + s.degree + 1) ≤ v) ⊎ (v ≤ u + at)
-          by (inl q) = inl (omega arith)
-          by (inr q) = inr (omega arith)
+          → (v + (n - at + s.degree + 1) ≤ length l) × (u + at + (n - at + s.degree + 1) ≤ length l)
+      knots-asked u v eu ev = (omega (arith, from-room s to, i.within, h.room), omega (arith, right_knots_in, from-room s from, h.inside.within))
 
       module _ (a b c : ℕ) (ea : a ≡ place_of s from at) (eb : b ≡ place_of s to 0) (ec : c ≡ place_of s from n) where
         end_is : c ≡ place_of s from (count_at l from)
@@ -203,12 +181,8 @@ module _ (s : Shape) (l : List Float) (from at : ℕ) (h : Held s l from) (g : a
             let f : place_of s from (count_at l from) ≡ place_of s from at + point_words s * (count_at l from - at) = ap (place_of s from) (sym e) ∙ place-add s from at (count_at l from - at) in
             omega (arith, end_is)
 
-        pub points-asked : ((b + (c - a) ≤ length l) × (a + (c - a) ≤ length l)) × ((a + (c - a) ≤ b) ⊎ (b ≤ a))
-        points-asked = ((omega (arith, points-words, place_zero s to, room s (count_at l from - at) (omega (arith, h.room)), i.within), omega (arith, points_rise, end_is, place-within s l from (count_at l from) h.inside h.room)), by points-clear)
-          where
-            by : (place_of s from (count_at l from) ≤ place_of s to 0) ⊎ (place_of s to 0 ≤ place_of s from at) → (a + (c - a) ≤ b) ⊎ (b ≤ a)
-            by (inl q) = inl (omega (arith, points_rise, end_is))
-            by (inr q) = inr (omega arith)
+        pub points-asked : (b + (c - a) ≤ length l) × (a + (c - a) ≤ length l)
+        points-asked = (omega (arith, points-words, place_zero s to, room s (count_at l from - at) (omega (arith, h.room)), i.within), omega (arith, points_rise, end_is, place-within s l from (count_at l from) h.inside h.room))
 
 -- what reading the whole curve asks
 pub load_fits : (s : Shape) (l ks qs : List Float) (base b : ℕ) → Inside s l base → length ks ≡ s.count + s.degree + 1 → length qs ≡ point_words s * s.count → b ≡ place_of s base 0

@@ -9,13 +9,19 @@ use lib.Dec.{leb, eqb}
 use lib.ListN.{length, drop, length-drop}
 use lib.Ieee.{Float}
 use Rattle.model.specs.Call.{revision_refusal, sizes_refusal}
-use Rattle.std.specs.Prelude.{Option, Some, None}
+use Rattle.std.specs.Prelude.{Option, Some, None, Result, Ok, Err, IsErrAnd}
+use Rattle.model.specs.declared.refusal.Refusal.{Refusal}
 use Rattle.text.specs.Bytes.{Read}
 use Rattle.text.specs.Question.{revision, Sizes, sizes, Numbers, numbers}
 use Rattle.text.specs.Question.{Reading, refused_by, asks, complete_by, opened_by, read_by, named_by, begun_by, reading}
 use Rattle.text.specs.Cursor.{Small, SmallRead, HeadRead, NumbersAt, NumbersRead, QuestionAt, TextRead}
 use Rattle.text.specs.declared.cursor.Asked.{Asked}
 use Rattle.text.proofs.reading.Back.{numbers_back}
+
+-- What `?` hands on is the refusal that it found.
+pub handed_on : {A : Type 0} (r : Result A Refusal) (e : Refusal) → IsErrAnd r (λ x. x ≡ e) → r ≡ Err e
+handed_on (Ok x) e h = absurd h
+handed_on (Err x) e h = ap Err h
 
 -- ---- the other lines, as `numbers` says that it read them
 
@@ -52,7 +58,7 @@ module _ (rev : ℕ) (s : Sizes) (text : List ℕ) (spec : Read Numbers) (l m : 
 
     -- a question is asked
     pub numbers_all : length text ≤ 65536 → length text ≤ i → Small s
-        → QuestionAt (after spec) m rev s nodes
+        → QuestionAt (after spec) m (record { rev = rev; sizes = s; nodes = nodes })
     numbers_all a b small = record {
       says =
           by_tests (le-leb (length text) 65536 a) (eq-eqb (length (drop i text)) 0 (omega (arith, length-drop i text)))
@@ -91,7 +97,7 @@ module _ (rev : ℕ) (text : List ℕ) (at : ℕ) (r : Option (Sizes × ℕ)) (h
     head-refused zero K never = absurd (never refl)
     head-refused (suc k) K never = same (suc k) K
 
-    pub head-asked : (k : ℕ) (m : List Float) (a : Asked) → k ≡ sizes_refusal s.dim s.degree s.count → k ≡ 0
+    pub head-asked : (k : ℕ) (m : List Float) (a : Result Asked Refusal) → k ≡ sizes_refusal s.dim s.degree s.count → k ≡ 0
         → TextRead (complete_by rev s (length text) (numbers s (drop i text))) m a
         → TextRead from m a
     unfolding opened_by
@@ -124,7 +130,7 @@ module _ (text : List ℕ) (r : Option (ℕ × ℕ)) (h : SmallRead text (revisi
     revision-refused zero K never = absurd (never refl)
     revision-refused (suc k) K never = alike (suc k) K
 
-    pub revision-named : (k : ℕ) (m : List Float) (a : Asked) → k ≡ revision_refusal rev → k ≡ 0
+    pub revision-named : (k : ℕ) (m : List Float) (a : Result Asked Refusal) → k ≡ revision_refusal rev → k ≡ 0
         → TextRead (read_by rev (length text) (sizes (drop at text))) m a → TextRead (reading text) m a
     unfolding named_by
     revision-named k m a K z A = subst (λ (x : Reading). TextRead x m a) (sym (alike 0 (sym z ∙ K))) A

@@ -1,5 +1,5 @@
--- `curve_refusal` equals its definition: the sizes, then the first check from 4 on that fails gives its number. Where none fails, check 5 has read each knot and each bound of the box,
--- so they are doubles.
+-- `curve_refusal` equals its definition: the sizes, then the first check from 4 on that fails gives its number. Each
+-- knot and each bound of the box is an f64, and so a double.
 use mathlib.Core.Path.{◌≡◌, sym, ◌∙◌}
 use mathlib.Core.List.{List, [], ◌∷◌}
 use mathlib.Core.Bool.{Bool, true}
@@ -7,6 +7,7 @@ use Prim.Native.Nat.{ℕ}
 use native.Mathlib.Omega.{arith}
 use lib.Ieee.{Float}
 use Rattle.model.specs.Call.{Curve, curve_of, lengths_fit, numbers_usable, bounds_ordered, weights_fit, knots_fit, first_failed, sizes_refusal, curve_refusal}
+use Rattle.model.proofs.Numbers.{some_number, handed}
 use Rattle.model.proofs.Checks.{none_left, pass, fail, else_left, else_taken, SmallSizes, small-sizes}
 use Rattle.geometry.specs.Call.{CurveRefused}
 use Rattle.geometry.proofs.call.Checks.{lengths_are}
@@ -51,36 +52,38 @@ module _ (sides : ℕ) (box : List Float) (resolution : Float) (v : Curve) where
 
 -- ---- the answers
 
-pub returns-then-number-ne0 : goal.returns-then-number-ne0
+pub returns-in_err-sizes_refusal : goal.returns-in_err-sizes_refusal
 unfolding curve_refusal
-returns-then-number-ne0 c =
-    let e = c.sizes_refusal-number.ensures in
-    given _ _ _ _ _ c.if-number-ne0.true (e ∙ sym (else_taken _ _ (λ z. c.if-number-ne0.true (e ∙ z))))
+returns-in_err-sizes_refusal c =
+    let k = handed _ _ c.from_residual.ensures.1 in
+    let e = c.in_err-sizes_refusal.ensures in
+    let some = some_number _ in
+    given _ _ _ _ _ (λ z. some (sym k ∙ z)) (k ∙ e ∙ sym (else_taken _ _ (λ z. some (e ∙ z))))
 
 pub lengths_fit-requires : goal.lengths_fit-requires
 lengths_fit-requires c =
-    let z : SmallSizes c.args.dim c.args.degree c.args.count = small-sizes _ _ _ (sym c.sizes_refusal-number.ensures ∙ c.if-number-ne0.false) in
+    let z : SmallSizes c.args.dim c.args.degree c.args.count = small-sizes _ _ _ (sym c.in_ok-sizes_refusal.ensures) in
     (z.dim, z.degree, z.count, omega (arith, c.requires, z.dim))
 
 pub returns-then-not-lengths_fit : goal.returns-then-not-lengths_fit
 unfolding lengths_fit
 returns-then-not-lengths_fit c =
     let a = c.args in
-    let sizes = sym c.sizes_refusal-number.ensures ∙ c.if-number-ne0.false in
+    let sizes = sym c.in_ok-sizes_refusal.ensures in
     given _ _ _ _ 4 (λ z. omega (arith, z)) (sym (past3 _ _ _ _ sizes ∙ fail _ 4 (lengths a.sides a.point_box.now a.resolution (curve_of a.dim a.degree a.count a.knots.now a.points.now)) _ (sym c.lengths_fit.ensures ∙ c.if-not-lengths_fit.true)))
 
 pub returns-then-not-numbers_usable : goal.returns-then-not-numbers_usable
 unfolding lengths_fit numbers_usable
 returns-then-not-numbers_usable c =
     let a = c.args in
-    let sizes = sym c.sizes_refusal-number.ensures ∙ c.if-number-ne0.false in
+    let sizes = sym c.in_ok-sizes_refusal.ensures in
     let long = sym c.lengths_fit.ensures ∙ c.if-not-lengths_fit.false in
-    given _ _ _ _ 5 (λ z. omega (arith, z)) (sym (past4 _ _ _ _ sizes long ∙ fail _ 5 (numbers a.sides a.point_box.now a.resolution (curve_of a.dim a.degree a.count a.knots.now a.points.now)) _ (sym c.numbers_usable.ensures.equal ∙ c.if-not-numbers_usable.true)))
+    given _ _ _ _ 5 (λ z. omega (arith, z)) (sym (past4 _ _ _ _ sizes long ∙ fail _ 5 (numbers a.sides a.point_box.now a.resolution (curve_of a.dim a.degree a.count a.knots.now a.points.now)) _ (sym c.numbers_usable.ensures ∙ c.if-not-numbers_usable.true)))
 
 pub bounds_ordered-requires : goal.bounds_ordered-requires
 bounds_ordered-requires c =
     let a = c.args in
-    let z : SmallSizes a.dim a.degree a.count = small-sizes _ _ _ (sym c.sizes_refusal-number.ensures ∙ c.if-number-ne0.false) in
+    let z : SmallSizes a.dim a.degree a.count = small-sizes _ _ _ (sym c.in_ok-sizes_refusal.ensures) in
     let l = lengths_are _ a.degree a.count _ a.dim _ a.sides (sym c.lengths_fit.ensures ∙ c.if-not-lengths_fit.false) in
     record { dim_bound = (z.dim, z.count, l.1); sides_in_bounds = l.2 }
 
@@ -88,40 +91,40 @@ pub returns-then-not-bounds_ordered : goal.returns-then-not-bounds_ordered
 unfolding lengths_fit numbers_usable bounds_ordered
 returns-then-not-bounds_ordered c =
     let a = c.args in
-    let sizes = sym c.sizes_refusal-number.ensures ∙ c.if-number-ne0.false in
+    let sizes = sym c.in_ok-sizes_refusal.ensures in
     let long = sym c.lengths_fit.ensures ∙ c.if-not-lengths_fit.false in
-    let finite = sym c.numbers_usable.ensures.equal ∙ c.if-not-numbers_usable.false in
+    let finite = sym c.numbers_usable.ensures ∙ c.if-not-numbers_usable.false in
     given _ _ _ _ 6 (λ z. omega (arith, z)) (sym (past5 _ _ _ _ sizes long finite ∙ fail _ 6 (bounds a.sides a.point_box.now a.resolution (curve_of a.dim a.degree a.count a.knots.now a.points.now)) _ (sym c.bounds_ordered.ensures ∙ c.if-not-bounds_ordered.true)))
 
 pub weights_positive-requires : goal.weights_positive-requires
 weights_positive-requires c =
     let a = c.args in
-    let z : SmallSizes a.dim a.degree a.count = small-sizes _ _ _ (sym c.sizes_refusal-number.ensures ∙ c.if-number-ne0.false) in
+    let z : SmallSizes a.dim a.degree a.count = small-sizes _ _ _ (sym c.in_ok-sizes_refusal.ensures) in
     let l = lengths_are _ a.degree a.count _ a.dim _ a.sides (sym c.lengths_fit.ensures ∙ c.if-not-lengths_fit.false) in
     (z.dim, omega (arith, z.count), l.1)
 
 pub returns-then-not-weights_positive : goal.returns-then-not-weights_positive
 unfolding lengths_fit numbers_usable bounds_ordered weights_fit
 returns-then-not-weights_positive c =
-    let sizes = sym c.sizes_refusal-number.ensures ∙ c.if-number-ne0.false in
+    let sizes = sym c.in_ok-sizes_refusal.ensures in
     let long = sym c.lengths_fit.ensures ∙ c.if-not-lengths_fit.false in
-    let finite = sym c.numbers_usable.ensures.equal ∙ c.if-not-numbers_usable.false in
+    let finite = sym c.numbers_usable.ensures ∙ c.if-not-numbers_usable.false in
     let ordered = sym c.bounds_ordered.ensures ∙ c.if-not-bounds_ordered.false in
     given _ _ _ _ 7 (λ z. omega (arith, z)) (sym (past6 _ _ _ _ sizes long finite ordered ∙ fail _ 7 weights_fit _ (sym c.weights_positive.ensures ∙ c.if-not-weights_positive.true)))
 
 pub knots_valid-requires : goal.knots_valid-requires
 knots_valid-requires c =
     let a = c.args in
-    let z : SmallSizes a.dim a.degree a.count = small-sizes _ _ _ (sym c.sizes_refusal-number.ensures ∙ c.if-number-ne0.false) in
+    let z : SmallSizes a.dim a.degree a.count = small-sizes _ _ _ (sym c.in_ok-sizes_refusal.ensures) in
     let l = lengths_are _ a.degree a.count _ a.dim _ a.sides (sym c.lengths_fit.ensures ∙ c.if-not-lengths_fit.false) in
     (z.degree, (omega (arith, z.room, l.0), omega (arith, l.0)))
 
 pub returns-then-not-knots_valid : goal.returns-then-not-knots_valid
 unfolding lengths_fit numbers_usable bounds_ordered weights_fit knots_fit
 returns-then-not-knots_valid c =
-    let sizes = sym c.sizes_refusal-number.ensures ∙ c.if-number-ne0.false in
+    let sizes = sym c.in_ok-sizes_refusal.ensures in
     let long = sym c.lengths_fit.ensures ∙ c.if-not-lengths_fit.false in
-    let finite = sym c.numbers_usable.ensures.equal ∙ c.if-not-numbers_usable.false in
+    let finite = sym c.numbers_usable.ensures ∙ c.if-not-numbers_usable.false in
     let ordered = sym c.bounds_ordered.ensures ∙ c.if-not-bounds_ordered.false in
     let weights = sym c.weights_positive.ensures ∙ c.if-not-weights_positive.false in
     given _ _ _ _ 8 (λ z. omega (arith, z)) (sym (past7 _ _ _ _ sizes long finite ordered weights ∙ fail _ 8 knots_fit _ (sym c.knots_valid.ensures ∙ c.if-not-knots_valid.true)))
@@ -129,13 +132,12 @@ returns-then-not-knots_valid c =
 pub returns : goal.returns
 unfolding lengths_fit numbers_usable bounds_ordered weights_fit knots_fit
 returns c =
-    let sizes = sym c.sizes_refusal-number.ensures ∙ c.if-number-ne0.false in
+    let sizes = sym c.in_ok-sizes_refusal.ensures in
     let long = sym c.lengths_fit.ensures ∙ c.if-not-lengths_fit.false in
-    let finite = sym c.numbers_usable.ensures.equal ∙ c.if-not-numbers_usable.false in
+    let finite = sym c.numbers_usable.ensures ∙ c.if-not-numbers_usable.false in
     let ordered = sym c.bounds_ordered.ensures ∙ c.if-not-bounds_ordered.false in
-    let weights = sym c.weights_positive.ensures ∙ c.if-not-weights_positive.false in
-    let doubles = c.numbers_usable.ensures.doubles c.if-not-numbers_usable.false in record {
+    let weights = sym c.weights_positive.ensures ∙ c.if-not-weights_positive.false in record {
       number = sym (past7 _ _ _ _ sizes long finite ordered weights ∙ pass _ 8 knots_fit _ (sym c.knots_valid.ensures ∙ c.if-not-knots_valid.false) ∙ none_left _ 9);
-      knots = λ _. doubles.0;
-      bounds = λ _. doubles.1;
+      knots = λ _ i _. c.type_inv.knots i;
+      bounds = λ _ i _. c.type_inv.point_box i;
     }

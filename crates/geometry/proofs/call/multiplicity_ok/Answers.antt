@@ -10,7 +10,7 @@ returns-then-is_end c =
 pub returns-then-is_inner : goal.returns-then-is_inner
 returns-then-is_inner c =
     let g = c.args in
-    ok_at_inner g.degree g.a g.b g.knots.now g.i c.is_end.result c.is_end.ensures c.is_inner.result c.is_inner.ensures c.repeats_at-then-is_inner.result c.inner_most.result c.if-is_end.false c.if-is_inner.true c.inner_most.ensures c.repeats_at-then-is_inner.ensures
+    ok_at_inner g.degree g.a g.b g.knots.now g.i c.is_end.result c.is_end.ensures c.is_inner.result c.is_inner.ensures c.repeats_at-then-is_inner.result c.max.result c.if-is_end.false c.if-is_inner.true c.max.ensures c.repeats_at-then-is_inner.ensures
 
 pub returns : goal.returns
 returns c =

@@ -16,9 +16,6 @@ use Rattle.geometry.proofs.knot_insertion.Insert.{blend_zero, blend_one, blend-m
 use native.Mathlib.Omega.{arith}
 use Rattle.geometry.proofs.knot_insertion.blend_into.Goals as goal
 
-pub copy-requires : goal.copy-requires
-copy-requires c = record { w_in_bounds = (omega arith, omega arith); fact = inl (omega arith) }
-
 pub returns-then-is_same : goal.returns-then-is_same
 unfolding of_bits
 returns-then-is_same c =

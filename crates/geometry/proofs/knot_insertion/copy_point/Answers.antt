@@ -1,5 +1,4 @@
 -- `copy_point` copies the words of one point.
-use mathlib.Core.Logic.{inl}
 use Rattle.geometry.proofs.knot_insertion.Triangle.{copied-fits, copied_done}
 use native.Mathlib.Omega.{arith}
 use Rattle.geometry.proofs.knot_insertion.copy_point.Goals as goal
@@ -8,7 +7,7 @@ pub copy-requires : goal.copy-requires
 copy-requires c =
     let g = c.args in
     let f = copied-fits g.s g.work.now g.base g.i g.j c.requires.0 c.requires.1 c.requires.2 _ _ c.place_of-a.ensures c.place_of-b.ensures in
-    record { w_in_bounds = (f.0, omega (arith, f.0, f.1)); fact = inl f.1 }
+    (f.0, omega (arith, f.0, f.1))
 
 pub returns : goal.returns
 returns c =

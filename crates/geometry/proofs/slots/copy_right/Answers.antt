@@ -12,8 +12,7 @@ count_at-n-requires c =
 pub copy-requires : goal.copy-requires
 copy-requires c =
     let g = c.args in
-    let r = knots-asked g.s g.work.now g.from g.at c.requires.held.0 c.requires.held.2 g.to c.requires.held.1 c.requires.apart _ c.count_at-n.ensures _ _ c.knots_from.ensures c.knots_from-2.ensures in
-    record { w_in_bounds = r.0; fact = r.1 }
+    knots-asked g.s g.work.now g.from g.at c.requires.held.0 c.requires.held.2 g.to c.requires.held.1 c.requires.apart _ c.count_at-n.ensures _ _ c.knots_from.ensures c.knots_from-2.ensures
 
 pub overflow_sub-end : goal.overflow_sub-end
 overflow_sub-end c =
@@ -24,7 +23,7 @@ pub copy-requires-2 : goal.copy-requires-2
 copy-requires-2 c =
     let g = c.args in
     let q = points-asked g.s g.work.now g.from g.at c.requires.held.0 c.requires.held.2 g.to c.requires.held.1 c.requires.apart _ c.count_at-n.ensures _ _ _ c.place_of-first.ensures c.place_of.ensures c.place_of-end.ensures in
-    record { w_in_bounds = (omega (arith, q.0.0, c.copy.auto.work), omega (arith, q.0.1, c.copy.auto.work)); fact = q.1 }
+    (omega (arith, q.0, c.copy.auto.work), omega (arith, q.1, c.copy.auto.work))
 
 pub set_count-requires : goal.set_count-requires
 set_count-requires c = (

@@ -1,30 +1,9 @@
--- `write` writes all of the source. Invariant: its first i words stand there.
-use mathlib.Core.Path.{◌≡◌, refl, sym, ap, ◌∙◌}
-use Prim.Native.Nat.{ℕ}
-use lib.Ieee.{nan}
-use lib.ListN.{length, get_or, length-set}
-use Rattle.lists.specs.Lists.{put, tab}
-use Rattle.lists.proofs.Tab.{tab-whole}
-use Rattle.lists.proofs.Put.{put-nil}
-use Rattle.lists.proofs.Loop.{put-tab}
-use native.Mathlib.Omega.{arith}
+-- `write` writes all of the source.
+use mathlib.Core.Path.{refl}
+use Rattle.geometry.proofs.Lists.Copies.{part_became}
 use Rattle.geometry.proofs.slots.write.Goals as goal
-
-pub loop-i-init : goal.loop-i-init
-loop-i-init c = (omega arith, (refl, sym (put-nil c.args.work.now c.args.a)))
-
-pub loop-i-preserved : goal.loop-i-preserved
-loop-i-preserved c =
-    let l = c.loop-i in
-    let g = c.args in
-    (omega arith, (simp length-set l.invariant.1.0, rw l.invariant.1.1 (put-tab g.work.now g.a l.i _ (λ j. get_or g.source.now j nan) refl (omega arith))))
-
-pub shape_of-work : goal.shape_of-work
-shape_of-work c = c.loop-i.invariant.1.0
 
 pub returns : goal.returns
 returns c =
-    let l = c.loop-i in
     let g = c.args in
-    let e : l.i ≡ length g.source.now = omega arith in
-    l.invariant.1.1 ∙ ap (put g.work.now g.a) (ap (λ (m : ℕ). tab m (λ j. get_or g.source.now j nan)) e ∙ tab-whole g.source.now nan)
+    part_became g.work.now g.a _ _ g.source.now c.copy_from_slice.ensures.after refl
