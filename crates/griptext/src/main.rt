@@ -10,6 +10,12 @@ use std::io;
 use model::refusal::Refusal;
 use text::rewrite::rewrite;
 
+// Says on standard error by what the text is refused.
+fn say_refused(rt: &impl Eprint, refused: Refusal) -> io::Result<()> {
+    let number = refused.number();
+    eprintln!(rt; "griptext: refused-{number}")
+}
+
 // Prints what the writer gave, which stands at the front of `form`.
 fn print(
     rt: &(impl Print + Eprint),
@@ -19,7 +25,7 @@ fn print(
     requires { Within given form.now }
 {
     match given {
-        Err(refused) => eprintln!(rt; "griptext: {refused}"),
+        Err(refused) => say_refused(rt, refused),
         Ok(n) => {
             if rt.write_all(&form[..n]).is_err() {
                 return eprintln!(rt; "griptext: the form could not be written");

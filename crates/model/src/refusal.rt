@@ -2,8 +2,6 @@
 ghost use Rattle.std.specs.Prelude.{◌≡◌};
 ghost use Rattle.model.specs.Numbers.{number_of};
 
-use std::fmt;
-
 // What is wrong. README.md has a row for each, and what to do.
 #[derive(Clone, Copy, Debug, PartialEq, Eq)]
 pub enum Refusal {
@@ -64,13 +62,5 @@ impl Refusal {
             Refusal::Revision => 16,
             Refusal::Sheet => 23,
         }
-    }
-}
-
-// `refused-N`, as the programs print it.
-impl fmt::Display for Refusal {
-    fn fmt<W: fmt::Write>(&self, f: &mut fmt::Formatter<W>) -> fmt::Result {
-        let number = self.number();
-        write!(f, "refused-{number}")
     }
 }
