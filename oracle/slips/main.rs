@@ -2,12 +2,12 @@
 // A byte 0 stands behind each answer. A text at which the port panics has the answer `panic`, so that the others still count.
 // With `--area` first, a line more says how many words of a lent work area are not left as they should be.
 use std::io::Write;
-use text::cursor::Asked;
+use text::cursor::{Asked, Sizes};
 
 // The question is asked once more with an area of the program's length and 64 words behind it, all of them 7: a search leaves its stated words 0, and all else stays.
 fn wrong_words(question: &[u8]) -> usize {
     let mut lines = [0.0; 303];
-    let Asked::Yes(rev, dim, degree, count, nodes) = text::reading::read(question, &mut lines) else { return 0 };
+    let Ok(Asked { rev, sizes: Sizes { dim, degree, count }, nodes }) = text::reading::read(question, &mut lines) else { return 0 };
     let (k, p) = (2 + count + degree, 2 + count + degree + 2 * (dim + 1) * count);
     let mut area = [7.0; 8192 + 64];
     let (knots, points, sides) = (&lines[1..k], &lines[k..p], &lines[p..p + 2 * dim]);

@@ -7,20 +7,26 @@ ghost use Rattle.text.specs.Form.{Within};
 
 use input::read_input;
 use std::io;
-use text::rewrite::{Rewritten, rewrite};
+use model::refusal::Refusal;
+use text::rewrite::rewrite;
 
-// Says on standard error by which number the text is refused.
-fn say_refused(rt: &impl Eprint, number: u64) -> io::Result<()> {
+// Says on standard error by what the text is refused.
+fn say_refused(rt: &impl Eprint, refused: Refusal) -> io::Result<()> {
+    let number = refused.number();
     eprintln!(rt; "griptext: refused-{number}")
 }
 
 // Prints what the writer gave, which stands at the front of `form`.
-fn print(rt: &(impl Print + Eprint), form: &[u8], given: Rewritten) -> io::Result<()>
+fn print(
+    rt: &(impl Print + Eprint),
+    form: &[u8],
+    given: Result<usize, Refusal>,
+) -> io::Result<()>
     requires { Within given form.now }
 {
     match given {
-        Rewritten::Refused(number) => say_refused(rt, number),
-        Rewritten::Bytes(n) => {
+        Err(refused) => say_refused(rt, refused),
+        Ok(n) => {
             if rt.write_all(&form[..n]).is_err() {
                 return eprintln!(rt; "griptext: the form could not be written");
             }

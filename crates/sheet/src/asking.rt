@@ -48,58 +48,33 @@ pub struct Answered {
 fn is_none(f: Found) -> bool
     ensures { result ≡ is_none f }
 {
-    match f {
-        Found::Nothing(_, _, _) => true,
-        Found::Enclosed(_, _, _, _, _) => false,
-        Found::Spent(_, _, _, _) => false,
-        Found::Refused(_, _, _, _) => false,
-    }
+    matches!(f, Found::Nothing(_, _, _))
 }
 
 fn is_enclosed(f: Found) -> bool
     ensures { result ≡ is_enclosed f }
 {
-    match f {
-        Found::Nothing(_, _, _) => false,
-        Found::Enclosed(_, _, _, _, _) => true,
-        Found::Spent(_, _, _, _) => false,
-        Found::Refused(_, _, _, _) => false,
-    }
+    matches!(f, Found::Enclosed(_, _, _, _, _))
 }
 
 fn is_spent(f: Found) -> bool
     ensures { result ≡ is_spent f }
 {
-    match f {
-        Found::Nothing(_, _, _) => false,
-        Found::Enclosed(_, _, _, _, _) => false,
-        Found::Spent(_, _, _, _) => true,
-        Found::Refused(_, _, _, _) => false,
-    }
+    matches!(f, Found::Spent(_, _, _, _))
 }
 
 // Refused by whatever number.
 fn is_refused(f: Found) -> bool
     ensures { result ≡ is_refused f }
 {
-    match f {
-        Found::Nothing(_, _, _) => false,
-        Found::Enclosed(_, _, _, _, _) => false,
-        Found::Spent(_, _, _, _) => false,
-        Found::Refused(_, _, _, _) => true,
-    }
+    matches!(f, Found::Refused(_, _, _, _))
 }
 
 // Refused by 12.
 fn is_twelve(f: Found) -> bool
     ensures { result ≡ is_twelve f }
 {
-    match f {
-        Found::Nothing(_, _, _) => false,
-        Found::Enclosed(_, _, _, _, _) => false,
-        Found::Spent(_, _, _, _) => false,
-        Found::Refused(number, _, _, _) => number == 12,
-    }
+    matches!(f, Found::Refused(12, _, _, _))
 }
 
 // ---- one question more

@@ -8,41 +8,31 @@ ghost use Rattle.sheet.specs.Sum.{Added, Taken, Plus, Less, More, Fewer};
 
 use math::digits::{digits, shift};
 
-// A byte as a number.
-pub(crate) fn wide(b: u8) -> u64
-    ensures { (result ≡ b) × (result < 256) }
-{
-    b as u64
-}
-
 // x, added to the bytes from number `at` on. What does not fit behind the last byte is lost.
 fn add_at(sum: [u8; 150], at: usize, x: u64) -> [u8; 150]
     ensures { Added sum at x result }
 {
     let mut s = sum;
-    let mut i = at;
     let mut rest = x;
-    while i < 150 {
-        let v = wide(s[i]) + rest % 256;
+    for i in at..150 {
+        let v = u64::from(s[i]) + rest % 256;
         s[i] = (v % 256) as u8;
         rest = rest / 256 + v / 256;
-        i += 1;
     }
     s
 }
 
 // x, taken away from the bytes from number `at` on. What is missing is borrowed from behind the last byte.
+// It stays beside `add_at`: one loop for both would look at each byte whether it carries or borrows.
 fn take_at(sum: [u8; 150], at: usize, x: u64) -> [u8; 150]
     ensures { Taken sum at x result }
 {
     let mut s = sum;
-    let mut i = at;
     let mut rest = x;
-    while i < 150 {
-        let v = wide(s[i]) + (256 - rest % 256);
+    for i in at..150 {
+        let v = u64::from(s[i]) + (256 - rest % 256);
         s[i] = (v % 256) as u8;
         rest = rest / 256 + (1 - v / 256);
-        i += 1;
     }
     s
 }

@@ -1,35 +1,34 @@
 -- How the code says what it read: by the place at which the rest of the text begins. Definitions only.
-use Rattle.std.specs.Prelude.{ℕ, ◌+◌, ◌*◌, ◌≤◌, ◌≡◌, true, List, [], ◌∷◌, ◌++◌, length, drop, get_or, Float}
+use Rattle.std.specs.Prelude.{ℕ, ◌+◌, ◌*◌, ◌≤◌, ◌≡◌, true, List, [], ◌∷◌, ◌++◌, length, drop, get_or, Option, Some, None, Result, Ok, Err, Float}
 use Rattle.std.specs.Float.{nan}
 use Rattle.lists.specs.Lists.{all, part, put}
+use Rattle.model.specs.Numbers.{number_of}
+use Rattle.model.specs.declared.refusal.Refusal.{Refusal}
 use Rattle.text.specs.Bytes.{bytes, Read, bad, got, then, word}
 use Rattle.text.specs.Numerals.{is_hex, hex_of, double_of, double}
 use Rattle.text.specs.Question.{small_line, line, lines}
-use Rattle.text.specs.Question.{Sizes, sizes_of, knot_doubles, point_doubles, box_doubles, Numbers}
+use Rattle.text.specs.Question.{Sizes, knot_doubles, point_doubles, box_doubles, Numbers}
 use Rattle.text.specs.Question.{Reading, refused_by, asks}
-use Rattle.text.specs.declared.cursor.Place.{Place}
-use Rattle.text.specs.declared.cursor.Place.TheVariants.{Bad, At}
-use Rattle.text.specs.declared.cursor.Small.{Small}
-use Rattle.text.specs.declared.cursor.Small.TheVariants.{NoNumber, Number}
-use Rattle.text.specs.declared.cursor.Head.{Head}
-use Rattle.text.specs.declared.cursor.Head.TheVariants.{NoHead, Heads}
 use Rattle.text.specs.declared.cursor.Asked.{Asked}
-use Rattle.text.specs.declared.cursor.Asked.TheVariants.{No, Yes}
+
+-- These sizes are in range.
+abbrev pub Small : Sizes → Type 0
+Small s = (s.dim ≤ 3) × (s.degree ≤ 7) × (s.count ≤ 32)
 
 -- A word was read.
-abbrev pub WordRead : List ℕ → Read (Unit {0}) → Place → Type 0
-WordRead text spec Bad = spec ≡ bad
-WordRead text spec (At i) = (i ≤ length text) × (spec ≡ got tt (drop i text))
+abbrev pub WordRead : List ℕ → Read (Unit {0}) → Option ℕ → Type 0
+WordRead text spec None = spec ≡ bad
+WordRead text spec (Some i) = (i ≤ length text) × (spec ≡ got tt (drop i text))
 
 -- A small number was read. It has at most nine digits.
-abbrev pub SmallRead : List ℕ → Read ℕ → Small → Type 0
-SmallRead text spec NoNumber = spec ≡ bad
-SmallRead text spec (Number n i) = (n ≤ 999999999) × (i ≤ length text) × (spec ≡ got n (drop i text))
+abbrev pub SmallRead : List ℕ → Read ℕ → Option (ℕ × ℕ) → Type 0
+SmallRead text spec None = spec ≡ bad
+SmallRead text spec (Some (n, i)) = (n ≤ 999999999) × (i ≤ length text) × (spec ≡ got n (drop i text))
 
 -- The three lines of the sizes were read.
-abbrev pub HeadRead : List ℕ → Read Sizes → Head → Type 0
-HeadRead text spec NoHead = spec ≡ bad
-HeadRead text spec (Heads d p n i) = (i ≤ length text) × (spec ≡ got (sizes_of d p n) (drop i text))
+abbrev pub HeadRead : List ℕ → Read Sizes → Option (Sizes × ℕ) → Type 0
+HeadRead text spec None = spec ≡ bad
+HeadRead text spec (Some (s, i)) = (i ≤ length text) × (spec ≡ got s (drop i text))
 
 -- ---- doubles
 
@@ -42,9 +41,9 @@ pub record ValueAt (text : List ℕ) (at b i : ℕ) : Type 0 where
   pub goes_on : word (b ∷ []) (drop (at + 16) text) ≡ got tt (drop i text)
 
 -- A double and the byte b behind it were read.
-abbrev pub ValueRead : List ℕ → ℕ → ℕ → Place → Type 0
-ValueRead text at b Bad = then (double (drop at text)) (λ x rest. word (b ∷ []) rest) ≡ bad
-ValueRead text at b (At i) = ValueAt text at b i
+abbrev pub ValueRead : List ℕ → ℕ → ℕ → Option ℕ → Type 0
+ValueRead text at b None = then (double (drop at text)) (λ x rest. word (b ∷ []) rest) ≡ bad
+ValueRead text at b (Some i) = ValueAt text at b i
 
 -- n doubles were read up to i, and written to the memory l from `to` on, which became m.
 pub record ValuesAt (text : List ℕ) (spec : Read (List Float)) (n to : ℕ) (l m : List Float) (i : ℕ) : Type 0 where
@@ -55,9 +54,9 @@ pub record ValuesAt (text : List ℕ) (spec : Read (List Float)) (n to : ℕ) (l
   pub wrote : m ≡ put l to xs
 
 -- n doubles were read and written.
-abbrev pub ValuesRead : List ℕ → Read (List Float) → ℕ → ℕ → List Float → List Float → Place → Type 0
-ValuesRead text spec n to l m Bad = spec ≡ bad
-ValuesRead text spec n to l m (At i) = ValuesAt text spec n to l m i
+abbrev pub ValuesRead : List ℕ → Read (List Float) → ℕ → ℕ → List Float → List Float → Option ℕ → Type 0
+ValuesRead text spec n to l m None = spec ≡ bad
+ValuesRead text spec n to l m (Some i) = ValuesAt text spec n to l m i
 
 -- ---- the other lines
 
@@ -73,9 +72,9 @@ pub record LimitsAt (text t : List ℕ) (l m : List Float) (nodes i : ℕ) : Typ
   pub wrote : m ≡ put l 0 (resolution ∷ [])
 
 -- They were read.
-abbrev pub LimitsRead : List ℕ → List ℕ → List Float → List Float → Small → Type 0
-LimitsRead text t l m NoNumber = then (small_line (bytes "nodes=") t) (λ _ a. line (bytes "resolution=") 1 a) ≡ bad
-LimitsRead text t l m (Number nodes i) = LimitsAt text t l m nodes i
+abbrev pub LimitsRead : List ℕ → List ℕ → List Float → List Float → Option (ℕ × ℕ) → Type 0
+LimitsRead text t l m None = then (small_line (bytes "nodes=") t) (λ _ a. line (bytes "resolution=") 1 a) ≡ bad
+LimitsRead text t l m (Some (nodes, i)) = LimitsAt text t l m nodes i
 
 -- The lines of the knots, the points and the box from t on.
 unfoldable pub shape : Sizes → List ℕ → Read (List Float)
@@ -106,9 +105,9 @@ pub record ShapeAt (text t : List ℕ) (s : Sizes) (l m : List Float) (i : ℕ) 
   pub wrote : m ≡ put l 1 (knots ++ points ++ box)
 
 -- They were read.
-abbrev pub ShapeRead : List ℕ → List ℕ → Sizes → List Float → List Float → Place → Type 0
-ShapeRead text t s l m Bad = shape s t ≡ bad
-ShapeRead text t s l m (At i) = ShapeAt text t s l m i
+abbrev pub ShapeRead : List ℕ → List ℕ → Sizes → List Float → List Float → Option ℕ → Type 0
+ShapeRead text t s l m None = shape s t ≡ bad
+ShapeRead text t s l m (Some i) = ShapeAt text t s l m i
 
 -- The doubles of a question as the code lays them down: the resolution, the knots, the points, the box.
 abbrev pub laid : Numbers → List Float
@@ -138,20 +137,22 @@ pub record NumbersAt (text : List ℕ) (spec : Read Numbers) (s : Sizes) (l m : 
   pub wrote : m ≡ put l 0 (laid says)
 
 -- They were read.
-abbrev pub NumbersRead : List ℕ → Read Numbers → Sizes → List Float → List Float → Small → Type 0
-NumbersRead text spec s l m NoNumber = spec ≡ bad
-NumbersRead text spec s l m (Number nodes i) = NumbersAt text spec s l m nodes i
+abbrev pub NumbersRead : List ℕ → Read Numbers → Sizes → List Float → List Float → Option (ℕ × ℕ) → Type 0
+NumbersRead text spec s l m None = spec ≡ bad
+NumbersRead text spec s l m (Some (nodes, i)) = NumbersAt text spec s l m nodes i
 
 -- ---- the whole text
 
+-- The question a, whose doubles are laid down at the front of the memory l.
+abbrev pub question_in : Asked → List Float → Reading
+question_in a l = asks a.rev a.sizes (numbers_in a.sizes a.nodes l)
+
 -- The text comes to a question of small sizes, whose doubles were written to the front of the memory m.
-pub record QuestionAt (r : Reading) (m : List Float) (rev : ℕ) (s : Sizes) (nodes : ℕ) : Type 0 where
-  pub says : r ≡ asks rev s (numbers_in s nodes m)
-  pub dim_small : s.dim ≤ 3
-  pub degree_small : s.degree ≤ 7
-  pub count_small : s.count ≤ 32
+pub record QuestionAt (r : Reading) (m : List Float) (a : Asked) : Type 0 where
+  pub says : r ≡ question_in a m
+  pub small : Small a.sizes
 
 -- It was read.
-abbrev pub TextRead : Reading → List Float → Asked → Type 0
-TextRead r m (No n) = r ≡ refused_by n
-TextRead r m (Yes rev dim degree count nodes) = QuestionAt r m rev (sizes_of dim degree count) nodes
+abbrev pub TextRead : Reading → List Float → Result Asked Refusal → Type 0
+TextRead r m (Ok a) = QuestionAt r m a
+TextRead r m (Err e) = r ≡ refused_by (number_of e)

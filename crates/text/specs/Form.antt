@@ -1,15 +1,16 @@
 -- The one form of a text (request E7): what the writer gives for a question, which texts it refuses, and what it leaves
 -- of the bytes that it is lent. Definitions only.
-use Rattle.std.specs.Prelude.{ℕ, zero, suc, ◌≡◌, cond, List, [], ◌∷◌, ◌++◌, length, take, drop, leb, Float}
+use Rattle.std.specs.Prelude.{ℕ, zero, suc, ◌≡◌, cond, List, [], ◌∷◌, ◌++◌, length, take, drop, leb, Result, Ok, Err, Float}
 use Rattle.lists.specs.Lists.{put}
 use Rattle.model.specs.Call.{curve_of, question_refusal}
 use Rattle.model.specs.Subdivide.{positive_zero}
+use Rattle.model.specs.Numbers.{number_of}
+use Rattle.model.specs.declared.refusal.Refusal.{Refusal}
+use Rattle.model.specs.declared.refusal.Refusal.TheVariants.{Room}
 use Rattle.text.specs.Bytes.{bytes}
 use Rattle.text.specs.Counts.{Counts}
 use Rattle.text.specs.Numerals.{decimal, hexadecimal}
 use Rattle.text.specs.Question.{newline, behind, Sizes, point_doubles, Numbers, Reading, refused_by, asks, reading}
-use Rattle.text.specs.declared.rewrite.Rewritten.{Rewritten}
-use Rattle.text.specs.declared.rewrite.Rewritten.TheVariants.{Bytes, Refused}
 
 -- ---- the lines
 
@@ -82,19 +83,24 @@ accepted text = accepted_by (reading text)
 
 -- ---- what the writer gives, and what it leaves
 
+-- What the writer gives, with the number of its refusal.
+abbrev pub numbered : Result ℕ Refusal → Result ℕ ℕ
+numbered (Ok n) = Ok n
+numbered (Err e) = Err (number_of e)
+
 -- For the text w, with room for n bytes: how many bytes it has.
 -- "A lent output too short gets 15, after all checks of the input".
-unfoldable pub count_for : ℕ → List ℕ → Rewritten
-count_for n w = cond (leb (length w) n) (Bytes (length w)) (Refused 15)
+unfoldable pub count_for : ℕ → List ℕ → Result ℕ Refusal
+count_for n w = cond (leb (length w) n) (Ok (length w)) (Err Room)
 
 -- Of the bytes l: they begin with w where it fits; else all of them are as they were.
 unfoldable pub output_for : List ℕ → List ℕ → List ℕ
 output_for l w = cond (leb (length w) (length l)) (put l 0 w) l
 
 -- What is given for a text that comes to this.
-unfoldable pub rewritten_by : ℕ → Reading → Rewritten
-rewritten_by n (refused_by r) = Refused r
-rewritten_by n (asks rev s q) = count_for n (form rev s q)
+unfoldable pub rewritten_by : ℕ → Reading → Result ℕ ℕ
+rewritten_by n (refused_by r) = Err r
+rewritten_by n (asks rev s q) = numbered (count_for n (form rev s q))
 
 -- What is left for it: a refusal writes nothing.
 unfoldable pub output_by : List ℕ → Reading → List ℕ
@@ -111,9 +117,9 @@ pub record OnPaper : Type 0 where
   pub written : ℕ
 
 -- Each case of an answer: bytes without a refusal, or a refusal without bytes.
-abbrev pub on_paper_of : Rewritten → OnPaper
-on_paper_of (Bytes n) = record { refused = 0; written = n }
-on_paper_of (Refused r) = record { refused = r; written = 0 }
+abbrev pub on_paper_of : Result ℕ Refusal → OnPaper
+on_paper_of (Ok n) = record { refused = 0; written = n }
+on_paper_of (Err e) = record { refused = number_of e; written = 0 }
 
 -- What the paper gives for a text that comes to this, with room for n bytes: the number of its refusal; else 15 where its
 -- form is longer than n; else all the bytes of its form.
@@ -126,15 +132,15 @@ on_paper_for n (asks rev s q) =
 -- ---- what the writer promises
 
 -- The writer, for a text that comes to a, was lent the bytes l, left m and gave r.
-pub record Rewrites (a : Reading) (l m : List ℕ) (r : Rewritten) : Type 0 where
+pub record Rewrites (a : Reading) (l m : List ℕ) (r : Result ℕ Refusal) : Type 0 where
   -- The answer is the definition's.
-  pub result : r ≡ rewritten_by (length l) a
+  pub result : numbered r ≡ rewritten_by (length l) a
   -- On paper it is the number of the refusal, or else all the bytes of the form.
   pub paper : on_paper_of r ≡ on_paper_for (length l) a
   -- The form stands at the front where it fits; a refusal leaves all bytes as they were.
   pub memory : m ≡ output_by l a
 
 -- A count that it gives is one of bytes at the start of the output.
-abbrev pub Within : Rewritten → List ℕ → Type 0
-Within (Bytes n) m = Counts n m
-Within (Refused r) m = Unit
+abbrev pub Within : Result ℕ Refusal → List ℕ → Type 0
+Within (Ok n) m = Counts n m
+Within (Err e) m = Unit

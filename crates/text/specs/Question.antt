@@ -5,6 +5,7 @@ use Rattle.std.specs.Float.{nan}
 use Rattle.model.specs.Call.{Call, lent, revision_refusal, sizes_refusal}
 use Rattle.text.specs.Bytes.{bytes, Read, bad, got, then, word}
 use Rattle.text.specs.Numerals.{small, double}
+pub use Rattle.text.specs.declared.cursor.Sizes.{Sizes}
 
 -- ---- lines
 
@@ -59,12 +60,6 @@ unfoldable pub revision : List ℕ → Read ℕ
 revision t = revision_by t (word (bytes "rev=") t)
 
 -- ---- the three lines behind it
-
--- The sizes of a curve.
-pub record Sizes : Type 0 where
-  pub dim : ℕ
-  pub degree : ℕ
-  pub count : ℕ
 
 -- The sizes that are these numbers.
 abbrev pub sizes_of : ℕ → ℕ → ℕ → Sizes

@@ -1,35 +1,17 @@
-// What was read from a text, with the place at which the rest of the text begins.
+// What a text asks.
 
-// A word or a line.
+// The sizes of a curve.
 #[derive(Clone, Copy)]
-pub enum Place {
-    // The text does not go on so.
-    Bad,
-    // It does: where the rest begins.
-    At(usize),
+pub struct Sizes {
+    pub dim: usize,
+    pub degree: usize,
+    pub count: usize,
 }
 
-// A small number.
+// The numbers of a question, but for its doubles.
 #[derive(Clone, Copy)]
-pub enum Small {
-    NoNumber,
-    // The number, and where the rest begins.
-    Number(usize, usize),
-}
-
-// The three lines of the sizes.
-#[derive(Clone, Copy)]
-pub enum Head {
-    NoHead,
-    // dim, degree, count, and where the rest begins.
-    Heads(usize, usize, usize, usize),
-}
-
-// A whole text.
-#[derive(Clone, Copy)]
-pub enum Asked {
-    // The number by which it is refused.
-    No(u64),
-    // The revision, dim, degree, count and nodes of its question.
-    Yes(usize, usize, usize, usize, usize),
+pub struct Asked {
+    pub rev: usize,
+    pub sizes: Sizes,
+    pub nodes: usize,
 }

@@ -1,24 +1,17 @@
 // Numbers in a text: small ones in decimal, doubles as the hexadecimal digits of their bits.
-ghost use Rattle.std.specs.Prelude.{◌≡◌, true, ◌&&◌, ◌+◌, ◌≤◌, length, drop, leb};
+ghost use Rattle.std.specs.Prelude.{◌≡◌, true, ◌+◌, ◌≤◌, length, drop};
+ghost use Rattle.std.specs.List.{list_all, prefix_len};
+ghost use Rattle.std.specs.Char.{is_ascii_digit};
 ghost use Rattle.lists.specs.Lists.{part, all};
 ghost use Rattle.text.specs.Numerals.{is_digit, digits, decimal_of, is_small, small};
 ghost use Rattle.text.specs.Numerals.{nibble, is_hex, hex_of, is_double, double_of};
 ghost use Rattle.text.specs.Cursor.{SmallRead};
 
-use crate::cursor::Small;
-
-// The byte is from low to high.
-fn between(b: u8, low: u8, high: u8) -> bool
-    ensures { result ≡ (leb low b && leb b high) }
+// How many digits these bytes begin with.
+fn leading(s: &[u8]) -> usize
+    ensures { result ≡ prefix_len is_ascii_digit s.now }
 {
-    low <= b && b <= high
-}
-
-// The byte is from 0 to 9.
-fn is_digit(b: u8) -> bool
-    ensures { result ≡ is_digit b }
-{
-    between(b, 48, 57)
+    s.iter().take_while(|b| b.is_ascii_digit()).count()
 }
 
 // How many digits stand from `at` on.
@@ -27,14 +20,7 @@ fn digits(text: &[u8], at: usize) -> usize
     ensures { let t = text.now in
         (result ≡ digits (drop at t)) × (at + result ≤ length t) × (all is_digit (part t at result) ≡ true) }
 {
-    let mut i = at;
-    while i < text.len() {
-        if !is_digit(text[i]) {
-            return i - at;
-        }
-        i += 1;
-    }
-    i - at
+    leading(&text[at..])
 }
 
 // The number that the n digits from `at` on are.
@@ -43,10 +29,8 @@ fn decimal_of(text: &[u8], at: usize, n: usize) -> usize
     ensures { (result ≡ decimal_of (part text.now at n)) × (result ≤ 999999999) }
 {
     let mut v = 0;
-    let mut i = 0;
-    while i < n {
-        v = 10 * v + (text[at + i] - 48) as usize;
-        i += 1;
+    for b in &text[at..at + n] {
+        v = 10 * v + usize::from(*b - 48);
     }
     v
 }
@@ -68,32 +52,36 @@ fn is_small(text: &[u8], at: usize, n: usize) -> bool
     text[at] != 48
 }
 
-// A small number from `at` on.
-pub(crate) fn small(text: &[u8], at: usize) -> Small
+// A small number from `at` on. As of all that read here, what was read stands before the place at which the rest begins.
+pub(crate) fn small(text: &[u8], at: usize) -> Option<(usize, usize)>
     requires { at ≤ length text.now }
     ensures { SmallRead text.now (small (drop at text.now)) result }
 {
     let n = digits(text, at);
     if !is_small(text, at, n) {
-        return Small::NoNumber;
+        return None;
     }
-    Small::Number(decimal_of(text, at, n), at + n)
+    Some((decimal_of(text, at, n), at + n))
 }
 
 // The value of a hexadecimal digit of either case, and 16 for any other byte.
+#[tactic(auto, unfolding(crate::specs::Numerals::nibble))]
 fn nibble(b: u8) -> u8
     ensures { result ≡ nibble b }
 {
-    if is_digit(b) {
-        return b - 48;
+    match b {
+        b'0'..=b'9' => b - 48,
+        b'a'..=b'f' => b - 87,
+        b'A'..=b'F' => b - 55,
+        _ => 16,
     }
-    if between(b, 97, 102) {
-        return b - 87;
-    }
-    if between(b, 65, 70) {
-        return b - 55;
-    }
-    16
+}
+
+// These bytes are all hexadecimal digits.
+fn all_hex(s: &[u8]) -> bool
+    ensures { result ≡ list_all is_hex s.now }
+{
+    s.iter().all(|b| nibble(*b) <= 15)
 }
 
 // Sixteen hexadecimal digits stand from `at` on.
@@ -102,17 +90,7 @@ pub(crate) fn is_double(text: &[u8], at: usize) -> bool
     ensures { let t = text.now in
         (result ≡ is_double (drop at t)) × (result ≡ true → at + 16 ≤ length t) }
 {
-    if text.len() - at < 16 {
-        return false;
-    }
-    let mut i = 0;
-    while i < 16 {
-        if 15 < nibble(text[at + i]) {
-            return false;
-        }
-        i += 1;
-    }
-    true
+    16 <= text.len() - at && all_hex(&text[at..at + 16])
 }
 
 // The number that the sixteen hexadecimal digits from `at` on are.
@@ -121,10 +99,8 @@ fn hex_of(text: &[u8], at: usize) -> u64
     ensures { result ≡ hex_of (part text.now at 16) }
 {
     let mut v = 0;
-    let mut i = 0;
-    while i < 16 {
-        v = 16 * v + nibble(text[at + i]) as u64;
-        i += 1;
+    for b in &text[at..at + 16] {
+        v = 16 * v + u64::from(nibble(*b));
     }
     v
 }

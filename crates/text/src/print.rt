@@ -15,12 +15,9 @@ pub(crate) fn put_word(out: &mut [u8], at: usize, w: &[u8]) -> usize
     requires { at + length w.now ≤ length out.old }
     ensures { Written out.old at w.now out.new result }
 {
-    let mut i = 0;
-    while i < w.len() {
-        out[at + i] = w[i];
-        i += 1;
-    }
-    at + i
+    let end = at + w.len();
+    out[at..end].copy_from_slice(w);
+    end
 }
 
 // A number below 10 or 16 as a digit of lower case.
@@ -36,10 +33,8 @@ pub(crate) fn put_digits(out: &mut [u8], at: usize, base: u64, k: usize, n: u64)
     requires { (0 < base) × (base ≤ 16) × (at + k ≤ length out.old) }
     ensures { Written out.old at (last_digits base k n) out.new result }
 {
-    let mut i = k;
     let mut rest = n;
-    while 0 < i {
-        i -= 1;
+    for i in (0..k).rev() {
         out[at + i] = digit_of(rest % base);
         rest /= base;
     }
@@ -50,16 +45,14 @@ pub(crate) fn put_digits(out: &mut [u8], at: usize, base: u64, k: usize, n: u64)
 fn decimal_length(n: u64) -> usize
     ensures { (result ≡ decimal_length 19 n) × (result ≤ 20) }
 {
-    let mut l = 1;
     let mut rest = n;
-    while l < 20 {
+    for l in 1..20 {
         if rest <= 9 {
             return l;
         }
         rest /= 10;
-        l += 1;
     }
-    l
+    20
 }
 
 // A number in decimal, from `at` on.

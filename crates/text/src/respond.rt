@@ -1,7 +1,7 @@
 // The answer to a text.
 ghost use Rattle.std.specs.Prelude.{◌≡◌, ◌&&◌, ◌≤◌, length, take};
-ghost use Rattle.text.specs.Question.{sizes_of, asks, reading};
-ghost use Rattle.text.specs.Cursor.{numbers_in};
+ghost use Rattle.text.specs.Question.{reading};
+ghost use Rattle.text.specs.Cursor.{Small, question_in};
 ghost use Rattle.text.specs.Respond.{fitting, printed_in, AnswersReading, SaysAnswer};
 ghost use Rattle.text.specs.Printable.{Written, is_number, is_printable};
 ghost use Rattle.text.specs.Counts.{Counts};
@@ -22,32 +22,25 @@ fn area() -> [f64; 8192]
 
 // The answer of the search to the question whose numbers stand in `lines`: the resolution, the knots, the points, the box.
 // It keeps every promise of the search.
-fn ask_lines(
-    lines: &[f64],
-    rev: usize,
-    dim: usize,
-    degree: usize,
-    count: usize,
-    nodes: usize,
-) -> Found
-    requires { (303 ≤ length lines.now) × (dim ≤ 3) × (degree ≤ 7) × (count ≤ 32) }
-    ensures { let s = sizes_of dim degree count in
-        AnswersReading (asks rev s (numbers_in s nodes lines.now)) result }
+fn ask_lines(asked: Asked, lines: &[f64]) -> Found
+    requires { (303 ≤ length lines.now) × Small asked.sizes }
+    ensures { AnswersReading (question_in asked lines.now) result }
 {
     let mut work = area();
-    let k = 1 + (count + degree + 1);
-    let p = k + 2 * (dim + 1) * count;
-    let b = p + 2 * dim;
+    let s = asked.sizes;
+    let k = 1 + (s.count + s.degree + 1);
+    let p = k + 2 * (s.dim + 1) * s.count;
+    let b = p + 2 * s.dim;
     curve_could_contain(
-        rev,
-        dim,
-        degree,
-        count,
+        asked.rev,
+        s.dim,
+        s.degree,
+        s.count,
         &lines[1..k],
         &lines[k..p],
         &lines[p..b],
         lines[0],
-        nodes,
+        asked.nodes,
         &mut work,
     )
 }
@@ -58,10 +51,8 @@ pub fn answered(text: &[u8]) -> Found
 {
     let mut lines = room();
     match read(text, &mut lines) {
-        Asked::No(n) => Found::Refused(n, 0, 0, 0),
-        Asked::Yes(rev, dim, degree, count, nodes) => {
-            ask_lines(&lines, rev, dim, degree, count, nodes)
-        }
+        Ok(asked) => ask_lines(asked, &lines),
+        Err(refused) => Found::Refused(refused.number(), 0, 0, 0),
     }
 }
 

@@ -2,31 +2,21 @@
 ghost use Rattle.std.specs.Prelude.{◌≡◌, true, cond, ◌+◌, ◌*◌, ◌≤◌, length, get_or, leb};
 ghost use Rattle.std.specs.Float.{nan};
 ghost use Rattle.lists.specs.Lists.{all, part};
-ghost use Rattle.model.specs.Numbers.{code_of};
 ghost use Rattle.text.specs.Bytes.{bytes};
 ghost use Rattle.text.specs.Counts.{Counts};
-ghost use Rattle.text.specs.Question.{sizes_of, asks};
-ghost use Rattle.text.specs.Cursor.{numbers_in};
+ghost use Rattle.model.specs.Numbers.{code_of};
+ghost use Rattle.text.specs.Cursor.{Small, numbers_in, question_in};
 ghost use Rattle.text.specs.Printable.{Written, is_number, AllNumbers};
 ghost use Rattle.text.specs.Form.{small_text, values_text, line_text, lines_text, sizes_text, limits_text, shape_text, form};
 ghost use Rattle.text.specs.Form.{refusal_of, accepted_by, accepted, count_for, output_for, Rewrites, Within};
 
-use crate::cursor::Asked;
+use crate::cursor::{Asked, Sizes};
 use crate::print::{put_count, put_double, put_word};
 use crate::question::behind;
 use crate::reading::{read, room};
 use geometry::call::question_refusal;
 use geometry::contains::positive_zero;
 use model::refusal::Refusal;
-
-// What the writer gives.
-#[derive(Clone, Copy)]
-pub enum Rewritten {
-    // The output begins with the text, of so many bytes.
-    Bytes(usize),
-    // The number of the refusal; nothing is written.
-    Refused(u64),
-}
 
 // ---- lines
 
@@ -47,13 +37,11 @@ fn put_values(out: &mut [u8], at: usize, xs: &[f64], from: usize, n: usize) -> u
     ensures { let v = part xs.now from n in
         Written out.old at (values_text v) out.new result × (result ≡ at + 17 * n) }
 {
-    let mut i = 0;
-    while i < n {
+    for i in 0..n {
         let x = xs[from + i];
         let y = positive_zero(x);
         let k = put_double(out, at + 17 * i, y);
         out[k] = behind(n - i - 1);
-        i += 1;
     }
     at + 17 * n
 }
@@ -76,11 +64,9 @@ fn put_points(out: &mut [u8], at: usize, xs: &[f64], from: usize, n: usize, k: u
     ensures { let w = lines_text (bytes "point=") n k (part xs.now from (n * k)) in
         Written out.old at w out.new result × (result ≡ at + (6 + 17 * n) * k) }
 {
-    let mut i = 0;
     let mut p = at;
-    while i < k {
+    for i in 0..k {
         p = put_line(out, p, b"point=", xs, from + n * i, n);
-        i += 1;
     }
     p
 }
@@ -88,15 +74,14 @@ fn put_points(out: &mut [u8], at: usize, xs: &[f64], from: usize, n: usize, k: u
 // ---- the text
 
 // The lines of the revision and the sizes, at the front.
-fn put_sizes(out: &mut [u8], rev: usize, dim: usize, degree: usize, count: usize) -> usize
+fn put_sizes(out: &mut [u8], rev: usize, s: Sizes) -> usize
     requires { 105 ≤ length out.old }
-    ensures { let s = sizes_of dim degree count in
-        Written out.old 0 (sizes_text rev s) out.new result × (result ≤ 105) }
+    ensures { Written out.old 0 (sizes_text rev s) out.new result × (result ≤ 105) }
 {
     let i = put_small(out, 0, b"rev=", rev);
-    let j = put_small(out, i, b"dim=", dim);
-    let k = put_small(out, j, b"degree=", degree);
-    put_small(out, k, b"count=", count)
+    let j = put_small(out, i, b"dim=", s.dim);
+    let k = put_small(out, j, b"degree=", s.degree);
+    put_small(out, k, b"count=", s.count)
 }
 
 // The line of the nodes and that of the resolution, which is the first of `lines`, from `at` on.
@@ -111,48 +96,30 @@ fn put_limits(out: &mut [u8], at: usize, nodes: usize, lines: &[f64]) -> usize
 }
 
 // The lines of the knots, the points and the box, which stand in `lines` from its second place on, from `at` on.
-fn put_shape(
-    out: &mut [u8],
-    at: usize,
-    dim: usize,
-    degree: usize,
-    count: usize,
-    lines: &[f64],
-) -> usize
-    requires at_in_bounds { (at + 5336 ≤ length out.old) × (dim ≤ 3) × (degree ≤ 7) × (count ≤ 32)
-        × (303 ≤ length lines.now) }
-    requires all_numbers { AllNumbers (numbers_in (sizes_of dim degree count) 0 lines.now) }
-    ensures { let q = numbers_in (sizes_of dim degree count) 0 lines.now in
-        let w = shape_text (sizes_of dim degree count) q.knots q.points q.box in
-        Written out.old at w out.new result × (result ≤ at + 5336) }
+fn put_shape(out: &mut [u8], at: usize, s: Sizes, lines: &[f64]) -> usize
+    requires at_in_bounds { (at + 5336 ≤ length out.old) × Small s × (303 ≤ length lines.now) }
+    requires all_numbers { AllNumbers (numbers_in s 0 lines.now) }
+    ensures { let q = numbers_in s 0 lines.now in
+        Written out.old at (shape_text s q.knots q.points q.box) out.new result × (result ≤ at + 5336) }
 {
-    let k = count + degree + 1;
+    let k = s.count + s.degree + 1;
     let i = put_line(out, at, b"knots=", lines, 1, k);
-    let w = 2 * (dim + 1);
-    let j = put_points(out, i, lines, 1 + k, w, count);
-    put_line(out, j, b"box=", lines, 1 + k + w * count, 2 * dim)
+    let w = 2 * (s.dim + 1);
+    let j = put_points(out, i, lines, 1 + k, w, s.count);
+    put_line(out, j, b"box=", lines, 1 + k + w * s.count, 2 * s.dim)
 }
 
 // The one form of the question whose doubles stand in `lines`, at the front. The result is how many bytes it has.
-fn put_form(
-    out: &mut [u8],
-    rev: usize,
-    dim: usize,
-    degree: usize,
-    count: usize,
-    nodes: usize,
-    lines: &[f64],
-) -> usize
-    requires in_bounds { (5496 ≤ length out.old) × (dim ≤ 3) × (degree ≤ 7) × (count ≤ 32)
-        × (303 ≤ length lines.now) }
-    requires all_numbers { AllNumbers (numbers_in (sizes_of dim degree count) 0 lines.now) }
-    ensures written { let s = sizes_of dim degree count in let w = form rev s (numbers_in s nodes lines.now) in
-        Written out.old 0 w out.new result }
+fn put_form(out: &mut [u8], asked: Asked, lines: &[f64]) -> usize
+    requires in_bounds { (5496 ≤ length out.old) × Small asked.sizes × (303 ≤ length lines.now) }
+    requires all_numbers { AllNumbers (numbers_in asked.sizes 0 lines.now) }
+    ensures written { let s = asked.sizes in let q = numbers_in s asked.nodes lines.now in
+        Written out.old 0 (form asked.rev s q) out.new result }
     ensures within { Counts result out.new }
 {
-    let i = put_sizes(out, rev, dim, degree, count);
-    let j = put_limits(out, i, nodes, lines);
-    put_shape(out, j, dim, degree, count, lines)
+    let i = put_sizes(out, asked.rev, asked.sizes);
+    let j = put_limits(out, i, asked.nodes, lines);
+    put_shape(out, j, asked.sizes, lines)
 }
 
 // ---- what is given
@@ -171,8 +138,9 @@ fn given(n: usize, room: usize) -> usize
     if n <= room { n } else { 0 }
 }
 
-// The text, written to the front of `out` where it fits. Where it does not, nothing is written, and the number is 15.
-pub fn give(text: &[u8], out: &mut [u8]) -> Rewritten
+// The text, written to the front of `out` where it fits: how many bytes it has. Where it does not fit, nothing is written,
+// and the number is 15.
+pub fn give(text: &[u8], out: &mut [u8]) -> Result<usize, Refusal>
     ensures count { result ≡ count_for (length out.old) text.now }
     ensures output { out.new ≡ output_for out.old text.now }
 {
@@ -180,78 +148,57 @@ pub fn give(text: &[u8], out: &mut [u8]) -> Rewritten
     let k = given(n, out.len());
     put_word(out, 0, &text[..k]);
     if k < n {
-        return Rewritten::Refused(15);
+        return Err(Refusal::Room);
     }
-    Rewritten::Bytes(n)
+    Ok(n)
 }
 
 // By what the question whose doubles stand in `lines` is refused.
-fn lines_refusal(
-    rev: usize,
-    dim: usize,
-    degree: usize,
-    count: usize,
-    nodes: usize,
-    lines: &[f64],
-) -> Result<(), Refusal>
-    requires { (303 ≤ length lines.now) × (dim ≤ 3) × (degree ≤ 7) × (count ≤ 32) }
-    ensures { let s = sizes_of dim degree count in
-        code_of result ≡ refusal_of rev s (numbers_in s nodes lines.now) }
+fn lines_refusal(asked: Asked, lines: &[f64]) -> Result<(), Refusal>
+    requires { (303 ≤ length lines.now) × Small asked.sizes }
+    ensures { let s = asked.sizes in
+        code_of result ≡ refusal_of asked.rev s (numbers_in s asked.nodes lines.now) }
 {
-    let k = 1 + (count + degree + 1);
-    let p = k + 2 * (dim + 1) * count;
-    let b = p + 2 * dim;
+    let s = asked.sizes;
+    let k = 1 + (s.count + s.degree + 1);
+    let p = k + 2 * (s.dim + 1) * s.count;
+    let b = p + 2 * s.dim;
     question_refusal(
-        rev,
-        dim,
-        degree,
-        count,
+        asked.rev,
+        s.dim,
+        s.degree,
+        s.count,
         &lines[1..k],
         &lines[k..p],
         &lines[p..b],
         lines[0],
-        nodes,
+        asked.nodes,
     )
 }
 
 // What is given for the question whose doubles stand in `lines`.
-fn rewrite_lines(
-    rev: usize,
-    dim: usize,
-    degree: usize,
-    count: usize,
-    nodes: usize,
-    lines: &[f64],
-    out: &mut [u8],
-) -> Rewritten
-    requires { (303 ≤ length lines.now) × (dim ≤ 3) × (degree ≤ 7) × (count ≤ 32) }
-    ensures { let s = sizes_of dim degree count in let a = accepted_by (asks rev s (numbers_in s nodes lines.now)) in
-        Rewrites a out.old out.new result }
+fn rewrite_lines(asked: Asked, lines: &[f64], out: &mut [u8]) -> Result<usize, Refusal>
+    requires { (303 ≤ length lines.now) × Small asked.sizes }
+    ensures { Rewrites (accepted_by (question_in asked lines.now)) out.old out.new result }
 {
-    if let Err(refused) = lines_refusal(rev, dim, degree, count, nodes, lines) {
-        return Rewritten::Refused(refused.number());
-    }
+    lines_refusal(asked, lines)?;
     let mut text = blank_form();
-    let n = put_form(&mut text, rev, dim, degree, count, nodes, lines);
+    let n = put_form(&mut text, asked, lines);
     give(&text[..n], out)
 }
 
-// The one form of a text, written to the front of `out`: lower-case digits, no negative zero, and always the line of
+// The one form of a text, written to the front of `out`, and how many bytes it has: lower-case digits, no negative zero, and always the line of
 // the revision. A text that 16, 1 to 9 or 12 refuses has that number, whatever room there is; an output that is too
 // short for any other has 15. Nothing is written then. 5,405 bytes are enough for any text.
 //
 // Its laws are stated in crates/text/specs/OneForm.antt and proved in crates/text/proofs/rewrite/Laws.antt:
 // `AllReadBack`, what is written reads back to the same numbers, and writing it again changes no byte; `OneForm`, two
 // texts have equal numbers exactly when they are given equal bytes.
-pub fn rewrite(text: &[u8], out: &mut [u8]) -> Rewritten
+pub fn rewrite(text: &[u8], out: &mut [u8]) -> Result<usize, Refusal>
     ensures rewrites { Rewrites (accepted text.now) out.old out.new result }
     ensures within { Within result out.new }
 {
     let mut lines = room();
-    match read(text, &mut lines) {
-        Asked::No(n) => Rewritten::Refused(n),
-        Asked::Yes(rev, dim, degree, count, nodes) => {
-            rewrite_lines(rev, dim, degree, count, nodes, &lines, out)
-        }
-    }
+    let asked = read(text, &mut lines)?;
+    rewrite_lines(asked, &lines, out)
 }

@@ -3,14 +3,17 @@
 use mathlib.Core.Path.{◌≡◌, refl, sym, ap, ◌∙◌, subst}
 use mathlib.Core.Bool.{Bool, true, false, not, cond, ◌&&◌, ◌||◌}
 use mathlib.Core.List.{List, [], ◌∷◌}
-use Prim.Native.Nat.{ℕ, suc, ◌+◌, ◌≤◌, ◌<◌}
+use Prim.Native.Nat.{ℕ, suc, ◌+◌, ◌-◌, ◌≤◌, ◌<◌}
 use native.Mathlib.Nat.{add-zero}
-use native.Mathlib.Numerals.{add-one}
 use native.Mathlib.Omega.{arith}
-use lib.ListN.{length, take, drop, get_or, drop_of_length-le}
-use lib.Seq.{drop-cons, drop-drop, get_or-drop}
+use lib.ListN.{length, take, drop, get_or, length-drop}
+use lib.Seq.{drop-drop, get_or-drop}
 use lib.Dec.{T, leb, eqb}
 use borrow.Author.Tests.{leb-true, le-leb, lt-leb, ne_eqb}
+use Rattle.std.specs.List.{prefix_len}
+use Rattle.std.specs.Char.{is_ascii_digit}
+use Rattle.std.proofs.lemmas.List.{take_all}
+use Rattle.std.proofs.lemmas.List.Sums.{prefix_len-le-length}
 use Rattle.lists.specs.Lists.{part, all}
 use Rattle.lists.proofs.Part.{length_part, get_or_part}
 use Rattle.lists.proofs.Fold.{all_get_or}
@@ -33,20 +36,13 @@ high_of a b c e = leb-true b c (both (leb a b) (leb b c) e).1
 
 -- ---- how many digits a text begins with
 
--- one more
-pub digits_turn : (l : List ℕ) (i : ℕ) → i < length l → is_digit (get_or l i 0) ≡ true
-    → digits (drop i l) ≡ digits (drop (i + 1) l) + 1
+-- they are what the code counts
+digits_leading : (t : List ℕ) → prefix_len is_ascii_digit t ≡ digits t
 unfolding digits
-digits_turn l i h e = rw (drop-cons l i 0 h, add-one i, add-one (digits (drop (suc i) l)), e)
-
--- no more
-pub digits-stop : (l : List ℕ) (i : ℕ) → i < length l → is_digit (get_or l i 0) ≡ false → digits (drop i l) ≡ 0
-unfolding digits
-digits-stop l i h e = rw (drop-cons l i 0 h, e)
-
-pub digits_done : (l : List ℕ) (i : ℕ) → length l ≤ i → digits (drop i l) ≡ 0
-unfolding digits
-digits_done l i h = rw (drop_of_length-le l {i = i} h)
+digits_leading [] = refl
+digits_leading (b ∷ t) =
+    let more : 1 + prefix_len is_ascii_digit t ≡ suc (digits t) = omega (arith, digits_leading t) in
+    ap (λ (n : ℕ). cond (is_digit b) n 0) more
 
 -- they are digits
 digits_all : (t : List ℕ) → all is_digit (take (digits t) t) ≡ true
@@ -59,9 +55,22 @@ digits_all (b ∷ t) = by (is_digit b) refl (digits_all t)
     by true e h = rw (e, h)
     by false e h = refl
 
--- what is known when the walk ends: n digits were passed and no other follows
-pub digits_known : (l : List ℕ) (at n : ℕ) → n ≡ digits (drop at l) → all is_digit (part l at n) ≡ true
-digits_known l at n e = ap (λ (k : ℕ). all is_digit (take k (drop at l))) e ∙ digits_all (drop at l)
+-- the text from `at` on, as the code cuts it out
+pub rest_whole : (t : List ℕ) (at : ℕ) → take (length t - at) (drop at t) ≡ drop at t
+rest_whole t at = take_all (length t - at) (drop at t) (omega (arith, length-drop at t))
+
+-- n of its bytes are counted as digits
+pub digits_counted : (t : List ℕ) (at n : ℕ) → at ≤ length t
+    → n ≡ prefix_len is_ascii_digit (take (length t - at) (drop at t))
+    → (n ≡ digits (drop at t)) × (at + n ≤ length t) × (all is_digit (part t at n) ≡ true)
+digits_counted t at n h N =
+    let e = N ∙ ap (prefix_len is_ascii_digit) (rest_whole t at) in
+    let f : n ≡ digits (drop at t) = e ∙ digits_leading (drop at t) in
+    let most = prefix_len-le-length is_ascii_digit (drop at t) in (
+      f,
+      omega (arith, h, e, most, length-drop at t),
+      ap (λ (k : ℕ). all is_digit (take k (drop at t))) f ∙ digits_all (drop at t),
+    )
 
 -- ---- the number that digits are
 
@@ -75,6 +84,16 @@ part_all p l at n i h e g =
 pub digit-between : (l : List ℕ) (at n i : ℕ) → at + n ≤ length l → all is_digit (part l at n) ≡ true → i < n
     → (48 ≤ get_or l (at + i) 0) × (get_or l (at + i) 0 ≤ 57)
 digit-between l at n i h e g = let t = part_all is_digit l at n i h e g in (low_of 48 _ 57 t, high_of 48 _ 57 t)
+
+-- n bytes from `at` on, as the code cuts them out
+module _ (t : List ℕ) (at n : ℕ) (h : at + n ≤ length t) where
+  pub length_cut : length (take (at + n - at) (drop at t)) ≡ n
+  length_cut = let s : at + n - at ≡ n = omega arith in ap (λ (k : ℕ). length (part t at k)) s ∙ length_part t at n h
+
+  pub get_or_cut : (i : ℕ) → i < n → get_or (take (at + n - at) (drop at t)) i 0 ≡ get_or t (at + i) 0
+  get_or_cut i g =
+      let s : at + n - at ≡ n = omega arith in
+      ap (λ (k : ℕ). get_or (part t at k) i 0) s ∙ get_or_part t at n i 0 g
 
 -- ---- small numbers
 

@@ -1,16 +1,15 @@
 -- Laws of doubles in a text: of hexadecimal digits, and of the double that sixteen of them are. Assumes nothing.
-use mathlib.Core.Path.{◌≡◌, refl, sym, ap, ◌∙◌, subst}
+use mathlib.Core.Path.{◌≡◌, refl, ap, ◌∙◌}
 use mathlib.Core.Bool.{Bool, true, false, not, ◌&&◌}
-use mathlib.Core.List.{List}
+use mathlib.Core.List.{List, [], ◌∷◌}
 use Prim.Native.Nat.{ℕ, ◌+◌, ◌-◌, ◌/◌, ◌%◌, ◌≤◌, ◌<◌}
 use native.Mathlib.Omega.{arith}
-use lib.ListN.{length, drop, get_or, length-drop}
+use lib.ListN.{length, take, drop, get_or, length-drop}
 use lib.Dec.{leb}
 use lib.Ieee.{nan, binary64, nan_bits, of_bits}
-use borrow.Author.Tests.{leb-true, le-leb, lt-leb, eqb-true, eq-eqb, ne_eqb}
+use borrow.Author.Tests.{leb-true, le-leb, eqb-true, eq-eqb, ne_eqb}
+use Rattle.std.specs.List.{list_all}
 use Rattle.lists.specs.Lists.{part, all}
-use Rattle.lists.proofs.Part.{length_part, get_or_part}
-use Rattle.lists.proofs.Fold.{all_turn, all_done}
 use Rattle.text.specs.Numerals.{is_digit, is_hex, is_double, nibble, double_of}
 use Rattle.text.proofs.numerals.Decimal.{part_all}
 
@@ -24,55 +23,28 @@ pub nibble-lower : (b : ℕ) → is_digit b ≡ false → leb 97 b && leb b 102 
 unfolding nibble
 nibble-lower b e f = rw (e, f)
 
-pub nibble-upper : (b : ℕ) → is_digit b ≡ false → leb 97 b && leb b 102 ≡ false → leb 65 b && leb b 70 ≡ true
-    → b - 55 ≡ nibble b
-unfolding nibble
-nibble-upper b e f g = rw (e, f, g)
-
-pub nibble_none : (b : ℕ) → is_digit b ≡ false → leb 97 b && leb b 102 ≡ false → leb 65 b && leb b 70 ≡ false
-    → 16 ≡ nibble b
-unfolding nibble
-nibble_none b e f g = rw (e, f, g)
-
 pub hex_known : (l : List ℕ) (at i : ℕ) → at + 16 ≤ length l → all is_hex (part l at 16) ≡ true → i < 16
     → nibble (get_or l (at + i) 0) ≤ 15
 hex_known l at i h e g = leb-true _ 15 (part_all is_hex l at 16 i h e g)
 
 -- ---- sixteen of them
 
--- it is too short
-pub double-short : (l : List ℕ) (at : ℕ) → length l - at < 16 → false ≡ is_double (drop at l)
-double-short l at h =
-    let e : leb 16 (length (drop at l)) ≡ false = lt-leb 16 (length (drop at l)) (simp length-drop h) in
-    rw e
+all_hex : (l : List ℕ) → list_all is_hex l ≡ all is_hex l
+unfolding all
+all_hex [] = refl
+all_hex (b ∷ l) = ap (λ (s : Bool). is_hex b && s) (all_hex l)
 
 double_long : (l : List ℕ) (at : ℕ) → at + 16 ≤ length l → all is_hex (part l at 16) ≡ is_double (drop at l)
 double_long l at h =
     let e : leb 16 (length (drop at l)) ≡ true = le-leb 16 (length (drop at l)) (simp length-drop (omega arith)) in
     rw e
 
--- the walk over them, where those that are left answer for all
-module _ (l : List ℕ) (at i : ℕ) (h : at + 16 ≤ length l)
-    (inv : all is_hex (drop i (part l at 16)) ≡ all is_hex (part l at 16)) where
-  walk_turn : (r : Bool) → i < 16 → is_hex (get_or l (at + i) 0) ≡ r
-      → r && all is_hex (drop (i + 1) (part l at 16)) ≡ all is_hex (part l at 16)
-  walk_turn r g e =
-      let t = all_turn is_hex (part l at 16) i 0 (rw (length_part l at 16 h) g) in
-      let k : is_hex (get_or (part l at 16) i 0) ≡ r = ap is_hex (get_or_part l at 16 i 0 g) ∙ e in
-      sym (t ∙ ap (λ (b : Bool). b && all is_hex (drop (i + 1) (part l at 16))) k) ∙ inv
-
-  -- one is no digit
-  pub walk-stop : (d : ℕ) → d ≡ nibble (get_or l (at + i) 0) → i < 16 → 15 < d → false ≡ is_double (drop at l)
-  walk-stop d e g f = walk_turn false g (lt-leb _ 15 (subst (λ (k : ℕ). 15 < k) e f)) ∙ double_long l at h
-
-  -- one is
-  pub walk-keep : (d : ℕ) → d ≡ nibble (get_or l (at + i) 0) → i < 16 → d ≤ 15
-      → all is_hex (drop (i + 1) (part l at 16)) ≡ all is_hex (part l at 16)
-  walk-keep d e g f = walk_turn true g (le-leb _ 15 (subst (λ (k : ℕ). k ≤ 15) e f))
-
-  -- none is left
-  pub walk_end : 16 ≤ i → true ≡ is_double (drop at l)
-  walk_end g = sym (all_done is_hex (part l at 16) i (rw (length_part l at 16 h) g)) ∙ inv ∙ double_long l at h
+-- the code looks at them, where there are so many bytes
+pub double_there : (l : List ℕ) (at : ℕ) (r : Bool) → at + 16 ≤ length l
+    → r ≡ list_all is_hex (take (at + 16 - at) (drop at l)) → r ≡ is_double (drop at l)
+double_there l at r h R =
+    let s : at + 16 - at ≡ 16 = omega arith in
+    R ∙ ap (λ (n : ℕ). list_all is_hex (part l at n)) s ∙ all_hex (part l at 16) ∙ double_long l at h
 
 -- ---- the double of some bits
 

@@ -12,12 +12,11 @@ use lib.Dec.{leb}
 use lib.Ieee.{Float}
 use Rattle.lists.specs.Lists.{all, part, put}
 use Rattle.lists.proofs.Put.{put-nil, put-put, put_one, length-put}
+use Rattle.std.specs.Prelude.{Option, Some, None}
 use Rattle.text.specs.Bytes.{Read, bad, got, then, word}
 use Rattle.text.specs.Numerals.{is_hex, is_double, hex_of, double_of, double}
 use Rattle.text.specs.Question.{behind, values, line, lines}
 use Rattle.text.specs.Cursor.{WordRead, ValueRead, ValuesAt, ValuesRead}
-use Rattle.text.specs.declared.cursor.Place.{Place}
-use Rattle.text.specs.declared.cursor.Place.TheVariants.{Bad, At}
 use Rattle.text.proofs.question.Words.{then-bad, then-got}
 use Rattle.text.proofs.numerals.Decimal.{both}
 
@@ -38,10 +37,10 @@ module _ (text : List ℕ) (at b : ℕ) (r : Bool) (d : r ≡ is_double (drop at
   reads e = rw (sym d ∙ e, drop-drop 16 at text)
 
   -- there is one, and the byte b behind it or not
-  pub value_is : r ≡ true → at + 16 ≤ length text → (q : Place)
+  pub value_is : r ≡ true → at + 16 ≤ length text → (q : Option ℕ)
       → WordRead text (word (b ∷ []) (drop (at + 16) text)) q → ValueRead text at b q
-  value_is e h Bad w = then-got (double (drop at text)) _ _ _ (reads e) ∙ w
-  value_is e h (At i) w = record {
+  value_is e h None w = then-got (double (drop at text)) _ _ _ (reads e) ∙ w
+  value_is e h (Some i) w = record {
     inside = w.0;
     room = h;
     digits = (both (leb 16 (length (drop at text))) (all is_hex (part text at 16)) (sym d ∙ e)).1;
@@ -141,18 +140,18 @@ module _ (text : List ℕ) (n at to : ℕ) (l : List Float) where
   pub values_begin : Values 0 at l
   values_begin = let z : n ≡ n - 0 = omega arith in taken_none to l (ap (λ (q : ℕ). values q (drop at text)) z)
 
-  module _ (i k b : ℕ) (m : List Float) (r : Place) (less : i < n) (sep : b ≡ behind (n - i - 1))
+  module _ (i k b : ℕ) (m : List Float) (r : Option ℕ) (less : i < n) (sep : b ≡ behind (n - i - 1))
       (read : ValueRead text k b r) (so : Values i k m) where
     next : n - i ≡ suc (n - i - 1)
     next = omega arith
 
     -- a value that cannot be read
-    pub values-stop : r ≡ Bad → values n (drop at text) ≡ bad
+    pub values-stop : r ≡ None → values n (drop at text) ≡ bad
     values-stop e =
         taken-bad so (values-stuck (n - i) (n - i - 1) (drop k text) b next sep (subst (ValueRead text k b) e read))
 
     -- one value
-    pub values_turn : (j : ℕ) (x : Float) → r ≡ At j → x ≡ double_of (hex_of (part text k 16)) → to + n ≤ length l
+    pub values_turn : (j : ℕ) (x : Float) → r ≡ Some j → x ≡ double_of (hex_of (part text k 16)) → to + n ≤ length l
         → Values (i + 1) j (set m (to + i) x)
     values_turn j x e f h =
         let v = subst (ValueRead text k b) e read in
@@ -172,18 +171,18 @@ module _ (text : List ℕ) (n at to : ℕ) (l : List Float) where
 
 -- ---- lines of doubles
 
-module _ (text key t : List ℕ) (n : ℕ) (r : Place) (w : WordRead text (word key t) r) where
+module _ (text key t : List ℕ) (n : ℕ) (r : Option ℕ) (w : WordRead text (word key t) r) where
   -- the key is missing
-  pub line_keyless : r ≡ Bad → line key n t ≡ bad
+  pub line_keyless : r ≡ None → line key n t ≡ bad
   unfolding line
   line_keyless e = then-bad (word key t) _ (subst (WordRead text _) e w)
 
-  line_is : (i : ℕ) → r ≡ At i → line key n t ≡ values n (drop i text)
+  line_is : (i : ℕ) → r ≡ Some i → line key n t ≡ values n (drop i text)
   unfolding line
   line_is i e = then-got (word key t) _ tt (drop i text) (subst (WordRead text _) e w).1
 
   -- the values behind the key
-  pub line-rest : (i : ℕ) → r ≡ At i → (to : ℕ) (l m : List Float) (q : Place)
+  pub line-rest : (i : ℕ) → r ≡ Some i → (to : ℕ) (l m : List Float) (q : Option ℕ)
       → ValuesRead text (values n (drop i text)) n to l m q → ValuesRead text (line key n t) n to l m q
   line-rest i e to l m q h = subst (λ (spec : Read (List Float)). ValuesRead text spec n to l m q) (sym (line_is i e)) h
 
@@ -211,19 +210,19 @@ module _ (text key : List ℕ) (n k at to : ℕ) (l : List Float) where
       let z : k ≡ k - 0 = omega arith in
       rw (mul-zero n) (taken_none to l (ap (λ (q : ℕ). lines key n q (drop at text)) z))
 
-  module _ (i p : ℕ) (m w : List Float) (r : Place) (less : i < k)
+  module _ (i p : ℕ) (m w : List Float) (r : Option ℕ) (less : i < k)
       (read : ValuesRead text (line key n (drop p text)) n (to + n * i) m w r) (so : Lines i p m) where
     left : k - i ≡ suc (k - (i + 1))
     left = omega arith
 
     -- a line that cannot be read
-    pub lines-stop : r ≡ Bad → lines key n k (drop at text) ≡ bad
+    pub lines-stop : r ≡ None → lines key n k (drop at text) ≡ bad
     lines-stop e =
         taken-bad so
         (lines-stuck key n (k - i) (k - (i + 1)) (drop p text) left (subst (ValuesRead text _ n _ m w) e read))
 
     -- one line
-    pub lines_turn : (j : ℕ) → r ≡ At j → to + n * k ≤ length l → (j ≤ length text) × Lines (i + 1) j w
+    pub lines_turn : (j : ℕ) → r ≡ Some j → to + n * k ≤ length l → (j ≤ length text) × Lines (i + 1) j w
     lines_turn j e h =
         let v = subst (ValuesRead text (line key n (drop p text)) n (to + n * i) m w) e read in
         let f : n * i + length v.xs ≡ n * (i + 1) = rw (v.long, add-one i, mul-suc n i) in

@@ -8,14 +8,11 @@ use lib.ListN.{length, drop, length-append}
 use lib.Ieee.{Float}
 use Rattle.lists.specs.Lists.{put}
 use Rattle.lists.proofs.Put.{put-put}
+use Rattle.std.specs.Prelude.{Option, Some, None}
 use Rattle.text.specs.Bytes.{bytes, Read, bad, got, then}
 use Rattle.text.specs.Question.{small_line, line, lines, Sizes, knot_doubles, point_doubles, box_doubles}
 use Rattle.text.specs.Question.{Numbers, numbers}
 use Rattle.text.specs.Cursor.{SmallRead, ValuesAt, ValuesRead, LimitsAt, LimitsRead, shape, ShapeRead, NumbersAt}
-use Rattle.text.specs.declared.cursor.Place.{Place}
-use Rattle.text.specs.declared.cursor.Place.TheVariants.{Bad, At}
-use Rattle.text.specs.declared.cursor.Small.{Small}
-use Rattle.text.specs.declared.cursor.Small.TheVariants.{NoNumber, Number}
 use Rattle.text.proofs.question.Words.{then-bad, then-got}
 
 -- a write behind another
@@ -25,25 +22,25 @@ put_next l a b xs ys e h = rw e (put-put l a xs ys h)
 
 -- ---- the limits, by how many of their lines are there
 
-module _ (text t : List ℕ) (r : Small) (one : SmallRead text (small_line (bytes "nodes=") t) r) (l m : List Float) where
+module _ (text t : List ℕ) (r : Option (ℕ × ℕ)) (one : SmallRead text (small_line (bytes "nodes=") t) r) (l m : List Float) where
   -- The two lines.
   abbrev limits-lines : Read (List Float)
   limits-lines = then (small_line (bytes "nodes=") t) (λ _ a. line (bytes "resolution=") 1 a)
 
-  pub limits_none : r ≡ NoNumber → limits-lines ≡ bad
+  pub limits_none : r ≡ None → limits-lines ≡ bad
   limits_none e = then-bad (small_line (bytes "nodes=") t) _ (subst (SmallRead text _) e one)
 
-  module _ (n i : ℕ) (e : r ≡ Number n i) (q : Place)
+  module _ (n i : ℕ) (e : r ≡ Some (n, i)) (q : Option ℕ)
       (two : ValuesRead text (line (bytes "resolution=") 1 (drop i text)) 1 0 l m q) where
-    nodes_there : SmallRead text (small_line (bytes "nodes=") t) (Number n i)
+    nodes_there : SmallRead text (small_line (bytes "nodes=") t) (Some (n, i))
     nodes_there = subst (SmallRead text _) e one
 
-    pub limits_one : q ≡ Bad → limits-lines ≡ bad
+    pub limits_one : q ≡ None → limits-lines ≡ bad
     limits_one f =
         then-got (small_line (bytes "nodes=") t) _ n (drop i text) nodes_there.2
         ∙ subst (ValuesRead text _ 1 0 l m) f two
 
-    pub limits_two : (j : ℕ) → q ≡ At j → LimitsAt text t l m n j
+    pub limits_two : (j : ℕ) → q ≡ Some j → LimitsAt text t l m n j
     limits_two j f =
         let v = subst (ValuesRead text _ 1 0 l m) f two in
         by v.xs v.inside v.reads v.long v.wrote
@@ -68,14 +65,14 @@ module _ (text t : List ℕ) (r : Small) (one : SmallRead text (small_line (byte
 pub few_numbers : (w n : ℕ) → w ≤ 8 → n ≤ 32 → w * n ≤ 256
 few_numbers w n h k = mul-le-mul h k
 
-module _ (text t : List ℕ) (s : Sizes) (l m₁ : List Float) (r : Place)
+module _ (text t : List ℕ) (s : Sizes) (l m₁ : List Float) (r : Option ℕ)
     (one : ValuesRead text (line (bytes "knots=") (knot_doubles s) t) (knot_doubles s) 1 l m₁ r) where
-  pub shape_none : r ≡ Bad → shape s t ≡ bad
+  pub shape_none : r ≡ None → shape s t ≡ bad
   unfolding shape
   shape_none e = then-bad (line (bytes "knots=") (knot_doubles s) t) _ (subst (ValuesRead text _ _ 1 l m₁) e one)
 
   -- the code counts the numbers of a point as w
-  module _ (w i : ℕ) (e : r ≡ At i) (wide : w ≡ point_doubles s) (m₂ : List Float) (q : Place)
+  module _ (w i : ℕ) (e : r ≡ Some i) (wide : w ≡ point_doubles s) (m₂ : List Float) (q : Option ℕ)
       (two : ValuesRead text (lines (bytes "point=") w s.count (drop i text)) (w * s.count) (1 + knot_doubles s)
       m₁ m₂ q) where
     knots_there : ValuesAt text (line (bytes "knots=") (knot_doubles s) t) (knot_doubles s) 1 l m₁ i
@@ -96,23 +93,23 @@ module _ (text t : List ℕ) (s : Sizes) (l m₁ : List Float) (r : Place)
     shape-next =
         then-got (line (bytes "knots=") (knot_doubles s) t) _ knots_there.xs (drop i text) knots_there.reads
 
-    pub shape_one : q ≡ Bad → shape s t ≡ bad
+    pub shape_one : q ≡ None → shape s t ≡ bad
     shape_one f = shape-next ∙ then-bad points-line _ (same ∙ subst (ValuesRead text _ _ _ m₁ m₂) f two)
 
-    module _ (j : ℕ) (f : q ≡ At j) where
+    module _ (j : ℕ) (f : q ≡ Some j) where
       points_there :
           ValuesAt text (lines (bytes "point=") w s.count (drop i text)) (w * s.count) (1 + knot_doubles s) m₁ m₂ j
       points_there = subst (ValuesRead text _ _ _ m₁ m₂) f two
 
-      pub shape_two : (m₃ : List Float) (z : Place)
+      pub shape_two : (m₃ : List Float) (z : Option ℕ)
           → ValuesRead text (line (bytes "box=") (box_doubles s) (drop j text)) (box_doubles s)
           (1 + knot_doubles s + w * s.count) m₂ m₃ z
           → 1 + knot_doubles s + w * s.count + box_doubles s ≤ length l → ShapeRead text t s l m₃ z
-      shape_two m₃ Bad three h =
+      shape_two m₃ None three h =
           shape-next
           ∙ then-got points-line _ points_there.xs (drop j text) (same ∙ points_there.reads)
           ∙ then-bad (line (bytes "box=") (box_doubles s) (drop j text)) _ three
-      shape_two m₃ (At k) three h =
+      shape_two m₃ (Some k) three h =
           let u = knots_there in
           let v = points_there in
           let a : 1 + knot_doubles s ≡ 1 + length u.xs = omega (arith, u.long) in
@@ -176,14 +173,14 @@ unfolding then
 three-bad bad h k f g e = refl
 three-bad (got x t) h k f g e = two_bad (h t) k (f x) (g x) e
 
-module _ (text t : List ℕ) (s : Sizes) (l m₁ : List Float) (r : Small) (one : LimitsRead text t l m₁ r) where
-  pub numbers_none : r ≡ NoNumber → numbers s t ≡ bad
+module _ (text t : List ℕ) (s : Sizes) (l m₁ : List Float) (r : Option (ℕ × ℕ)) (one : LimitsRead text t l m₁ r) where
+  pub numbers_none : r ≡ None → numbers s t ≡ bad
   unfolding numbers
   numbers_none e =
       part-bad (small_line (bytes "nodes=") t) (λ _ a. line (bytes "resolution=") 1 a) _
       (subst (LimitsRead text t l m₁) e one)
 
-  module _ (n i : ℕ) (e : r ≡ Number n i) (m₂ : List Float) (q : Place)
+  module _ (n i : ℕ) (e : r ≡ Some (n, i)) (m₂ : List Float) (q : Option ℕ)
       (two : ShapeRead text (drop i text) s m₁ m₂ q) where
     front : LimitsAt text t l m₁ n i
     front = subst (LimitsRead text t l m₁) e one
@@ -204,7 +201,7 @@ module _ (text t : List ℕ) (s : Sizes) (l m₁ : List Float) (r : Small) (one 
         ∙ then-got (line (bytes "resolution=") 1 front.rest) _ (front.resolution ∷ []) (drop i text)
         front.resolution_read
 
-    pub numbers_one : q ≡ Bad → numbers s t ≡ bad
+    pub numbers_one : q ≡ None → numbers s t ≡ bad
     unfolding shape
     numbers_one f =
         numbers_next
@@ -213,7 +210,7 @@ module _ (text t : List ℕ) (s : Sizes) (l m₁ : List Float) (r : Small) (one 
         (λ d. line (bytes "box=") (box_doubles s) d) (λ knots points box. knots ++ points ++ box) _
         (subst (ShapeRead text (drop i text) s m₁ m₂) f two)
 
-    pub numbers_two : (j : ℕ) → q ≡ At j → 1 ≤ length l → NumbersAt text (numbers s t) s l m₂ n j
+    pub numbers_two : (j : ℕ) → q ≡ Some j → 1 ≤ length l → NumbersAt text (numbers s t) s l m₂ n j
     numbers_two j f h =
         let v = subst (ShapeRead text (drop i text) s m₁ m₂) f two in
         record {

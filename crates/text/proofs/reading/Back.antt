@@ -8,7 +8,7 @@ use lib.Seq.{take_at, drop_at}
 use lib.Ieee.{Float, nan}
 use Rattle.lists.specs.Lists.{part, put}
 use Rattle.lists.proofs.Read.{part-put_in, get_or-put}
-use Rattle.text.specs.Question.{Sizes, sizes_of, knot_doubles, point_doubles, box_doubles, Numbers}
+use Rattle.text.specs.Question.{Sizes, knot_doubles, point_doubles, box_doubles, Numbers}
 use Rattle.text.specs.Cursor.{Long, laid, numbers_in}
 
 -- ---- parts of a list that was put together
@@ -93,19 +93,19 @@ pub record Parts (s : Sizes) (l ks ps bs : List Float) : Type 0 where
   pub box : bs ≡ (numbers_in s 0 l).box
 
 -- as the code cuts them out: from one place to the next
-pub parts-lent : (d p n : ℕ) (l : List Float)
-    → let k = 1 + (n + p + 1) in
-    let q = k + 2 * (d + 1) * n in
-    let b = q + 2 * d in
-    Parts (sizes_of d p n) l (part l 1 (k - 1)) (part l k (q - k)) (part l q (b - q))
-parts-lent d p n l =
-    let K : ℕ = n + p + 1 in
-    let P : ℕ = 2 * (d + 1) * n in
-    let one : d + 1 ≡ suc d = omega arith in
-    let e : P ≡ 2 * suc d * n = ap (λ (k : ℕ). 2 * k * n) one in
+pub parts-lent : (s : Sizes) (l : List Float)
+    → let k = 1 + (s.count + s.degree + 1) in
+    let q = k + 2 * (s.dim + 1) * s.count in
+    let b = q + 2 * s.dim in
+    Parts s l (part l 1 (k - 1)) (part l k (q - k)) (part l q (b - q))
+parts-lent s l =
+    let K : ℕ = s.count + s.degree + 1 in
+    let P : ℕ = 2 * (s.dim + 1) * s.count in
+    let one : s.dim + 1 ≡ suc s.dim = omega arith in
+    let e : P ≡ 2 * suc s.dim * s.count = ap (λ (k : ℕ). 2 * k * s.count) one in
     let long-knots : 1 + K - 1 ≡ K = omega arith in
     let long-points : 1 + K + P - (1 + K) ≡ P = omega arith in
-    let long-box : 1 + K + P + 2 * d - (1 + K + P) ≡ 2 * d = omega arith in
+    let long-box : 1 + K + P + 2 * s.dim - (1 + K + P) ≡ 2 * s.dim = omega arith in
     record {
       knots = ap (part l 1) long-knots;
       points = ap (part l (1 + K)) (long-points ∙ e);

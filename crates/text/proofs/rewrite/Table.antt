@@ -22,8 +22,7 @@ use Rattle.text.specs.Question.{small_line, values, line, lines, revision_by, re
 use Rattle.text.specs.Question.{complete_by, opened_by, read_by, named_by, begun_by, reading}
 use Rattle.text.specs.Form.{small_text, values_text, line_text, lines_text, sizes_text, limits_text, shape_text, form}
 use Rattle.text.specs.Form.{checked_by, accepted_by, accepted, count_for, output_for, rewritten_by, output_by}
-use Rattle.text.specs.declared.rewrite.Rewritten.{Rewritten}
-use Rattle.text.specs.declared.rewrite.Rewritten.TheVariants.{Bytes, Refused}
+use Rattle.std.specs.Prelude.{Result, Ok, Err}
 
 -- ---- what a case says
 
@@ -33,15 +32,15 @@ alike [] (y ∷ ys) = false
 alike (x ∷ xs) [] = false
 alike (x ∷ xs) (y ∷ ys) = eqb x y && alike xs ys
 
-same : Rewritten → Rewritten → Bool
-same (Bytes m) (Bytes n) = eqb m n
-same (Refused m) (Refused n) = eqb m n
-same (Bytes m) (Refused n) = false
-same (Refused m) (Bytes n) = false
+same : Result ℕ ℕ → Result ℕ ℕ → Bool
+same (Ok m) (Ok n) = eqb m n
+same (Err m) (Err n) = eqb m n
+same (Ok m) (Err n) = false
+same (Err m) (Ok n) = false
 
 -- For the text, lent these bytes, the writer gives r and leaves m. What it would take to look at a work area is open too, so that
 -- a writer that does is decided, and refused.
-gives : List ℕ → List ℕ → Rewritten → List ℕ → Bool
+gives : List ℕ → List ℕ → Result ℕ ℕ → List ℕ → Bool
 unfolding lt le eq of_bits to_bits nan_bits count_trailing_zeros put all count foldl weights_positive positive_zero point_at points_of
     dim_fits degree_fits count_fits lengths_fit numbers_usable bounds_ordered weights_fit rising multiplicity_ok knots_valid knots_fit
     first_failed or_else revision_fits revision_refusal sizes_refusal curve_refusal question_refusal slot_words stated area_fits refusal
@@ -86,31 +85,31 @@ lent n = replicate n 7
 -- ---- the cases
 
 -- F1: the form is written, with positive zeros and lower-case digits, and what stands behind it stays; nodes=4096 is no matter.
-F1 : gives (mixed "") (lent 300) (Bytes 288) (whole "rev=1\n" ++ lent 12) ≡ true
+F1 : gives (mixed "") (lent 300) (Ok 288) (whole "rev=1\n" ++ lent 12) ≡ true
 unfolding gives mixed whole lent
 F1 = refl
 
 -- F2: with exactly as much room.
-F2 : gives (mixed "rev=1\n") (lent 288) (Bytes 288) (whole "rev=1\n") ≡ true
+F2 : gives (mixed "rev=1\n") (lent 288) (Ok 288) (whole "rev=1\n") ≡ true
 unfolding gives mixed whole lent
 F2 = refl
 
 -- F3: with a byte less, 15, and nothing is written.
-F3 : gives (mixed "") (lent 287) (Refused 15) (lent 287) ≡ true
+F3 : gives (mixed "") (lent 287) (Err 15) (lent 287) ≡ true
 unfolding gives mixed whole lent
 F3 = refl
 
 -- F4: the revision is kept.
-F4 : gives (mixed "rev=2\n") (lent 288) (Bytes 288) (whole "rev=2\n") ≡ true
+F4 : gives (mixed "rev=2\n") (lent 288) (Ok 288) (whole "rev=2\n") ≡ true
 unfolding gives mixed whole lent
 F4 = refl
 
 -- F5: a text that is refused has its own number, with no room at all.
-F5 : gives falling [] (Refused 8) [] ≡ true
+F5 : gives falling [] (Err 8) [] ≡ true
 unfolding gives falling
 F5 = refl
 
 -- F6: another revision is 16, before anything else is read.
-F6 : gives (mixed "rev=3\n") [] (Refused 16) [] ≡ true
+F6 : gives (mixed "rev=3\n") [] (Err 16) [] ≡ true
 unfolding gives mixed
 F6 = refl

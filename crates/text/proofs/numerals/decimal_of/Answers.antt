@@ -1,48 +1,31 @@
--- `decimal_of` gives the number that the digits are. Invariant: v is the number that the first i are.
-use mathlib.Core.Path.{◌≡◌, refl, ap, ◌∙◌}
-use Prim.Native.Nat.{ℕ, ◌+◌, ◌≤◌, ◌<◌}
+-- `decimal_of` gives the number that the digits are. Invariant: v is the number that those passed are.
+use mathlib.Core.Path.{◌≡◌}
+use Prim.Native.Nat.{◌+◌, ◌-◌, ◌<◌}
 use native.Mathlib.Omega.{arith}
 use lib.ListN.{get_or}
-use Rattle.lists.specs.Lists.{part}
-use Rattle.text.specs.Numerals.{decimal_of}
-use Rattle.text.proofs.numerals.Base.{known_none, known_turn, known_most}
-use Rattle.text.proofs.numerals.Decimal.{digit-between}
+use Rattle.text.proofs.numerals.Base.{known_none, known_turn}
+use Rattle.text.proofs.numerals.Decimal.{digit-between, length_cut, get_or_cut}
 use Rattle.text.proofs.numerals.decimal_of.Goals as goal
 
--- the byte that is read is a digit
-digit : (c : goal.After-shared_slice_known-1)
-    → let a = c.args in
-    let b = get_or a.text.now (a.at + c.loop-i.i) 0 in
-    (48 ≤ b) × (b ≤ 57)
-digit c =
+pub loop-b-init : goal.loop-b-init
+loop-b-init c = known_none
+
+pub overflow_sub-b : goal.overflow_sub-b
+overflow_sub-b c =
     let a = c.args in
-    digit-between a.text.now a.at a.n c.loop-i.i (omega arith) c.requires.2 (omega arith)
+    let h = c.requires in
+    let n = length_cut a.text.now a.at a.n h.1 in
+    let less : c.loop-b.b-index < a.n = omega (arith, n) in
+    let d = digit-between a.text.now a.at a.n c.loop-b.b-index h.1 h.2 less in
+    omega (arith, d.0, get_or_cut a.text.now a.at a.n h.1 c.loop-b.b-index less)
 
-pub loop-i-init : goal.loop-i-init
-loop-i-init c = (omega arith, known_none)
-
-pub overflow_mul-v : goal.overflow_mul-v
-overflow_mul-v c =
-    let few : c.loop-i.v < 1000000000 = known_most c.loop-i.invariant.1 9 (omega arith) (omega arith) in
-    omega (arith, few)
-
-pub overflow_sub-v : goal.overflow_sub-v
-overflow_sub-v c = (digit c).0
-
-pub overflow_cast-v : goal.overflow_cast-v
-overflow_cast-v c = omega (arith, digit c)
-
-pub overflow_add-v-in-loop-i : goal.overflow_add-v-in-loop-i
-overflow_add-v-in-loop-i c =
-    let few : c.loop-i.v < 1000000000 = known_most c.loop-i.invariant.1 9 (omega arith) (omega arith) in
-    omega (arith, few, digit c)
-
-pub loop-i-preserved : goal.loop-i-preserved
-loop-i-preserved c = (omega arith, known_turn c.loop-i.invariant.1 _ (omega arith) refl (omega (arith, digit c)))
-
-pub returns : goal.returns
-returns c =
-    let few : c.loop-i.v < 1000000000 = known_most c.loop-i.invariant.1 9 (omega arith) (omega arith) in
+pub loop-b-preserved : goal.loop-b-preserved
+loop-b-preserved c =
     let a = c.args in
-    let e : c.loop-i.i ≡ a.n = omega arith in
-    (c.loop-i.invariant.1.number ∙ ap (λ (k : ℕ). decimal_of (part a.text.now a.at k)) e, omega (arith, few))
+    let h = c.requires in
+    let i = c.loop-b.b-index in
+    let less : i < a.n = omega (arith, length_cut a.text.now a.at a.n h.1) in
+    let d = digit-between a.text.now a.at a.n i h.1 h.2 less in
+    let same = get_or_cut a.text.now a.at a.n h.1 i less in
+    let e : c.from.result ≡ get_or a.text.now (a.at + i) 0 - 48 = omega (arith, c.from.ensures, same) in
+    known_turn c.loop-b.invariant _ (omega arith) e (omega (arith, d, e))

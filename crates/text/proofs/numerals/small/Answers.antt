@@ -1,23 +1,12 @@
 -- `small` reads what its definition reads.
 use mathlib.Core.Path.{sym, ◌∙◌}
-use lib.ListN.{drop}
-use Rattle.text.proofs.numerals.Decimal.{small-nine, small-bad, small-got}
+use Rattle.text.proofs.numerals.Decimal.{small-bad, small-got}
 use Rattle.text.proofs.numerals.small.Goals as goal
-
-pub is_small-requires : goal.is_small-requires
-is_small-requires c = c.digits-n.ensures.1
 
 pub returns-then-not-is_small : goal.returns-then-not-is_small
 returns-then-not-is_small c =
     let count = c.digits-n in
     small-bad _ count.result count.ensures.0 (sym c.is_small.ensures ∙ c.if-not-is_small.true)
-
-pub decimal_of-requires : goal.decimal_of-requires
-decimal_of-requires c =
-    let count = c.digits-n in
-    let a = c.args in
-    let is_one = sym c.is_small.ensures ∙ c.if-not-is_small.false in
-    (small-nine count.result (drop a.at a.text.now) is_one, count.ensures.1, count.ensures.2)
 
 pub returns : goal.returns
 returns c =

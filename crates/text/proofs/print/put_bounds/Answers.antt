@@ -10,8 +10,7 @@ use Rattle.model.specs.contracts.contains.Found.{the_type}
 use Rattle.model.specs.declared.contains.Found.{Found}
 use Rattle.model.specs.declared.contains.Found.TheVariants.{Nothing, Enclosed, Spent, Refused}
 use Rattle.model.specs.Paper.{paper}
-use Rattle.text.specs.Printable.{Printable}
-use mathlib.Core.Path.{◌≡◌, refl, subst}
+use mathlib.Core.Path.{◌≡◌, refl}
 use native.Mathlib.Omega.{arith}
 use Rattle.text.proofs.print.put_bounds.Goals as goal
 
@@ -27,14 +26,6 @@ unfolding bytes
 returns-in_default c =
     let w = c.put_word.ensures in
     dashes_written c.args.f (others c.args.f c.in_default.not-Enclosed) w (omega (arith, w.end))
-
-pub put_double-j-requires : goal.put_double-j-requires
-put_double-j-requires c =
-    (omega arith, (subst Printable c.in-Enclosed.is c.requires.1).0)
-
-pub put_double-l-requires : goal.put_double-l-requires
-put_double-l-requires c =
-    (omega arith, (subst Printable c.in-Enclosed.is c.requires.1).1)
 
 pub returns : goal.returns
 unfolding bytes bound_lines

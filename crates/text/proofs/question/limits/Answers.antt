@@ -1,32 +1,26 @@
 -- `limits` reads the nodes and the resolution.
-use mathlib.Core.Path.{subst}
-use Rattle.text.specs.Cursor.{SmallRead}
 use Rattle.text.proofs.question.Others.{limits_none, limits_one, limits_two}
 use Rattle.text.specs.Bytes.{bytes}
 use Rattle.text.proofs.question.limits.Goals as goal
 
-pub returns-in_default : goal.returns-in_default
+pub returns-in_err-n : goal.returns-in_err-n
 unfolding bytes
-returns-in_default c =
+returns-in_err-n c =
     let a = c.args in
-    limits_none a.text.now _ _ c.small_line.ensures a.out.now a.out.now c.in_default.is
+    rw c.from_residual.ensures
+    (limits_none a.text.now _ _ c.small_line.ensures a.out.now a.out.now c.in_err-n.was)
 
-pub line-requires : goal.line-requires
-line-requires c = (
-  (subst (SmallRead _ _) c.in-Number.is c.small_line.ensures).1,
-  c.requires.1,
-)
-
-pub returns-in_default-line : goal.returns-in_default-line
+pub returns-in_err-j : goal.returns-in_err-j
 unfolding bytes
-returns-in_default-line c =
+returns-in_err-j c =
     let a = c.args in
-    limits_one a.text.now _ _ c.small_line.ensures a.out.now c.line.new.out
-    _ _ c.in-Number.is _ c.line.ensures c.in_default-line.is
+    rw c.from_residual-in_err-j.ensures
+    (limits_one a.text.now _ _ c.small_line.ensures a.out.now c.line.new.out
+    _ _ c.in_ok-n.was _ c.line.ensures c.in_err-j.was)
 
 pub returns : goal.returns
 unfolding bytes
 returns c =
     let a = c.args in
     limits_two a.text.now _ _ c.small_line.ensures a.out.now c.line.new.out
-    _ _ c.in-Number.is _ c.line.ensures _ c.in-At.is
+    _ _ c.in_ok-n.was _ c.line.ensures _ c.in_ok-j.was

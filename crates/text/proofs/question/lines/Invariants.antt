@@ -1,17 +1,10 @@
 -- `lines` reads k lines of n doubles each.
 -- Invariant: the first i lines were read and written, the others are read from p on.
-use mathlib.Core.Path.{◌≡◌}
-use Prim.Native.Nat.{◌-◌, ◌≤◌}
+use Prim.Native.Nat.{◌≤◌}
 use lib.ListN.{length}
 use Rattle.text.proofs.question.Doubles.{Lines}
 use Rattle.text.proofs.question.lines.Given as goal
 
 abbrev pub invariant-loop-i : goal.invariant-loop-i
 invariant-loop-i l =
-    (l.i ≤ l.k)
-    × (l.p ≤ length l.text)
-    × (length l.out ≡ length l.initial.out)
-    × Lines l.text l.key l.n l.k l.at l.to l.initial.out l.i l.p l.out
-
-abbrev pub decreases-loop-i : goal.decreases-loop-i
-decreases-loop-i l = l.k - l.i
+    (l.p ≤ length l.text) × Lines l.text l.key l.n l.k l.at l.to l.initial.out l.i l.p l.out

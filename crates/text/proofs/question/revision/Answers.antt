@@ -11,4 +11,4 @@ returns-in_default c =
 pub returns : goal.returns
 unfolding bytes
 returns c =
-    revision-read c.args.text.now _ c.word.ensures _ c.small_line.result c.in-At.is c.small_line.ensures
+    revision-read c.args.text.now _ c.word.ensures _ c.small_line.result c.in-Some.is c.small_line.ensures

@@ -1,37 +1,29 @@
 -- `sizes` reads the three lines, one behind the other.
-use mathlib.Core.Path.{subst}
-use Rattle.text.specs.Cursor.{SmallRead}
 use Rattle.text.proofs.question.Heads.{sizes_none, sizes_one, sizes_two, sizes-three}
 use Rattle.text.specs.Bytes.{bytes}
 use Rattle.text.proofs.question.sizes.Goals as goal
 
-pub returns-in_default : goal.returns-in_default
+pub returns-in_err-dim : goal.returns-in_err-dim
 unfolding bytes
-returns-in_default c =
-    sizes_none c.args.text.now c.args.at _ c.small_line.ensures c.in_default.is
+returns-in_err-dim c =
+    rw c.from_residual.ensures (sizes_none c.args.text.now c.args.at _ c.small_line.ensures c.in_err-dim.was)
 
-pub small_line-requires-2 : goal.small_line-requires-2
-small_line-requires-2 c =
-    (subst (SmallRead _ _) c.in-Number.is c.small_line.ensures).1
-
-pub returns-in_default-small_line : goal.returns-in_default-small_line
+pub returns-in_err-degree : goal.returns-in_err-degree
 unfolding bytes
-returns-in_default-small_line c =
-    sizes_one c.args.text.now c.args.at _ c.small_line.ensures _ _ c.in-Number.is
-    _ c.small_line-2.ensures c.in_default-small_line.is
+returns-in_err-degree c =
+    rw c.from_residual-in_err-degree.ensures
+    (sizes_one c.args.text.now c.args.at _ c.small_line.ensures _ _ c.in_ok-dim.was
+    _ c.small_line-2.ensures c.in_err-degree.was)
 
-pub small_line-requires-3 : goal.small_line-requires-3
-small_line-requires-3 c =
-    (subst (SmallRead _ _) c.in-Number-small_line.is c.small_line-2.ensures).1
-
-pub returns-in_default-small_line-2 : goal.returns-in_default-small_line-2
+pub returns-in_err-count : goal.returns-in_err-count
 unfolding bytes
-returns-in_default-small_line-2 c =
-    sizes_two c.args.text.now c.args.at _ c.small_line.ensures _ _ c.in-Number.is
-    _ c.small_line-2.ensures _ _ c.in-Number-small_line.is _ c.small_line-3.ensures c.in_default-small_line-2.is
+returns-in_err-count c =
+    rw c.from_residual-in_err-count.ensures
+    (sizes_two c.args.text.now c.args.at _ c.small_line.ensures _ _ c.in_ok-dim.was
+    _ c.small_line-2.ensures _ _ c.in_ok-degree.was _ c.small_line-3.ensures c.in_err-count.was)
 
 pub returns : goal.returns
 unfolding bytes
 returns c =
-    sizes-three c.args.text.now c.args.at _ c.small_line.ensures _ _ c.in-Number.is
-    _ c.small_line-2.ensures _ _ c.in-Number-small_line.is _ c.small_line-3.ensures _ _ c.in-Number-small_line-2.is
+    sizes-three c.args.text.now c.args.at _ c.small_line.ensures _ _ c.in_ok-dim.was
+    _ c.small_line-2.ensures _ _ c.in_ok-degree.was _ c.small_line-3.ensures _ _ c.in_ok-count.was

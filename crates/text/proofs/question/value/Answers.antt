@@ -7,9 +7,6 @@ returns-then-not-is_double c =
     let a = c.args in
     value_none a.text.now a.at a.b _ c.is_double.ensures.0 c.if-not-is_double.true
 
-pub byte-requires : goal.byte-requires
-byte-requires c = c.is_double.ensures.1 c.if-not-is_double.false
-
 pub returns : goal.returns
 returns c =
     let d = c.is_double in

@@ -1,33 +1,22 @@
--- `word` reads a word. Invariant: what is left of it, from byte i on, is read as the whole.
-use mathlib.Core.Path.{◌∙◌}
+-- `word` reads a word: the text goes on so, or not.
 use native.Mathlib.Omega.{arith}
-use lib.ListN.{drop, length-drop}
-use Rattle.text.proofs.question.Words.{word-short, word-begins, word_turn, word-off, word_done}
+use Prim.Native.Nat.{◌-◌}
+use lib.ListN.{length, drop, length-drop}
+use lib.Seq.{length-take-le}
+use Rattle.text.proofs.question.Words.{word-other, word_there}
 use Rattle.text.proofs.question.word.Goals as goal
 
-pub returns-then-text-at : goal.returns-then-text-at
-returns-then-text-at c =
+pub returns-then-not-starts_with : goal.returns-then-not-starts_with
+returns-then-not-starts_with c =
     let a = c.args in
-    word-short a.w.now (drop a.at a.text.now) (simp length-drop (omega arith))
-
-pub loop-i-init : goal.loop-i-init
-loop-i-init c = let a = c.args in (omega arith, omega arith, word-begins a.text.now a.w.now a.at)
-
-pub returns-then-text-at-2 : goal.returns-then-text-at-2
-returns-then-text-at-2 c =
-    let l = c.loop-i in
-    let a = c.args in
-    l.invariant.2 ∙ word-off a.text.now a.w.now a.at l.i (omega arith) (omega arith) c.if-text-at-2.true
-
-pub loop-i-preserved : goal.loop-i-preserved
-loop-i-preserved c =
-    let l = c.loop-i in
-    let a = c.args in
-    let same = word_turn a.text.now a.w.now a.at l.i (omega arith) (omega arith) c.if-text-at-2.false in
-    (omega arith, l.invariant.1, l.invariant.2 ∙ same)
+    word-other a.text.now a.w.now a.at _ c.starts_with.ensures.value c.if-not-starts_with.true
 
 pub returns : goal.returns
 returns c =
-    let l = c.loop-i in
     let a = c.args in
-    (l.invariant.1, l.invariant.2 ∙ word_done a.text.now a.w.now a.at l.i (omega arith))
+    let s = c.starts_with.ensures in
+    let t = a.text.now in
+    let n = length-drop a.at t in
+    let long = length-take-le (length t - a.at) (drop a.at t) (omega (arith, n)) in
+    let h = s.bound c.if-not-starts_with.false in
+    (omega (arith, h, long), word_there a.text.now a.w.now a.at _ s.value c.if-not-starts_with.false)

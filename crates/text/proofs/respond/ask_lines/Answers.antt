@@ -1,43 +1,21 @@
 -- `ask_lines` asks what its numbers say.
-use Prim.Native.Nat.{ℕ, ◌+◌, ◌-◌, ◌*◌, ◌≤◌}
-use native.Mathlib.Omega.{arith}
+use Prim.Native.Nat.{ℕ, ◌+◌, ◌-◌, ◌*◌}
 use Rattle.lists.specs.Lists.{part}
-use Rattle.text.specs.Question.{sizes_of}
-use Rattle.text.proofs.question.Others.{few_numbers}
 use Rattle.text.proofs.reading.Back.{parts-lent}
 use Rattle.text.proofs.respond.Lent.{lines-answer}
 use Rattle.text.proofs.respond.ask_lines.Goals as goal
 
-pub overflow_mul-p-2 : goal.overflow_mul-p-2
-overflow_mul-p-2 c =
-    let few : 2 * (c.args.dim + 1) * c.args.count ≤ 256 = few_numbers (2 * (c.args.dim + 1)) c.args.count (omega arith) (omega arith) in
-    omega (arith, few)
-
-pub overflow_add-p-2 : goal.overflow_add-p-2
-overflow_add-p-2 c =
-    let few : 2 * (c.args.dim + 1) * c.args.count ≤ 256 = few_numbers (2 * (c.args.dim + 1)) c.args.count (omega arith) (omega arith) in
-    omega (arith, few)
-
-pub overflow_add-b : goal.overflow_add-b
-overflow_add-b c =
-    let few : 2 * (c.args.dim + 1) * c.args.count ≤ 256 = few_numbers (2 * (c.args.dim + 1)) c.args.count (omega arith) (omega arith) in
-    omega (arith, few)
-
-pub offset_bounds-lines-p : goal.offset_bounds-lines-p
-offset_bounds-lines-p c =
-    let few : 2 * (c.args.dim + 1) * c.args.count ≤ 256 = few_numbers (2 * (c.args.dim + 1)) c.args.count (omega arith) (omega arith) in
-    omega (arith, few)
-
 pub returns : goal.returns
 returns c =
-    let g = c.args in
-    let l = g.lines.now in
+    let l = c.args.lines.now in
+    let q = c.args.asked in
+    let s = q.sizes in
     let work = c.area-work.result in
-    let K : ℕ = g.count + g.degree + 1 in
-    let P : ℕ = 2 * (g.dim + 1) * g.count in
+    let K : ℕ = s.count + s.degree + 1 in
+    let P : ℕ = 2 * (s.dim + 1) * s.count in
     let ks = part l 1 (1 + K - 1) in
     let ps = part l (1 + K) (1 + K + P - (1 + K)) in
-    let bs = part l (1 + K + P) (1 + K + P + 2 * g.dim - (1 + K + P)) in
-    let parts = parts-lent g.dim g.degree g.count l in
-    lines-answer c.curve_could_contain.result g.rev (sizes_of g.dim g.degree g.count) g.nodes l work _ ks ps bs
+    let bs = part l (1 + K + P) (1 + K + P + 2 * s.dim - (1 + K + P)) in
+    let parts = parts-lent s l in
+    lines-answer c.curve_could_contain.result q.rev s q.nodes l work _ ks ps bs
     parts.knots parts.points parts.box c.area-work.ensures c.curve_could_contain.ensures

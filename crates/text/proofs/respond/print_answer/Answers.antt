@@ -1,21 +1,10 @@
 -- `print_answer` writes the lines where there is room for them and they can be written.
-use native.Mathlib.Omega.{arith}
-use Rattle.text.proofs.respond.Cases.{printable_is, prints, short_none, prints_none}
+use Rattle.text.proofs.respond.Cases.{short_none, prints_none}
 use Rattle.text.proofs.respond.print_answer.Goals as goal
 
 pub returns-then-out-lt192 : goal.returns-then-out-lt192
 returns-then-out-lt192 c = let g = c.args in
     let r = short_none g.f g.out.now c.if-out-lt192.true in
-    record { written = r.0; within = r.1 }
-
-pub write-requires : goal.write-requires
-write-requires c =
-    (omega arith, printable_is c.args.f c.is_printable.ensures c.if-is_printable.true)
-
-pub returns-then-is_printable : goal.returns-then-is_printable
-returns-then-is_printable c =
-    let w = c.write in
-    let r = prints c.args.f c.if-out-lt192.false c.is_printable.ensures c.if-is_printable.true w.auto.out w.ensures.1 w.ensures.0 in
     record { written = r.0; within = r.1 }
 
 pub returns : goal.returns

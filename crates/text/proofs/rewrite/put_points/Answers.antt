@@ -1,5 +1,5 @@
 -- `put_points` writes k lines. Invariant: the first i stand there, and the others begin at p.
-use mathlib.Core.Path.{◌≡◌, refl, ap, ◌∙◌}
+use mathlib.Core.Path.{◌≡◌, ap, ◌∙◌}
 use Prim.Native.Nat.{ℕ, ◌+◌, ◌*◌}
 use native.Mathlib.Nat.{mul-suc, mul-zero}
 use native.Mathlib.Numerals.{add-one}
@@ -13,28 +13,16 @@ use Rattle.text.proofs.rewrite.put_points.Goals as goal
 pub loop-i-init : goal.loop-i-init
 loop-i-init c =
     let a = c.args in (
-      omega arith,
-      refl,
       omega (arith, mul-zero (6 + 17 * a.n)),
       lines_none _ a.xs.now a.from a.n a.k c.requires.k_in_bounds.1 a.out.now a.at (6 + 17 * a.n),
     )
-
-pub overflow_mul-n : goal.overflow_mul-n
-overflow_mul-n c =
-    let doubles-in = row_in c.args.n c.loop-i.i c.args.k (omega arith) in
-    omega (arith, doubles-in)
-
-pub overflow_add-from : goal.overflow_add-from
-overflow_add-from c =
-    let doubles-in = row_in c.args.n c.loop-i.i c.args.k (omega arith) in
-    omega (arith, doubles-in)
 
 pub put_line-p-requires : goal.put_line-p-requires
 put_line-p-requires c =
     let bytes-in = row_in (6 + 17 * c.args.n) c.loop-i.i c.args.k (omega arith) in
     let doubles-in = row_in c.args.n c.loop-i.i c.args.k (omega arith) in
     let l = c.loop-i in
-    let a = c.args in record { n_in_bounds = (omega (arith, bytes-in, l.invariant.2), omega (arith, doubles-in)); n_value = all_part is_number a.xs.now a.from (a.n * a.k) (a.n * l.i) a.n doubles-in c.requires.k_value }
+    let a = c.args in record { n_in_bounds = (omega (arith, bytes-in, l.invariant.0), omega (arith, doubles-in)); n_value = all_part is_number a.xs.now a.from (a.n * a.k) (a.n * l.i) a.n doubles-in c.requires.k_value }
 
 pub loop-i-preserved : goal.loop-i-preserved
 unfolding bytes
@@ -45,15 +33,10 @@ loop-i-preserved c =
     let r : w.result ≡ l.p + (6 + 17 * a.n) = omega (arith, w.ensures.1) in
     let next : (6 + 17 * a.n) * (l.i + 1) ≡ (6 + 17 * a.n) * l.i + (6 + 17 * a.n) =
     ap (λ (x : ℕ). (6 + 17 * a.n) * x) (add-one l.i) ∙ mul-suc (6 + 17 * a.n) l.i in (
-      omega arith,
-      w.auto.out ∙ l.invariant.1,
-      omega (arith, r, next, l.invariant.2),
+      omega (arith, r, next, l.invariant.0),
       lines_more _ a.xs.now a.from a.n a.k c.requires.k_in_bounds.1 a.out.now a.at (6 + 17 * a.n) l.i l.p w.result
-          l.out w.new.out (omega arith) c.requires.k_in_bounds.0 l.invariant.2 r l.invariant.3 w.ensures.0,
+          l.out w.new.out (omega arith) c.requires.k_in_bounds.0 l.invariant.0 r l.invariant.1 w.ensures.0,
     )
-
-pub shape_of-out : goal.shape_of-out
-shape_of-out c = c.loop-i.invariant.1
 
 pub returns : goal.returns
 unfolding bytes
@@ -61,4 +44,4 @@ returns c =
     let l = c.loop-i in
     let a = c.args in
     lines_all _ a.xs.now a.from a.n a.k c.requires.k_in_bounds.1 a.out.now a.at (6 + 17 * a.n) l.i l.p l.out
-    (omega arith) (omega arith) l.invariant.2 l.invariant.3
+    (omega arith) (omega arith) l.invariant.0 l.invariant.1

@@ -1,13 +1,12 @@
 -- `put_shape` writes the line of the knots, the lines of the points and that of the box, one behind the other.
-use mathlib.Core.Path.{◌≡◌, sym, subst}
-use mathlib.Core.Bool.{true}
+use mathlib.Core.Path.{◌≡◌, subst}
 use mathlib.Core.List.{◌++◌}
 use Prim.Native.Nat.{ℕ, suc, ◌+◌, ◌*◌, ◌≤◌}
 use native.Mathlib.Nat.{mul-le-mul}
 use native.Mathlib.Omega.{arith}
-use Rattle.lists.specs.Lists.{part, all}
+use Rattle.lists.specs.Lists.{part}
 use Rattle.text.specs.Bytes.{bytes}
-use Rattle.text.specs.Printable.{Written, is_number}
+use Rattle.text.specs.Printable.{Written}
 use Rattle.text.specs.Form.{line_text, lines_text, shape_text}
 use Rattle.text.proofs.question.Others.{few_numbers}
 use Rattle.text.proofs.print.Writing.{joined}
@@ -24,46 +23,24 @@ short dim count d n =
     let h : 6 + 17 * (2 * (dim + 1)) ≤ 142 = omega arith in
     mul-le-mul h n
 
-pub put_points-j-requires : goal.put_points-j-requires
-put_points-j-requires c =
-    let d : c.args.dim ≤ 3 = c.requires.at_in_bounds.1 in
-    let n : c.args.count ≤ 32 = c.requires.at_in_bounds.3 in
-    let point : 2 * (c.args.dim + 1) ≡ 2 * suc c.args.dim = omega arith in
-    let a = c.args in record {
-      k_in_bounds = (omega (arith, short c.args.dim c.args.count d n, c.put_line-i.ensures.1), omega (arith, few c.args.dim c.args.count d n));
-      k_value = subst (λ (w : ℕ). all is_number (part a.lines.now (1 + (a.count + a.degree + 1)) (w * a.count)) ≡ true) (sym point)
-          c.requires.all_numbers.points;
-    }
-
-pub put_line-requires : goal.put_line-requires
-put_line-requires c =
-    let d : c.args.dim ≤ 3 = c.requires.at_in_bounds.1 in
-    let n : c.args.count ≤ 32 = c.requires.at_in_bounds.3 in
-    let point : 2 * (c.args.dim + 1) ≡ 2 * suc c.args.dim = omega arith in
-    let a = c.args in record {
-      n_in_bounds = (omega (arith, short c.args.dim c.args.count d n, c.put_line-i.ensures.1, c.put_points-j.ensures.1), omega (arith, few c.args.dim c.args.count d n));
-      n_value = subst (λ (w : ℕ). all is_number (part a.lines.now (1 + (a.count + a.degree + 1) + w * a.count) (2 * a.dim)) ≡ true)
-          (sym point) c.requires.all_numbers.box;
-    }
-
 pub returns : goal.returns
 unfolding shape_text bytes
 returns c =
-    let d : c.args.dim ≤ 3 = c.requires.at_in_bounds.1 in
-    let n : c.args.count ≤ 32 = c.requires.at_in_bounds.3 in
-    let point : 2 * (c.args.dim + 1) ≡ 2 * suc c.args.dim = omega arith in
+    let d : c.args.s.dim ≤ 3 = c.requires.at_in_bounds.1.0 in
+    let n : c.args.s.count ≤ 32 = c.requires.at_in_bounds.1.2 in
+    let point : 2 * (c.args.s.dim + 1) ≡ 2 * suc c.args.s.dim = omega arith in
     let a = c.args in
     let l = a.lines.now in
-    let K : ℕ = a.count + a.degree + 1 in
+    let K : ℕ = a.s.count + a.s.degree + 1 in
     let x = c.put_line-i.ensures in
     let y = c.put_points-j.ensures in
     let z = c.put_line.ensures in
-    let h : c.put_line.result ≤ a.at + 5336 = omega (arith, short c.args.dim c.args.count d n, x.1, y.1, z.1) in (
+    let h : c.put_line.result ≤ a.at + 5336 = omega (arith, short c.args.s.dim c.args.s.count d n, x.1, y.1, z.1) in (
       subst
           (λ (w : ℕ). Written a.out.now a.at
           (line_text (bytes "knots=") (part l 1 K)
-          ++ lines_text (bytes "point=") w a.count (part l (1 + K) (w * a.count))
-          ++ line_text (bytes "box=") (part l (1 + K + w * a.count) (2 * a.dim)))
+          ++ lines_text (bytes "point=") w a.s.count (part l (1 + K) (w * a.s.count))
+          ++ line_text (bytes "box=") (part l (1 + K + w * a.s.count) (2 * a.s.dim)))
           c.put_line.new.out c.put_line.result)
           point
           (joined (omega (arith, h, y.1, z.1)) (joined (omega (arith, h, x.1, y.1, z.1)) x.0 y.0) z.0),

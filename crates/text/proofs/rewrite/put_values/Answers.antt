@@ -2,7 +2,7 @@
 use mathlib.Core.Path.{◌≡◌, refl, sym, ◌∙◌, subst}
 use Prim.Native.Nat.{◌+◌, ◌*◌}
 use native.Mathlib.Omega.{arith}
-use lib.ListN.{length, length-set}
+use lib.ListN.{length}
 use lib.Dec.{T}
 use lib.Ieee.{Float, nan}
 use Rattle.math.proofs.Bools.{yes}
@@ -17,7 +17,7 @@ use Rattle.text.proofs.rewrite.put_values.Goals as goal
 pub loop-i-init : goal.loop-i-init
 loop-i-init c =
     let a = c.args in
-    (omega arith, refl, values_none a.xs.now a.from a.n c.requires.n_in_bounds.1 a.out.now a.at)
+    values_none a.xs.now a.from a.n c.requires.n_in_bounds.1 a.out.now a.at
 
 pub put_double-k-requires : goal.put_double-k-requires
 put_double-k-requires c =
@@ -28,30 +28,19 @@ put_double-k-requires c =
           (positive_number _ (yes _ (part-passes is_number a.xs.now a.from a.n l.i nan c.requires.n_in_bounds.1 c.requires.n_value (omega arith)))),
     )
 
-pub bounds-out-k : goal.bounds-out-k
-bounds-out-k c =
-    let l = c.loop-i in
-    omega (arith, c.put_double-k.ensures.1, c.put_double-k.auto.out, l.invariant.1)
-
 pub loop-i-preserved : goal.loop-i-preserved
 loop-i-preserved c =
     let l = c.loop-i in
     let a = c.args in
     let w = c.put_double-k in
-    let long : length w.new.out ≡ length a.out.now = w.auto.out ∙ l.invariant.1 in (
-      omega arith,
-      simp length-set long,
-      values-more a.xs.now a.from a.n c.requires.n_in_bounds.1 a.out.now a.at l.i l.out w.new.out w.result
-          c.behind.result (omega arith) c.requires.n_in_bounds.0 l.invariant.2 l.invariant.1 long w.ensures.1 c.behind.ensures
+    let long : length w.new.out ≡ length a.out.now = w.auto.out ∙ l.auto.out in
+    values-more a.xs.now a.from a.n c.requires.n_in_bounds.1 a.out.now a.at l.i l.out w.new.out w.result
+          c.behind.result (omega arith) c.requires.n_in_bounds.0 l.invariant l.auto.out long w.ensures.1 c.behind.ensures
           (subst (λ (x : Float). Written l.out (a.at + 17 * l.i) (hexadecimal x) w.new.out w.result)
-          c.positive_zero-y.ensures w.ensures.0),
-    )
-
-pub shape_of-out : goal.shape_of-out
-shape_of-out c = c.loop-i.invariant.1
+          c.positive_zero-y.ensures w.ensures.0)
 
 pub returns : goal.returns
 returns c =
     let l = c.loop-i in
     let a = c.args in
-    (values_all a.xs.now a.from a.n c.requires.n_in_bounds.1 a.out.now a.at l.i l.out (omega arith) (omega arith) l.invariant.2, refl)
+    (values_all a.xs.now a.from a.n c.requires.n_in_bounds.1 a.out.now a.at l.i l.out (omega arith) (omega arith) l.invariant, refl)

@@ -1,23 +1,17 @@
 -- `rewrite` equals its definition: the text is refused when it is read, or its question says what is given.
-use mathlib.Core.Path.{subst}
-use Rattle.text.specs.Cursor.{TextRead}
+use Rattle.text.proofs.reading.Cases.{handed_on}
 use Rattle.text.proofs.rewrite.Cases.{rewrites_refused, rewrites_asked, within}
-use native.Mathlib.Omega.{arith}
 use Rattle.text.proofs.rewrite.rewrite.Goals as goal
 
-pub rewrite_lines-requires : goal.rewrite_lines-requires
-rewrite_lines-requires c =
-    let q = subst (TextRead _ _) c.in-Yes.is c.read.ensures in
-    (omega arith, q.dim_small, q.degree_small, q.count_small)
-
-pub returns-in-No : goal.returns-in-No
-returns-in-No c =
+pub returns-in_err-asked : goal.returns-in_err-asked
+returns-in_err-asked c =
     let g = c.args in
-    record { rewrites = rewrites_refused g.text.now g.out.now _ (subst (TextRead _ _) c.in-No.is c.read.ensures); within = tt }
+    rw (handed_on _ _ c.from_residual.ensures.1)
+    (record { rewrites = rewrites_refused g.text.now g.out.now _ c.in_err-asked.ensures; within = tt })
 
-pub returns-in-Yes : goal.returns-in-Yes
-returns-in-Yes c =
+pub returns : goal.returns
+returns c =
     let g = c.args in
-    let q = subst (TextRead _ _) c.in-Yes.is c.read.ensures in
+    let q = c.in_ok-asked.ensures in
     let all = rewrites_asked g.text.now g.out.now _ _ _ _ c.rewrite_lines.result q.says c.rewrite_lines.ensures in
     record { rewrites = all; within = within _ _ _ c.rewrite_lines.result all }

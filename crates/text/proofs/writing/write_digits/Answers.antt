@@ -1,12 +1,8 @@
 -- `write_digits` writes the digits where there is room.
 use native.Mathlib.Omega.{arith}
 use Rattle.text.proofs.print.Writing.{length_digits}
-use Rattle.text.proofs.writing.Room.{room_there, wrote, wrote_none}
+use Rattle.text.proofs.writing.Room.{room_there, wrote}
 use Rattle.text.proofs.writing.write_digits.Goals as goal
-
-pub put_digits-requires : goal.put_digits-requires
-put_digits-requires c =
-    (omega arith, omega arith, room_there _ _ _ c.has_room.ensures c.if-has_room.true)
 
 pub returns-then-has_room : goal.returns-then-has_room
 returns-then-has_room c =
@@ -14,6 +10,3 @@ returns-then-has_room c =
     let asked = c.args in
     wrote asked.k (room_there _ _ _ c.has_room.ensures c.if-has_room.true) w.ensures
     (omega (arith, w.ensures.end, length_digits 16 asked.k asked.n))
-
-pub returns : goal.returns
-returns c = wrote_none _ _ _ _ c.has_room.ensures c.if-has_room.false
