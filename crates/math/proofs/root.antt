@@ -1,6 +1,4 @@
 -- The square root: what each function of src/root.rt needs, on plain values, in the order of the source; then the two laws of the root that are published, in Law.
-pub mod Turns
-pub mod Squares
 pub mod Estimate
 pub mod Shift
 pub mod Whole

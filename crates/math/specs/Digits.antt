@@ -1,6 +1,6 @@
 -- The size of a finite double, read off its bit pattern without the sign: so many binary digits, moved up so far, in units of 2 ^ -1074. And how two whole numbers compare, which only
 -- src/digits.rt needs. Definitions only.
-use Rattle.std.specs.Prelude.{ℕ, ◌+◌, ◌-◌, ◌*◌, ◌/◌, ◌%◌, ◌^◌, ◌<◌, ◌≡◌, Bool, cond, ◌&&◌, leb, ltb, eqb, ℤ}
+use Rattle.std.specs.Prelude.{ℕ, ◌+◌, ◌-◌, ◌*◌, ◌/◌, ◌%◌, ◌^◌, ◌<◌, ◌≡◌, Bool, cond, ◌&&◌, leb, ltb, ℤ}
 use Rattle.std.specs.Float.{fin, binary64}
 use Rattle.std.specs.Float.Ieee.{low, to_bits}
 use Rattle.exact.specs.Rational.{ℚ, ◌÷◌, signed}
@@ -31,13 +31,9 @@ pub record Reading (s : Bool) (m : ℕ) (e : ℤ) : Type 0 where
 
 -- ---- how two whole numbers compare
 
--- a lies below b, is b, or lies above: 0, 1, 2
-unfoldable pub side_of : ℕ → ℕ → ℕ
-side_of a b = cond (ltb a b) 0 (cond (eqb a b) 1 2)
-
 -- a lies below b, or, where more is asked, above it
 abbrev pub is_past : ℕ → ℕ → Bool → Bool
-is_past a b more = eqb (side_of a b) (cond more 2 0)
+is_past a b more = cond more (ltb b a) (ltb a b)
 
 -- up is off, or one less
 abbrev pub is_near : ℕ → ℕ → Bool

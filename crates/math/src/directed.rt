@@ -15,16 +15,6 @@ ghost use Rattle.math.specs.Tight.{low_of, over};
 use crate::digits::passes;
 use crate::floats::{min, next_down};
 
-// 1 where it holds, else 0.
-fn one(holds: bool) -> u64
-    ensures { (result ≡ cond holds 1 0) × (result ≤ 1) }
-{
-    if holds {
-        return 1;
-    }
-    0
-}
-
 // The bits of a number that is neither zero nor infinite.
 fn is_ordinary(b: u64) -> bool
     ensures { result ≡ is_ordinary b }
@@ -38,12 +28,12 @@ fn is_ordinary(b: u64) -> bool
 fn stepped(x: f64, outward: bool) -> f64
     ensures { result ≡ cond outward (next_down x) x }
 {
-    if x != x {
+    if x.is_nan() {
         return x;
     }
-    let b = f64::to_bits(x);
+    let b = x.to_bits();
     if is_ordinary(b) {
-        let d = one(outward);
+        let d = u64::from(outward);
         return f64::from_bits(b + d * (b / 0x8000_0000_0000_0000) * 2 - d);
     }
     if outward {
@@ -74,20 +64,12 @@ pub fn sum_up(a: f64, b: f64) -> f64
     -sum_down(-a, -b)
 }
 
-// Neither a NaN nor an infinity.
-fn is_finite(x: f64) -> bool
-    ensures { result ≡ is_finite x }
-{
-    let inf = f64::from_bits(0x7ff0_0000_0000_0000);
-    -inf < x && x < inf
-}
-
 // The bits of a number without its sign.
 fn magnitude(x: f64) -> u64
     requires { is_finite x ≡ true }
     ensures { result ≡ to_bits binary64 x % 0x8000_0000_0000_0000 }
 {
-    f64::to_bits(x) % 0x8000_0000_0000_0000
+    x.to_bits() % 0x8000_0000_0000_0000
 }
 
 // A product p of two finite factors, rounded to the nearest, lies above a b: its size is more than that of a b where it
@@ -96,7 +78,7 @@ fn above_product(a: f64, b: f64, p: f64) -> bool
     requires { (is_finite a ≡ true) × (is_finite b ≡ true) × (p ≡ mul binary64 a b) }
     ensures { result ≡ exceeds p (value a *ℚ value b) }
 {
-    let q = f64::to_bits(p);
+    let q = p.to_bits();
     let z = q % 0x8000_0000_0000_0000;
     if z < 0x7ff0_0000_0000_0000 {
         return passes(magnitude(a), magnitude(b), z, q >= 0x8000_0000_0000_0000);
@@ -108,7 +90,7 @@ fn above_product(a: f64, b: f64, p: f64) -> bool
 fn both_finite(a: f64, b: f64) -> bool
     ensures { result ≡ (is_finite a && is_finite b) }
 {
-    is_finite(a) && is_finite(b)
+    a.is_finite() && b.is_finite()
 }
 
 // `product_down` where one of the two is not finite: IEEE 754's product, but 0 for zero times an infinity.
@@ -117,13 +99,7 @@ fn unbounded_product(a: f64, b: f64) -> f64
     ensures { result ≡ product_down a b }
 {
     let p = a * b;
-    if p == p {
-        return p;
-    }
-    if a != a {
-        return p;
-    }
-    if b != b {
+    if !p.is_nan() || a.is_nan() || b.is_nan() {
         return p;
     }
     0.0
@@ -163,7 +139,7 @@ fn above_quotient(a: f64, b: f64, q: f64) -> bool
     requires { (is_finite a ≡ true) × (is_finite b ≡ true) × (is_zero b ≡ false) × (q ≡ div binary64 a b) }
     ensures { result ≡ exceeds q (value a *ℚ invℚ (value b)) }
 {
-    let k = f64::to_bits(q);
+    let k = q.to_bits();
     let z = k % 0x8000_0000_0000_0000;
     if z < 0x7ff0_0000_0000_0000 {
         return passes(z, magnitude(b), magnitude(a), k < 0x8000_0000_0000_0000);
@@ -175,10 +151,7 @@ fn above_quotient(a: f64, b: f64, q: f64) -> bool
 fn divides(a: f64, b: f64) -> bool
     ensures { result ≡ (is_finite a && is_finite b && not (is_zero b)) }
 {
-    if !both_finite(a, b) {
-        return false;
-    }
-    b != 0.0
+    both_finite(a, b) && b != 0.0
 }
 
 // The greatest f64 that is at most a / b, and by zero IEEE 754's infinity; a NaN for zero by zero, for two infinities and for a NaN.
@@ -186,10 +159,7 @@ pub fn quotient_down(a: f64, b: f64) -> f64
     ensures { result ≡ quotient_down a b }
 {
     let q = a / b;
-    if !divides(a, b) {
-        return q;
-    }
-    if a == 0.0 {
+    if !divides(a, b) || a == 0.0 {
         return q;
     }
     stepped(q, above_quotient(a, b, q))

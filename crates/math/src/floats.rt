@@ -11,7 +11,7 @@ pub(crate) fn up(x: f64) -> f64
     requires { is_nan x ≡ false }
     ensures { result ≡ next_up x }
 {
-    let b = f64::to_bits(x);
+    let b = x.to_bits();
     if b < 0x7ff0_0000_0000_0000 {
         return f64::from_bits(b + 1);
     }
@@ -29,7 +29,7 @@ pub(crate) fn down(x: f64) -> f64
     requires { is_nan x ≡ false }
     ensures { result ≡ next_down x }
 {
-    let b = f64::to_bits(x);
+    let b = x.to_bits();
     if b == 0 {
         return f64::from_bits(0x8000_0000_0000_0001);
     }
@@ -46,7 +46,7 @@ pub(crate) fn down(x: f64) -> f64
 pub fn next_up(x: f64) -> f64
     ensures { result ≡ next_up x }
 {
-    if x != x {
+    if x.is_nan() {
         return x;
     }
     up(x)
@@ -56,7 +56,7 @@ pub fn next_up(x: f64) -> f64
 pub fn next_down(x: f64) -> f64
     ensures { result ≡ next_down x }
 {
-    if x != x {
+    if x.is_nan() {
         return x;
     }
     down(x)
@@ -65,7 +65,7 @@ pub fn next_down(x: f64) -> f64
 pub fn is_nan(x: f64) -> bool
     ensures { result ≡ is_nan x }
 {
-    x != x
+    x.is_nan()
 }
 
 // The lesser of two by one comparison, which is one machine instruction: the first where a NaN is compared.
@@ -86,7 +86,7 @@ pub fn greater(a: f64, b: f64) -> f64
 pub fn min(a: f64, b: f64) -> f64
     ensures { result ≡ min_f a b }
 {
-    if a != a {
+    if a.is_nan() {
         return b;
     }
     lesser(a, b)
@@ -96,7 +96,7 @@ pub fn min(a: f64, b: f64) -> f64
 pub fn max(a: f64, b: f64) -> f64
     ensures { result ≡ max_f a b }
 {
-    if a != a {
+    if a.is_nan() {
         return b;
     }
     greater(a, b)

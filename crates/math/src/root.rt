@@ -8,6 +8,8 @@ ghost use Rattle.std.specs.Float.{binary64};
 ghost use Rattle.math.specs.Root.{sqrt_f, root_of};
 ghost use Rattle.math.specs.Scale.{Normal, Even};
 
+use crate::digits::product;
+
 // A whole root and its remainder: q * q + rem is the number, and rem is too small for q + 1.
 #[derive(Clone, Copy)]
 struct Root {
@@ -15,71 +17,24 @@ struct Root {
     rem: u64,
 }
 
-// The whole root of m * 2^52, by pairs of binary digits: each turn takes the next pair of m * 2^52, and with it the root's next digit.
-// `left` holds the pairs to come, of which the next one is on top.
-fn by_digits(m: u64) -> Root
-    requires { m < 2 ^ 54 }
-    ensures { (m * 2 ^ 52 ≡ result.q * result.q + result.rem) × (result.rem ≤ 2 * result.q) }
-{
-    let mut q: u64 = 0;
-    let mut rem: u64 = 0;
-    let mut left = m;
-    let mut i: u64 = 0;
-    while i < 53 {
-        let r = rem * 4 + left / 0x10_0000_0000_0000;
-        left = left % 0x10_0000_0000_0000 * 4;
-        let t = q * 4 + 1;
-        if t <= r {
-            rem = r - t;
-            q = q * 2 + 1;
-        } else {
-            rem = r;
-            q = q * 2;
-        }
-        i += 1;
-    }
-    Root { q, rem }
-}
-
-// A number of more than 64 digits: k * 2^52 + h.
-#[derive(Clone, Copy)]
-struct Wide {
-    k: u64,
-    h: u64,
-}
-
-// The square of q, by the two halves of its digits: q is a * 2^26 + b.
-fn squared(q: u64) -> Wide
-    requires { q < 2 ^ 54 }
-    ensures { (q * q ≡ result.k * 2 ^ 52 + result.h) × (result.h < 2 ^ 53) × (result.k < 2 ^ 57) }
-{
-    let a = q / 0x400_0000;
-    let b = q % 0x400_0000;
-    let c = a * b;
-    let k = a * a + c / 0x200_0000;
-    let h = c % 0x200_0000 * 0x800_0000 + b * b;
-    Wide { k, h }
-}
-
-// The whole root of m * 2^52: q, where the square of q shows that it is the one, and else by digits.
+// The whole root of m * 2^52: q, where the square of q shows that it is the one, and else one that is searched for.
 fn from_guess(m: u64, q: u64) -> Root
     requires { (m < 2 ^ 54) × (q < 2 ^ 54) }
     ensures { (m * 2 ^ 52 ≡ result.q * result.q + result.rem) × (result.rem ≤ 2 * result.q) }
 {
-    let s = squared(q);
-    if s.k <= m {
-        let g = m - s.k;
-        if g < 8 {
-            let v = g * 0x10_0000_0000_0000;
-            if s.h <= v {
-                let rem = v - s.h;
-                if rem <= 2 * q {
-                    return Root { q, rem };
-                }
-            }
+    let n = product(m, 0x10_0000_0000_0000);
+    let s = product(q, q);
+    if s <= n {
+        let rem = n - s;
+        if rem <= u128::from(2 * q) {
+            return Root { q, rem: rem as u64 };
         }
     }
-    by_digits(m)
+    let r = n.isqrt();
+    Root {
+        q: r as u64,
+        rem: (n - r * r) as u64,
+    }
 }
 
 // The bit pattern of the f64 m / 2^52, for an m from 2^52 on, from 2^53 on an even one. Below 4.0, whatever m is.
@@ -110,7 +65,7 @@ fn guess(m: u64) -> u64
     let z = x * y3;
     let y = z + (x - z * z) * (y3 * 0.5);
     if y < 2.0 {
-        return f64::to_bits(y) % 0x10_0000_0000_0000 + 0x10_0000_0000_0000;
+        return y.to_bits() % 0x10_0000_0000_0000 + 0x10_0000_0000_0000;
     }
     0x10_0000_0000_0000
 }
@@ -120,19 +75,13 @@ fn step(m: u64, q: u64) -> u64
     requires { (m < 2 ^ 54) × (0 < q) × (q < 2 ^ 53) }
     ensures { result < 2 ^ 54 }
 {
-    let s = squared(q);
-    if m < s.k {
+    let n = product(m, 0x10_0000_0000_0000);
+    let s = product(q, q);
+    if n < s {
         return q - 1;
     }
-    let g = m - s.k;
-    if g < 8 {
-        let v = g * 0x10_0000_0000_0000;
-        if v < s.h {
-            return q - 1;
-        }
-        if 2 * q < v - s.h {
-            return q + 1;
-        }
+    if u128::from(2 * q) < n - s {
+        return q + 1;
     }
     q
 }
@@ -158,13 +107,11 @@ fn normal(m0: u64, a0: u64) -> Scaled
     requires { (0 < m0) × (m0 < 2 ^ 53) × (1074 ≤ a0) × (a0 ≤ 3119) }
     ensures { Normal m0 a0 result.m result.a }
 {
-    let mut m = m0;
-    let mut a = a0;
-    while m < 0x10_0000_0000_0000 {
-        m = m * 2;
-        a = a - 1;
+    let up = m0.leading_zeros() - 11;
+    Scaled {
+        m: m0 << up,
+        a: a0 - u64::from(up),
     }
-    Scaled { m, a }
 }
 
 // The same number with an even a.
@@ -200,19 +147,19 @@ fn root_bits(m0: u64, a0: u64) -> u64
 pub fn sqrt(x: f64) -> f64
     ensures { result ≡ sqrt_f x }
 {
-    if x != x {
+    if x.is_nan() {
         return x;
     }
     if x == 0.0 {
         return x;
     }
     if x < 0.0 {
-        return 0.0 / 0.0;
+        return f64::NAN;
     }
-    if x == f64::from_bits(0x7ff0_0000_0000_0000) {
+    if x == f64::INFINITY {
         return x;
     }
-    let bits = f64::to_bits(x);
+    let bits = x.to_bits();
     let e = bits / 0x10_0000_0000_0000;
     let t = bits % 0x10_0000_0000_0000;
     if e == 0 {

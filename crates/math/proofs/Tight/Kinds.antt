@@ -1,13 +1,14 @@
 -- The four kinds of a rounded result, told apart by its bit pattern: a number with either sign, and the two infinities. Assumes nothing.
 use mathlib.Core.Path.{◌≡◌, refl, sym, ap, ◌∙◌, subst}
 use mathlib.Core.Logic.{inl, inr}
-use mathlib.Core.Bool.{Bool, true, false, not, ◌&&◌, cond, false≢true}
+use mathlib.Core.Bool.{Bool, true, false, not, cond, false≢true}
 use Prim.Native.Nat.{ℕ, ◌+◌, ◌-◌, ◌%◌, ◌≤◌, ◌<◌}
 use native.Mathlib.Omega.{arith}
 use lib.IntN.{ℤ}
 use lib.Dec.{T, not_T, leb, ltb, leb→le, ltb→lt, lt→ltb}
-use lib.Ieee.{Float, nan, inf, fin, binary64, fits, to_bits, is_nan, lt}
+use lib.Ieee.{Float, nan, inf, fin, binary64, fits, to_bits, is_nan}
 use lib.Ieee.Bits.{is_true, is_false}
+use Rattle.std.specs.Float.{float_is_finite}
 use Rattle.exact.specs.Rational.{ℚ}
 use Rattle.math.specs.RootLaws.{is_finite}
 use Rattle.math.specs.Directed.{exceeds}
@@ -158,12 +159,11 @@ at_infinity p v F N t h = elim (compare_le 0x8000_0000_0000_0000 (to_bits binary
     least b t g h = omega arith
 
 -- ---- what the code tests
-pub finite-test : (x : Float) → (lt (inf true) x && lt x (inf false)) ≡ is_finite x
-unfolding lt
-finite-test nan = refl
-finite-test (inf true) = refl
-finite-test (inf false) = refl
-finite-test (fin s m e) = refl
+pub finite-same : (x : Float) → float_is_finite x ≡ is_finite x
+unfolding float_is_finite
+finite-same nan = refl
+finite-same (inf s) = refl
+finite-same (fin s m e) = refl
 
 pub finite_number : (x : Float) → is_finite x ≡ true → T (not (is_nan x))
 unfolding is_nan

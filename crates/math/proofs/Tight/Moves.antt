@@ -5,25 +5,17 @@ use mathlib.Core.Bool.{Bool, true, false, not, cond}
 use Prim.Native.Nat.{ℕ, ◌+◌, ◌-◌, ◌*◌, ◌/◌, ◌%◌, ◌≤◌, ◌<◌}
 use native.Mathlib.Nat.{mul-le-mul}
 use native.Mathlib.Omega.{arith}
-use lib.Dec.{T, not_T, ltb, ltb→lt, lt→ltb}
+use lib.Dec.{T, ltb, ltb→lt}
 use lib.Ieee.{Float, binary64, is_nan, fits, to_bits, of_bits, nan_bits}
-use lib.Ieee.Bits.{of_bits-to_bits, to_bits-lt, is_true, is_false}
+use lib.Ieee.Bits.{of_bits-to_bits, to_bits-lt}
+use Rattle.std.specs.Int.{from_bool}
 use Rattle.math.specs.Digits.{is_ordinary}
 use Rattle.math.specs.Neighbours.{next_down}
-use Rattle.math.proofs.Bools.{yes, compare_le, and_both, and_yes, and_no}
+use Rattle.math.proofs.Bools.{yes, compare_le, and_both}
 use Rattle.math.proofs.Doubles.Steps.{steps-down}
 use Rattle.math.proofs.Doubles.Tests.{no-nan_bits}
 
 -- ---- the test
-pub ordinary_yes : (b : ℕ) → 0 < b % 0x8000_0000_0000_0000 → ltb (b % 0x8000_0000_0000_0000) 0x7ff0_0000_0000_0000 ≡ is_ordinary b
-ordinary_yes b h = and_yes (ltb 0 (b % 0x8000_0000_0000_0000)) _ (is_true (ltb 0 (b % 0x8000_0000_0000_0000)) (lt→ltb _ _ h))
-
-pub ordinary_no : (b : ℕ) → b % 0x8000_0000_0000_0000 ≤ 0 → ltb 0 (b % 0x8000_0000_0000_0000) ≡ is_ordinary b
-ordinary_no b h = and_no (ltb 0 (b % 0x8000_0000_0000_0000)) _ (is_false (ltb 0 (b % 0x8000_0000_0000_0000)) (not_T (ltb 0 (b % 0x8000_0000_0000_0000)) (λ t. no (ltb→lt _ _ t))))
-  where
-    no : 0 < b % 0x8000_0000_0000_0000 → ⊥
-    no l = omega arith
-
 ordinary_is : (b : ℕ) → is_ordinary b ≡ true → (0 < b % 0x8000_0000_0000_0000) × (b % 0x8000_0000_0000_0000 < 0x7ff0_0000_0000_0000)
 ordinary_is b e =
     let h = and_both (ltb 0 (b % 0x8000_0000_0000_0000)) (ltb (b % 0x8000_0000_0000_0000) 0x7ff0_0000_0000_0000) e in
@@ -43,7 +35,6 @@ ordinary_high b e t = under b (ordinary_is b e).1 t
     under b h t = omega arith
 
 -- ---- the step
-
 -- b is the pattern of y, and no NaN's
 abbrev Shows : ℕ → Float → Type 0
 Shows b y = T (not (nan_bits binary64 b)) × (of_bits binary64 b ≡ y)
@@ -100,6 +91,14 @@ module _ (x : Float) (F : T (fits binary64 x)) (n : is_nan x ≡ false) where
             rest b d = omega arith
 
 -- what is added fits
+pub step_is : (d : ℕ) (o : Bool) → d ≡ from_bool o → d ≡ cond o 1 0
+step_is d true e = e
+step_is d false e = e
+
+pub step_most : (d : ℕ) (o : Bool) → d ≡ from_bool o → d ≤ 1
+step_most d true e = omega arith
+step_most d false e = omega arith
+
 pub twice-fits : (d b : ℕ) → d ≤ 1 → b < 0x1_0000_0000_0000_0000 → d * (b / 0x8000_0000_0000_0000) ≤ 1
 twice-fits d b h t = mul-le-mul h (most b t)
   where

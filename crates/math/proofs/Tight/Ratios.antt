@@ -1,5 +1,5 @@
 -- What `above_quotient` finds in each of the four kinds of a rounded quotient, and what `divides` and `quotient_down` test and choose. Assumes nothing.
-use mathlib.Core.Path.{◌≡◌, refl, sym, ap, ap₂, ◌∙◌, subst}
+use mathlib.Core.Path.{◌≡◌, sym, ap, ap₂, ◌∙◌, subst}
 use mathlib.Core.Logic.{inl, inr}
 use mathlib.Core.Bool.{Bool, true, false, not, ◌&&◌, true≢false, false≢true}
 use Prim.Native.Nat.{ℕ, zero, suc, ◌+◌, ◌-◌, ◌*◌, ◌^◌, ◌≤◌, ◌<◌}
@@ -13,14 +13,13 @@ use Rattle.exact.specs.Rational.{ℚ, ◌*ℚ◌, invℚ}
 use Rattle.math.specs.RootLaws.{is_finite}
 use Rattle.math.specs.Scalars.{zero_f}
 use Rattle.math.specs.Values.{value}
-use Rattle.math.specs.Digits.{size_of, side_of, is_past}
+use Rattle.math.specs.Digits.{size_of, is_past}
 use Rattle.math.specs.Directed.{exceeds, is_zero, lower, quotient_down}
-use Rattle.math.proofs.Bools.{compare_le, and_l, pick_yes, pick_no, and_both}
+use Rattle.math.proofs.Bools.{compare_le, and_l, pick_yes, pick_no}
 use Rattle.math.proofs.Doubles.Tests.{nonzero}
 use Rattle.math.proofs.Doubles.Operations.{div-rounds, div_is}
 use Rattle.math.proofs.Intervals.Corners.{zero_eq}
 use Rattle.math.proofs.Tight.Readings.{reading}
-use Rattle.math.proofs.Tight.Close.{below-test, above-test}
 use Rattle.math.proofs.Tight.Products.{sign_of, round-sign, quotient-plus, quotient-minus}
 use Rattle.math.proofs.Tight.Kinds.{mag, mag_is, mag-plus, mag-minus, under-minus, not-plus, plus, minus}
 
@@ -83,7 +82,7 @@ pub record Divides (a b q : Float) : Type 0 where
   pub is : q ≡ div binary64 a b
 
 pub over-plus : (a b q : Float) → Divides a b q → to_bits binary64 q < 0x7ff0_0000_0000_0000
-    → eqb (side_of (size_of (to_bits binary64 q) * size_of (mag b)) (size_of (mag a) * 2 ^ 1074)) 2 ≡ exceeds q (value a *ℚ invℚ (value b))
+    → ltb (size_of (mag a) * 2 ^ 1074) (size_of (to_bits binary64 q) * size_of (mag b)) ≡ exceeds q (value a *ℚ invℚ (value b))
 over-plus nan b q f h = absurd (false≢true f.finite_a)
 over-plus (inf s) b q f h = absurd (false≢true f.finite_a)
 over-plus (fin s m e) nan q f h = absurd (false≢true f.finite_b)
@@ -91,10 +90,10 @@ over-plus (fin s m e) (inf t) q f h = absurd (false≢true f.finite_b)
 over-plus (fin s m e) (fin t zero d) q f h = absurd (true≢false f.nonzero_b)
 over-plus (fin s m e) (fin t (suc n) d) q f h =
     let k = plus q (q_held s m e t n d f.held_a f.held_b q f.is) h in
-    above-test (size_of (to_bits binary64 q) * size_of (mag (fin t (suc n) d))) (size_of (mag (fin s m e)) * 2 ^ 1074) ∙ q_plus s m e t n d f.held_a f.held_b q f.is k.k k.c k.is
+    q_plus s m e t n d f.held_a f.held_b q f.is k.k k.c k.is
 
 pub over-minus : (a b q : Float) → Divides a b q → is_nan q ≡ false → 0x8000_0000_0000_0000 ≤ to_bits binary64 q → to_bits binary64 q < 0xfff0_0000_0000_0000
-    → eqb (side_of (size_of (to_bits binary64 q - 0x8000_0000_0000_0000) * size_of (mag b)) (size_of (mag a) * 2 ^ 1074)) 0 ≡ exceeds q (value a *ℚ invℚ (value b))
+    → ltb (size_of (to_bits binary64 q - 0x8000_0000_0000_0000) * size_of (mag b)) (size_of (mag a) * 2 ^ 1074) ≡ exceeds q (value a *ℚ invℚ (value b))
 over-minus nan b q f N g h = absurd (false≢true f.finite_a)
 over-minus (inf s) b q f N g h = absurd (false≢true f.finite_a)
 over-minus (fin s m e) nan q f N g h = absurd (false≢true f.finite_b)
@@ -102,7 +101,7 @@ over-minus (fin s m e) (inf t) q f N g h = absurd (false≢true f.finite_b)
 over-minus (fin s m e) (fin t zero d) q f N g h = absurd (true≢false f.nonzero_b)
 over-minus (fin s m e) (fin t (suc n) d) q f N g h =
     let k = minus q (q_held s m e t n d f.held_a f.held_b q f.is) N g h in
-    below-test (size_of (to_bits binary64 q - 0x8000_0000_0000_0000) * size_of (mag (fin t (suc n) d))) (size_of (mag (fin s m e)) * 2 ^ 1074) ∙ q_minus s m e t n d f.held_a f.held_b q f.is k.k k.c k.is
+    q_minus s m e t n d f.held_a f.held_b q f.is k.k k.c k.is
 
 pub quotient_number : (a b : Float) → is_finite a ≡ true → is_finite b ≡ true → is_zero b ≡ false → is_nan (div binary64 a b) ≡ false
 quotient_number nan b x y z = absurd (false≢true x)
@@ -134,13 +133,3 @@ quotient-chosen a b h = pick_yes _ _ _ h
 pub quotient-passed : (a b : Float) → (is_finite a && is_finite b && not (is_zero b)) ≡ false → div binary64 a b ≡ quotient_down a b
 unfolding quotient_down
 quotient-passed a b h = pick_no _ _ _ h
-
-pub divides_all : (a b : Float) → (is_finite a && is_finite b && not (is_zero b)) ≡ true → (is_finite a ≡ true) × (is_finite b ≡ true) × (is_zero b ≡ false)
-divides_all a b h =
-    let x = and_both (is_finite a && is_finite b) (not (is_zero b)) h in
-    let y = and_both (is_finite a) (is_finite b) x.0 in
-    (y.0, y.1, turn (is_zero b) x.1)
-  where
-    turn : (z : Bool) → not z ≡ true → z ≡ false
-    turn true h = absurd (false≢true h)
-    turn false h = refl

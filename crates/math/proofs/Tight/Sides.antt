@@ -1,26 +1,24 @@
 -- What `above_product` finds in each of the four kinds of a rounded product, and what `unbounded_product` and `product_down` choose. Assumes nothing.
 use mathlib.Core.Path.{◌≡◌, refl, sym, ap, ap₂, ◌∙◌, subst}
 use mathlib.Core.Logic.{inl, inr}
-use mathlib.Core.Bool.{Bool, true, false, ◌&&◌, cond, beq, true≢false, false≢true, ◌||◌}
+use mathlib.Core.Bool.{Bool, true, false, ◌&&◌, cond, true≢false, false≢true, ◌||◌}
 use Prim.Native.Nat.{ℕ, zero, suc, ◌+◌, ◌-◌, ◌*◌, ◌^◌, ◌≤◌, ◌<◌}
 use native.Mathlib.Omega.{arith}
 use lib.IntN.{ℤ}
 use lib.Dec.{T, eqb, ltb, eqb-suc-zero, leb, le→leb}
-use lib.Ieee.{Float, nan, inf, fin, binary64, unlike, mul, fits, to_bits, is_nan, eq, ne, up, down}
+use lib.Ieee.{Float, nan, inf, fin, binary64, unlike, mul, fits, to_bits, is_nan, up, down}
 use lib.Ieee.Fits.{mul-fits}
 use lib.Ieee.Bits.{is_false, is_true}
-use lib.Ieee.Compare.{differs_from_itself}
 use Rattle.exact.specs.Rational.{ℚ, ◌*ℚ◌}
 use Rattle.math.specs.Neighbours.{next_down}
 use Rattle.math.specs.RootLaws.{is_finite}
 use Rattle.math.specs.Scalars.{zero_f}
 use Rattle.math.specs.Values.{value}
-use Rattle.math.specs.Digits.{size_of, side_of, is_past}
+use Rattle.math.specs.Digits.{size_of, is_past}
 use Rattle.math.specs.Directed.{exceeds, is_zero, is_infinite, lower, product_down}
 use Rattle.math.proofs.Bools.{compare_le}
 use Rattle.math.proofs.Doubles.Operations.{mul-rounds}
 use Rattle.math.proofs.Tight.Readings.{reading}
-use Rattle.math.proofs.Tight.Close.{below-test, above-test}
 use Rattle.math.proofs.Tight.Products.{sign_of, round-sign, product-plus, product-minus}
 use Rattle.math.proofs.Tight.Kinds.{mag, mag_is, mag-plus, mag-minus, under-minus, not-minus, plus, minus}
 
@@ -73,24 +71,24 @@ pub record Factors (a b p : Float) : Type 0 where
   pub is : p ≡ mul binary64 a b
 
 pub above-plus : (a b p : Float) → Factors a b p → to_bits binary64 p < 0x7ff0_0000_0000_0000
-    → eqb (side_of (size_of (mag a) * size_of (mag b)) (size_of (to_bits binary64 p) * 2 ^ 1074)) 0 ≡ exceeds p (value a *ℚ value b)
+    → ltb (size_of (mag a) * size_of (mag b)) (size_of (to_bits binary64 p) * 2 ^ 1074) ≡ exceeds p (value a *ℚ value b)
 above-plus nan b p f h = absurd (false≢true f.finite_a)
 above-plus (inf s) b p f h = absurd (false≢true f.finite_a)
 above-plus (fin s m e) nan p f h = absurd (false≢true f.finite_b)
 above-plus (fin s m e) (inf t) p f h = absurd (false≢true f.finite_b)
 above-plus (fin s m e) (fin t n d) p f h =
     let q = plus p (held s m e t n d f.held_a f.held_b p f.is) h in
-    below-test (size_of (mag (fin s m e)) * size_of (mag (fin t n d))) (size_of (to_bits binary64 p) * 2 ^ 1074) ∙ p_plus s m e t n d f.held_a f.held_b p f.is q.k q.c q.is
+    p_plus s m e t n d f.held_a f.held_b p f.is q.k q.c q.is
 
 pub above-minus : (a b p : Float) → Factors a b p → is_nan p ≡ false → 0x8000_0000_0000_0000 ≤ to_bits binary64 p → to_bits binary64 p < 0xfff0_0000_0000_0000
-    → eqb (side_of (size_of (mag a) * size_of (mag b)) (size_of (to_bits binary64 p - 0x8000_0000_0000_0000) * 2 ^ 1074)) 2 ≡ exceeds p (value a *ℚ value b)
+    → ltb (size_of (to_bits binary64 p - 0x8000_0000_0000_0000) * 2 ^ 1074) (size_of (mag a) * size_of (mag b)) ≡ exceeds p (value a *ℚ value b)
 above-minus nan b p f N g h = absurd (false≢true f.finite_a)
 above-minus (inf s) b p f N g h = absurd (false≢true f.finite_a)
 above-minus (fin s m e) nan p f N g h = absurd (false≢true f.finite_b)
 above-minus (fin s m e) (inf t) p f N g h = absurd (false≢true f.finite_b)
 above-minus (fin s m e) (fin t n d) p f N g h =
     let q = minus p (held s m e t n d f.held_a f.held_b p f.is) N g h in
-    above-test (size_of (mag (fin s m e)) * size_of (mag (fin t n d))) (size_of (to_bits binary64 p - 0x8000_0000_0000_0000) * 2 ^ 1074) ∙ p_minus s m e t n d f.held_a f.held_b p f.is q.k q.c q.is
+    p_minus s m e t n d f.held_a f.held_b p f.is q.k q.c q.is
 
 -- a rounded product is a number
 pub product_number : (a b : Float) → is_finite a ≡ true → is_finite b ≡ true → is_nan (mul binary64 a b) ≡ false
@@ -99,10 +97,6 @@ product_number (inf s) b x y = absurd (false≢true x)
 product_number (fin s m e) nan x y = absurd (false≢true y)
 product_number (fin s m e) (inf t) x y = absurd (false≢true y)
 product_number (fin s m e) (fin t n d) x y = is_false (is_nan (mul binary64 (fin s m e) (fin t n d))) (mul-rounds s m e t n d).lows.is_number
-
-beq-self : (s : Bool) → beq s s ≡ true
-beq-self true = refl
-beq-self false = refl
 
 -- a finite product, of either sign: above where its size is more than the exact one, and, below zero, less
 pub above-sized : (a b p : Float) (r : Bool) (u v : ℕ) → Factors a b p → is_nan p ≡ false → to_bits binary64 p < 0x1_0000_0000_0000_0000 → mag p < 0x7ff0_0000_0000_0000 → u ≡ mag a → v ≡ mag b
@@ -119,48 +113,51 @@ above-sized a b p r u v f N t h eu ev e =
     by-sides z m p q = ap₂ (λ (z : ℕ) (m : Bool). is_past (size_of (mag a) * size_of (mag b)) (size_of z * 2 ^ 1074) m) p q
 
 -- ---- products that are not of two finite factors
-pub at_number : (a b : Float) → (is_finite a && is_finite b) ≡ false → eq (mul binary64 a b) (mul binary64 a b) ≡ true → mul binary64 a b ≡ product_down a b
-unfolding product_down mul eq
+pub at_number : (a b : Float) → (is_finite a && is_finite b) ≡ false → is_nan (mul binary64 a b) ≡ false → mul binary64 a b ≡ product_down a b
+unfolding product_down mul is_nan
 at_number nan b f h = refl
 at_number (inf s) nan f h = refl
 at_number (inf s) (inf t) f h = refl
-at_number (inf s) (fin t zero d) f h = absurd (false≢true h)
+at_number (inf s) (fin t zero d) f h = absurd (true≢false h)
 at_number (inf s) (fin t (suc n) d) f h = refl
-at_number (fin s m e) nan f h = absurd (false≢true h)
-at_number (fin s zero e) (inf t) f h = absurd (false≢true h)
+at_number (fin s m e) nan f h = absurd (true≢false h)
+at_number (fin s zero e) (inf t) f h = absurd (true≢false h)
 at_number (fin s (suc m) e) (inf t) f h = refl
 at_number (fin s m e) (fin t n d) f h = absurd (true≢false f)
 
-pub at_nan_left : (a b : Float) → ne a a ≡ true → mul binary64 a b ≡ product_down a b
-at_nan_left a b h = subst (λ (x : Float). mul binary64 x b ≡ product_down x b) (sym (differs_from_itself a (subst T (sym h) tt))) (unfold product_down mul in refl)
+pub at_nan_left : (a b : Float) → is_nan a ≡ true → mul binary64 a b ≡ product_down a b
+unfolding product_down mul is_nan
+at_nan_left nan b h = refl
+at_nan_left (inf s) b h = absurd (false≢true h)
+at_nan_left (fin s m e) b h = absurd (false≢true h)
 
-pub at_nan_right : (a b : Float) → ne b b ≡ true → mul binary64 a b ≡ product_down a b
-at_nan_right a b h = subst (λ (x : Float). mul binary64 a x ≡ product_down a x) (sym (differs_from_itself b (subst T (sym h) tt))) (go a)
-  where
-    go : (a : Float) → mul binary64 a nan ≡ product_down a nan
-    go nan = unfold product_down mul in refl
-    go (inf s) = unfold product_down mul in refl
-    go (fin s zero e) = unfold product_down mul in refl
-    go (fin s (suc m) e) = unfold product_down mul in refl
+pub at_nan_right : (a b : Float) → is_nan b ≡ true → mul binary64 a b ≡ product_down a b
+unfolding product_down mul is_nan
+at_nan_right a (inf t) h = absurd (false≢true h)
+at_nan_right a (fin t n d) h = absurd (false≢true h)
+at_nan_right nan nan h = refl
+at_nan_right (inf s) nan h = refl
+at_nan_right (fin s zero e) nan h = refl
+at_nan_right (fin s (suc m) e) nan h = refl
 
-infinite_self : (b u : Bool) → b ≡ false → eq (cond b nan (inf u)) (cond b nan (inf u)) ≡ true
-unfolding eq
-infinite_self true u h = absurd (true≢false h)
-infinite_self false u h = beq-self u
+infinite_number : (b u : Bool) → b ≡ false → is_nan (cond b nan (inf u)) ≡ false
+unfolding is_nan
+infinite_number true u h = absurd (true≢false h)
+infinite_number false u h = refl
 
-pub at_zero : (a b : Float) → (is_finite a && is_finite b) ≡ false → eq (mul binary64 a b) (mul binary64 a b) ≡ false → ne a a ≡ false → ne b b ≡ false → zero_f ≡ product_down a b
-unfolding product_down mul eq ne
+pub at_zero : (a b : Float) → (is_finite a && is_finite b) ≡ false → is_nan (mul binary64 a b) ≡ true → is_nan a ≡ false → is_nan b ≡ false → zero_f ≡ product_down a b
+unfolding product_down mul is_nan
 at_zero nan b f h x y = absurd (true≢false x)
 at_zero (inf s) nan f h x y = absurd (true≢false y)
-at_zero (inf true) (inf true) f h x y = absurd (true≢false h)
-at_zero (inf true) (inf false) f h x y = absurd (true≢false h)
-at_zero (inf false) (inf true) f h x y = absurd (true≢false h)
-at_zero (inf false) (inf false) f h x y = absurd (true≢false h)
+at_zero (inf true) (inf true) f h x y = absurd (false≢true h)
+at_zero (inf true) (inf false) f h x y = absurd (false≢true h)
+at_zero (inf false) (inf true) f h x y = absurd (false≢true h)
+at_zero (inf false) (inf false) f h x y = absurd (false≢true h)
 at_zero (inf s) (fin t zero d) f h x y = refl
-at_zero (inf s) (fin t (suc n) d) f h x y = absurd (true≢false (sym (unfold eq in infinite_self (eqb (suc n) 0) (unlike s t) (eqb-suc-zero n)) ∙ h))
+at_zero (inf s) (fin t (suc n) d) f h x y = absurd (false≢true (sym (unfold is_nan in infinite_number (eqb (suc n) 0) (unlike s t) (eqb-suc-zero n)) ∙ h))
 at_zero (fin s m e) nan f h x y = absurd (true≢false y)
 at_zero (fin s zero e) (inf t) f h x y = refl
-at_zero (fin s (suc m) e) (inf t) f h x y = absurd (true≢false (sym (unfold eq in infinite_self (eqb (suc m) 0) (unlike s t) (eqb-suc-zero m)) ∙ h))
+at_zero (fin s (suc m) e) (inf t) f h x y = absurd (false≢true (sym (unfold is_nan in infinite_number (eqb (suc m) 0) (unlike s t) (eqb-suc-zero m)) ∙ h))
 at_zero (fin s m e) (fin t n d) f h x y = absurd (true≢false f)
 
 -- ---- the choice between p and the double before it

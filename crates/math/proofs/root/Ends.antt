@@ -3,22 +3,23 @@ use mathlib.Core.Path.{◌≡◌, refl, sym, ap, ◌∙◌, subst}
 use Prim.Native.Nat.{ℕ, zero, suc, ◌+◌, ◌-◌, ◌*◌, ◌/◌, ◌%◌, ◌^◌, ◌<◌}
 use native.Mathlib.Nat.{mul-pos, zero-lt-suc, zero-mul, mul_assoc, mul-div_cancel, add_comm, le_of_lt}
 use native.Mathlib.Omega.{arith}
-use mathlib.Core.Bool.{true, false, not, ◌||◌, beq}
+use mathlib.Core.Bool.{Bool, true, false, not, ◌||◌, beq, false≢true}
 use lib.IntN.{ℤ, pos}
 use lib.Dec.{T, eqb, ltb→lt, lt→ltb}
 use lib.Pow.{pow-add}
-use lib.Ieee.{Float, nan, inf, fin, binary64, up, down, is_nan, ne, eq, lt, fits, to_bits, of_bits, nan_bits, div}
+use lib.Ieee.{Float, nan, inf, fin, binary64, up, down, is_nan, eq, lt, fits, to_bits, of_bits, nan_bits}
 use lib.Ieee.Fits.{up_pos, down_pos, and_l}
-use lib.Ieee.Compare.{differs_from_itself}
 use Rattle.math.proofs.Doubles.Patterns.{size_of, size_at, written}
 use Rattle.math.proofs.Doubles.Next.{value, bits_pos}
 use Rattle.math.proofs.Bools.{yes, no, and_i, or_r, same_eqb}
-use Rattle.math.proofs.Doubles.Tests.{no_nan, nonzero, zero_bits, inf_bits, eq-inf, pattern-ok, no-nan_bits, Positive}
+use Rattle.math.proofs.Doubles.Tests.{nonzero, zero_bits, inf_bits, eq-inf, pattern-ok, no-nan_bits, Positive}
 use Rattle.math.specs.Root.{sqrt_f, root_of}
 
-pub at_nan : (x : Float) → ne x x ≡ true → x ≡ sqrt_f x
-unfolding sqrt_f
-at_nan x e = subst (λ (y : Float). y ≡ sqrt_f y) (sym (differs_from_itself x (yes (ne x x) e))) refl
+pub at_nan : (x : Float) → is_nan x ≡ true → x ≡ sqrt_f x
+unfolding is_nan sqrt_f
+at_nan nan e = refl
+at_nan (inf s) e = absurd (false≢true e)
+at_nan (fin s m d) e = absurd (false≢true e)
 
 zero_root : (x : Float) → T (eq x (fin false 0 (pos 0))) → x ≡ sqrt_f x
 unfolding eq sqrt_f
@@ -34,9 +35,9 @@ pub at_inf : (x : Float) → eq x (of_bits binary64 0x7ff0_0000_0000_0000) ≡ t
 unfolding sqrt_f
 at_inf x e = subst (λ (y : Float). y ≡ sqrt_f y) (sym (eq-inf x (yes (eq x (inf false)) (sym (ap (λ (z : Float). eq x z) inf_bits) ∙ e)))) refl
 
-no-quotient : div binary64 (of_bits binary64 0) (of_bits binary64 0) ≡ nan
-unfolding div of_bits
-no-quotient = refl
+nan_is : of_bits binary64 0x7ff8_0000_0000_0000 ≡ nan
+unfolding of_bits
+nan_is = refl
 
 neg-root : (x : Float) → T (lt x (fin false 0 (pos 0))) → nan ≡ sqrt_f x
 unfolding lt sqrt_f
@@ -53,8 +54,8 @@ neg-root (fin false m e) t = absurd (nothing (m * up e * 1) (down e) (ltb→lt (
     nothing : (a d : ℕ) → a < 0 * 1 * d → ⊥
     nothing a d h = omega arith
 
-pub at_negative : (x : Float) → lt x (of_bits binary64 0) ≡ true → div binary64 (of_bits binary64 0) (of_bits binary64 0) ≡ sqrt_f x
-at_negative x e = no-quotient ∙ neg-root x (yes (lt x (fin false 0 (pos 0))) (sym (ap (λ (z : Float). lt x z) zero_bits) ∙ e))
+pub at_negative : (x : Float) → lt x (of_bits binary64 0) ≡ true → of_bits binary64 0x7ff8_0000_0000_0000 ≡ sqrt_f x
+at_negative x e = nan_is ∙ neg-root x (yes (lt x (fin false 0 (pos 0))) (sym (ap (λ (z : Float). lt x z) zero_bits) ∙ e))
 
 -- ---- what is left
 kind : (x : Float) → T (not (is_nan x)) → (T (eq x (fin false 0 (pos 0))) → ⊥) → (T (lt x (fin false 0 (pos 0))) → ⊥) → (T (eq x (inf false)) → ⊥) → Positive x
@@ -70,9 +71,9 @@ kind (fin true (suc m) e) n z l i = absurd (l (lt→ltb 0 (suc m * up e * 1 + 0 
     some a d k = omega arith
 kind (fin false (suc m) e) n z l i = (m, e, refl)
 
-pub positive : (x : Float) → ne x x ≡ false → eq x (of_bits binary64 0) ≡ false → lt x (of_bits binary64 0) ≡ false → eq x (of_bits binary64 0x7ff0_0000_0000_0000) ≡ false → Positive x
+pub positive : (x : Float) → is_nan x ≡ false → eq x (of_bits binary64 0) ≡ false → lt x (of_bits binary64 0) ≡ false → eq x (of_bits binary64 0x7ff0_0000_0000_0000) ≡ false → Positive x
 positive x n z l i =
-    kind x (no_nan x n) (no (eq x (fin false 0 (pos 0))) (sym (ap (λ (y : Float). eq x y) zero_bits) ∙ z)) (no (lt x (fin false 0 (pos 0))) (sym (ap (λ (y : Float). lt x y) zero_bits) ∙ l))
+    kind x (subst (λ (b : Bool). T (not b)) (sym n) tt) (no (eq x (fin false 0 (pos 0))) (sym (ap (λ (y : Float). eq x y) zero_bits) ∙ z)) (no (lt x (fin false 0 (pos 0))) (sym (ap (λ (y : Float). lt x y) zero_bits) ∙ l))
     (no (eq x (inf false)) (sym (ap (λ (y : Float). eq x y) inf_bits) ∙ i))
 
 -- ---- the pattern of a value above zero

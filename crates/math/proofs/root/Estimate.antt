@@ -1,17 +1,10 @@
 -- What `guess` owes: no bit pattern that it makes is a NaN's, and it reads no NaN's bits. It leans on the laws of patterns in Doubles/Tests.antt.
-use mathlib.Core.Path.{◌≡◌}
 use Prim.Native.Nat.{ℕ, ◌-◌, ◌/◌, ◌≤◌, ◌<◌}
 use native.Mathlib.Omega.{arith}
-use mathlib.Core.Bool.{true, not, false≢true}
+use mathlib.Core.Bool.{not}
 use lib.Dec.{T}
-use lib.Ieee.{Float, nan, inf, fin, binary64, is_nan, lt, nan_bits}
+use lib.Ieee.{binary64, nan_bits}
 use Rattle.math.proofs.Doubles.Tests.{no-nan_bits, pattern-ok}
-
-pub below_no_nan : (a b : Float) → lt a b ≡ true → T (not (is_nan a))
-unfolding lt is_nan
-below_no_nan nan b e = absurd (false≢true e)
-below_no_nan (inf s) b e = tt
-below_no_nan (fin s m k) b e = tt
 
 pub plain_ok : (b : ℕ) → b < 0x4010_0000_0000_0000 → T (not (nan_bits binary64 b))
 plain_ok b h = no-nan_bits b (pattern-ok b (up b h))

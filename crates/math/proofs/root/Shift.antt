@@ -1,9 +1,11 @@
 -- The steps before the root, `normal` and `even`: m * 2 ^ a stays the same number. It leans on the arithmetic of whole numbers alone.
-use mathlib.Core.Path.{◌≡◌, refl, sym, ap, ◌∙◌}
+use mathlib.Core.Path.{◌≡◌, sym, ap, ap₂, ◌∙◌}
 use Prim.Native.Nat.{ℕ, suc, ◌+◌, ◌-◌, ◌*◌, ◌%◌, ◌^◌, ◌≤◌, ◌<◌}
-use native.Mathlib.Nat.{le_trans, le_of_eq, le_refl, lt_of_lt_of_le, lt_of_le_of_lt, lt_irrefl, lt_of_not-le, mul_assoc, one-mul, mul-le-mul, mul-lt-mul_of_pos_right, pow-succ'}
+use native.Mathlib.Nat.{le_trans, le_of_eq, lt_of_lt_of_le, lt_of_le_of_lt, lt_irrefl, lt_of_not-le, mul_assoc, mul-le-mul_right, mul-lt-mul_of_pos_right, pow-succ'}
 use native.Mathlib.Omega.{arith}
 use lib.Pow.{pow-add, pow_pos, pow_mono}
+use Rattle.std.specs.Int.Count.{count_leading_zeros}
+use Rattle.std.proofs.lemmas.Nat.{leading_top}
 use Rattle.math.specs.Scale.{Normal, Even}
 
 half : (m a : ℕ) → 1 ≤ a → m * 2 * 2 ^ (a - 1) ≡ m * 2 ^ a
@@ -12,40 +14,54 @@ half m a h = mul_assoc m 2 (2 ^ (a - 1)) ∙ ap (λ (x : ℕ). m * x) (sym (pow-
     back : (a : ℕ) → 1 ≤ a → suc (a - 1) ≡ a
     back a h = omega arith
 
--- the loop's invariant
-pub record Going (b m₀ a₀ m a : ℕ) : Type 0 where
-  pub same : m * 2 ^ a ≡ m₀ * 2 ^ a₀
-  pub big : 2 ^ b ≤ m * 2 ^ a
-  pub high : m < 2 ^ 53
-  pub most : a ≤ a₀
+-- m₀ has 53 digits once it is moved up by as many places as it has leading zeros in 64, but for the first 11
+record Places (m₀ z u : ℕ) : Type 0 where
+  pub zeros : z ≡ u + 11
+  pub low : 2 ^ 52 ≤ m₀ * 2 ^ u
+  pub high : m₀ * 2 ^ u < 2 ^ 53
+  pub most : u ≤ 52
 
-pub begin : (b m₀ a₀ : ℕ) → 0 < m₀ → m₀ < 2 ^ 53 → b ≤ a₀ → Going b m₀ a₀ m₀ a₀
-begin b m₀ a₀ p h k = record { same = refl; big = le_trans (pow_mono k) (le_trans (le_of_eq (sym (one-mul (2 ^ a₀)))) (mul-le-mul p (le_refl (2 ^ a₀)))); high = h; most = le_refl a₀ }
-
--- b is 1074
-pub enough : (b m₀ a₀ m a : ℕ) → Going b m₀ a₀ m a → b < 53 + a
-enough b m₀ a₀ m a g =
-    lt_of_not-le (λ (l : 53 + a ≤ b). lt_irrefl (2 ^ b) (lt_of_le_of_lt g.big (lt_of_lt_of_le (mul-lt-mul_of_pos_right g.high (pow_pos a)) (le_trans (le_of_eq (sym (pow-add 2 53 a))) (pow_mono l)))))
-
-pub go_on : (b m₀ a₀ m a : ℕ) → Going b m₀ a₀ m a → 1 ≤ a → m < 2 ^ 52 → Going b m₀ a₀ (m * 2) (a - 1)
-go_on b m₀ a₀ m a g p h = record {
-  same = half m a p ∙ g.same;
-  big = le_trans g.big (le_of_eq (sym (half m a p)));
-  high = twice m h;
-  most = le_trans (sub-one a) g.most;
+placed : (m₀ z j : ℕ) → m₀ < 2 ^ 53 → z + suc j ≡ 64 → 2 ^ j ≤ m₀ → m₀ < 2 ^ suc j → Places m₀ z (52 - j)
+placed m₀ z j h e l g = record {
+  zeros = omega (arith, below);
+  low = le_trans (le_of_eq (full j 52 (omega (arith, below)))) (mul-le-mul_right (2 ^ (52 - j)) l);
+  high = lt_of_lt_of_le (mul-lt-mul_of_pos_right g (pow_pos (52 - j))) (le_of_eq (sym (full (suc j) 53 (omega (arith, below)))));
+  most = omega arith;
 }
   where
-    twice : (m : ℕ) → m < 2 ^ 52 → m * 2 < 2 ^ 53
-    twice m h = omega arith
+    below : j < 53
+    below = lt_of_not-le (λ (k : 53 ≤ j). lt_irrefl (2 ^ 53) (lt_of_le_of_lt (le_trans (pow_mono k) l) h))
 
-    sub-one : (a : ℕ) → a - 1 ≤ a
-    sub-one a = omega arith
+    full : (i n : ℕ) → i + (52 - j) ≡ n → 2 ^ n ≡ 2 ^ i * 2 ^ (52 - j)
+    full i n e = sym (ap (λ (x : ℕ). 2 ^ x) e) ∙ pow-add 2 i (52 - j)
 
-pub finish : (b m₀ a₀ m a : ℕ) → b ≡ 1074 → Going b m₀ a₀ m a → 2 ^ 52 ≤ m → Normal m₀ a₀ m a
-finish b m₀ a₀ m a e g h = record { same = g.same; low = h; high = g.high; least = omega (arith, enough b m₀ a₀ m a g); most = g.most }
+places : (m₀ : ℕ) → 0 < m₀ → m₀ < 2 ^ 53 → (u : ℕ) × Places m₀ (count_leading_zeros 64 m₀) u
+places m₀ p h = let t = leading_top 64 m₀ p (omega arith) in (52 - t.0, placed m₀ _ t.0 h t.1 t.2 t.3)
+
+pub enough : (m₀ : ℕ) → 0 < m₀ → m₀ < 2 ^ 53 → 11 ≤ count_leading_zeros 64 m₀
+enough m₀ p h = omega (arith, (places m₀ p h).1.zeros)
+
+pub moved : (m₀ a₀ d : ℕ) → 0 < m₀ → m₀ < 2 ^ 53 → 1074 ≤ a₀ → d ≡ count_leading_zeros 64 m₀ - 11 → Normal m₀ a₀ (m₀ * 2 ^ (count_leading_zeros 64 m₀ - 11) % 2 ^ 64) (a₀ - d)
+moved m₀ a₀ d p h k e =
+    let t = places m₀ p h in
+    at (count_leading_zeros 64 m₀ - 11) (omega (arith, t.1.zeros)) d (e ∙ omega (arith, t.1.zeros)) t.1
+  where
+    cut : (x : ℕ) → x < 2 ^ 53 → x % 2 ^ 64 ≡ x
+    cut x h = omega arith
+
+    whole : (u : ℕ) → u ≤ 52 → u + (a₀ - u) ≡ a₀
+    whole u h = omega (arith, k)
+
+    at : (z : ℕ) → {u : ℕ} → z ≡ u → (d : ℕ) → d ≡ u → Places m₀ (count_leading_zeros 64 m₀) u → Normal m₀ a₀ (m₀ * 2 ^ z % 2 ^ 64) (a₀ - d)
+    at z {u} f d g t =
+        let e : m₀ * 2 ^ z % 2 ^ 64 ≡ m₀ * 2 ^ u = ap (λ (x : ℕ). m₀ * 2 ^ x % 2 ^ 64) f ∙ cut (m₀ * 2 ^ u) t.high in
+        record {
+          same = ap₂ (λ (x y : ℕ). x * 2 ^ (a₀ - y)) e g ∙ mul_assoc m₀ (2 ^ u) (2 ^ (a₀ - u)) ∙ ap (λ (x : ℕ). m₀ * x) (sym (pow-add 2 u (a₀ - u)) ∙ ap (λ (x : ℕ). 2 ^ x) (whole u t.most));
+          low = le_trans t.low (le_of_eq (sym e));
+          high = lt_of_le_of_lt (le_of_eq e) t.high;
+          least = omega (arith, g, t.most, k);
+          most = omega arith;
+        }
 
 pub odd_case : (m a : ℕ) → a % 2 ≡ 1 → Even m a (m * 2) (a - 1)
 odd_case m a e = record { same = half m a (omega arith); low = omega arith; high = omega arith; least = omega arith; most = omega arith; even = omega arith }
-
-pub even_case : (m a : ℕ) → (a % 2 ≡ 1 → ⊥) → Even m a m a
-even_case m a e = record { same = refl; low = le_refl m; high = omega arith; least = omega arith; most = le_refl a; even = omega arith }

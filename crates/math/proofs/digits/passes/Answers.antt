@@ -2,7 +2,7 @@
 use native.Mathlib.Omega.{arith}
 use mathlib.Core.Path.{sym, ◌∙◌}
 use Prim.Native.Nat.{◌+◌}
-use Rattle.math.proofs.Tight.Close.{near_is, once-fits, by_near, asked-more, asked-less}
+use Rattle.math.proofs.Tight.Close.{near_is, once-fits, by_near}
 use Rattle.math.proofs.digits.passes.Goals as goal
 
 pub overflow_sub-off : goal.overflow_sub-off
@@ -15,12 +15,6 @@ overflow_mul-w c =
 pub returns-then-is_near : goal.returns-then-is_near
 returns-then-is_near c =
     let a = c.args in
-    by_near a.x a.y a.z _ _ _ _ _ _ c.product-p.result.k c.product-p.result.h
-    c.digits.ensures.0 c.digits-2.ensures.0 c.digits-w.ensures.0 c.shift.ensures.0 c.shift-2.ensures.0 c.shift-off.ensures.0 c.product-p.ensures.0
-    c.past.result a.more (near_is _ _ (sym c.is_near.ensures ∙ c.if-is_near.true)) c.past.ensures
-
-pub returns-then-more : goal.returns-then-more
-returns-then-more c = asked-more _ _ _ _ c.side-r.ensures c.if-more.true
-
-pub returns : goal.returns
-returns c = asked-less _ _ _ _ c.side-r.ensures c.if-more.false
+    by_near a.x a.y a.z _ _ _ _ _ _ c.product-n.result
+    c.digits.ensures.0 c.digits-2.ensures.0 c.digits-w.ensures.0 c.shift.ensures.0 c.shift-2.ensures.0 c.shift-off.ensures.0 c.product-n.ensures.0
+    c.product.result c.past.result a.more c.product.ensures.0 (near_is _ _ (sym c.is_near.ensures ∙ c.if-is_near.true)) c.past.ensures

@@ -1,14 +1,13 @@
 -- `max` equals its definition: the second operand where the first is a NaN, and else what `greater` ensures.
-use mathlib.Core.Path.{◌∙◌}
+use mathlib.Core.Path.{sym, ◌∙◌}
 use Rattle.math.specs.Picks.{max_f}
 use Rattle.math.proofs.Bools.{pick_yes, pick_no}
-use Rattle.math.proofs.Doubles.Tests.{ne_nan, ne_number}
 use Rattle.math.proofs.floats.max.Goals as goal
 
-pub returns-then-a : goal.returns-then-a
+pub returns-then-is_nan : goal.returns-then-is_nan
 unfolding max_f
-returns-then-a c = pick_yes _ _ _ (ne_nan c.args.a c.if-a.true)
+returns-then-is_nan c = pick_yes _ _ _ (sym c.is_nan.ensures.value ∙ c.if-is_nan.true)
 
 pub returns : goal.returns
 unfolding max_f
-returns c = c.greater.ensures ∙ pick_no _ _ _ (ne_number c.args.a c.if-a.false)
+returns c = c.greater.ensures ∙ pick_no _ _ _ (sym c.is_nan.ensures.value ∙ c.if-is_nan.false)

