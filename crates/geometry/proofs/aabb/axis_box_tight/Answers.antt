@@ -1,32 +1,15 @@
 -- `axis_box_tight` equals its definition: each turn takes in the place of one more point.
 use mathlib.Core.Path.{refl, ◌∙◌}
 use native.Mathlib.Omega.{arith}
-use lib.ListN.{length}
 use Rattle.math.specs.Tight.{tight}
-use Rattle.geometry.proofs.nurb_curve.Points.{point_in}
 use Rattle.geometry.proofs.aabb.Unions.{unions_first, unions_turn}
 use Rattle.geometry.proofs.aabb.Box.{place_at_lem, axis_done}
 use Rattle.geometry.proofs.aabb.axis_box_tight.Goals as goal
-
-pub place-all-requires : goal.place-all-requires
-place-all-requires c =
-    let a = c.args in
-    let h = point_in a.dim 0 a.count (length a.points.now) (omega arith) (omega arith) in
-    (omega arith, omega arith, omega arith, omega (arith, h))
 
 pub loop-i-init : goal.loop-i-init
 loop-i-init c =
     let a = c.args in
     (omega arith, omega arith, c.place-all.ensures ∙ unions_first (place_at_lem tight a.dim a.k a.points.now))
-
-pub place-requires : goal.place-requires
-place-requires c =
-    let a = c.args in
-    let h = point_in a.dim c.loop-i.i a.count (length a.points.now) (omega arith) (omega arith) in
-    (omega arith, omega arith, omega arith, omega (arith, h))
-
-pub overflow_add-i : goal.overflow_add-i
-overflow_add-i c = omega (arith, c.loop-i-test.true)
 
 pub loop-i-preserved : goal.loop-i-preserved
 loop-i-preserved c =

@@ -1,45 +1,19 @@
 -- `axis_box_wide` equals its definition. The invariant: the bounds so far are numbers, and widened they are the union of the first i places; the last divisor was made of its value.
 use Prim.Native.Nat.{suc}
 use native.Mathlib.Omega.{arith}
-use lib.ListN.{length}
 use Rattle.math.specs.Scalars.{geop}
 use Rattle.math.specs.Bounds.{widen_b, pick_b}
 use Rattle.math.proofs.Laws.{AreNumbers, numbers_pick, divisor_own}
 use Rattle.model.specs.Layout.{point_at}
-use Rattle.geometry.proofs.nurb_curve.Points.{point_in}
 use Rattle.geometry.proofs.aabb.Unions.{joined_first, joined_turn}
 use Rattle.geometry.proofs.aabb.Box.{place_at_lem, place-over, axis_done}
 use Rattle.geometry.proofs.aabb.axis_box_wide.Goals as goal
-
-pub coordinate-requires : goal.coordinate-requires
-coordinate-requires c = let a = c.args in omega (arith, point_in a.dim 0 a.count (length a.points.now) (omega arith) (omega arith))
-
-pub coordinate-requires-2 : goal.coordinate-requires-2
-coordinate-requires-2 c =
-    let a = c.args in
-    omega (arith, point_in a.dim 0 a.count (length a.points.now) (omega arith) (omega arith))
 
 pub loop-i-init : goal.loop-i-init
 loop-i-init c =
     let a = c.args in
     let p = place-over a.dim a.k (point_at (suc a.dim) a.points.now 0) _ _ _ _ c.coordinate-2.ensures c.coordinate.ensures c.of-last.ensures c.over-all.ensures in
     (omega arith, omega arith, joined_first AreNumbers widen_b (place_at_lem geop a.dim a.k a.points.now) _ p, divisor_own _ _ c.of-last.ensures)
-
-pub coordinate-requires-in-loop-i : goal.coordinate-requires-in-loop-i
-coordinate-requires-in-loop-i c =
-    let a = c.args in
-    omega (arith, point_in a.dim c.loop-i.i a.count (length a.points.now) (omega arith) (omega arith))
-
-pub divisor_of-last-requires : goal.divisor_of-last-requires
-divisor_of-last-requires c = c.loop-i.invariant.3
-
-pub coordinate-requires-in-loop-i-2 : goal.coordinate-requires-in-loop-i-2
-coordinate-requires-in-loop-i-2 c =
-    let a = c.args in
-    omega (arith, point_in a.dim c.loop-i.i a.count (length a.points.now) (omega arith) (omega arith))
-
-pub overflow_add-i : goal.overflow_add-i
-overflow_add-i c = omega (arith, c.loop-i-test.true)
 
 pub loop-i-preserved : goal.loop-i-preserved
 loop-i-preserved c =

@@ -13,10 +13,6 @@ returns-in-Err c =
     let call = lent g.rev g.dim g.degree g.count g.knots.now g.points.now g.point_box.now g.resolution g.nodes (length g.work.now) in
     refused call c.args.work.now _ (c.number.ensures ∙ c.in-Err.ensures) (λ z. some (sym c.number.ensures ∙ z))
 
-pub search_lent-requires : goal.search_lent-requires
-search_lent-requires c =
-    (sym c.in_default.ensures, record { knots = λ i _. c.type_inv.knots i; box = λ i _. c.type_inv.point_box i })
-
 pub returns : goal.returns
 returns c =
     let g = c.args in

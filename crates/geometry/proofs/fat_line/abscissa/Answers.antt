@@ -1,15 +1,10 @@
 -- `abscissa` is the mean in each revision: what the function for it ensures.
 use mathlib.Core.Path.{sym, ap, ◌∙◌}
 use Rattle.math.specs.Scalars.{Arithmetic}
-use Rattle.math.proofs.Laws.{second_is, first_is}
+use Rattle.math.proofs.Laws.{first_is}
 use Rattle.geometry.specs.Abscissae.{mean_over}
 use Rattle.geometry.proofs.fat_line.Zeros.{mean-over}
 use Rattle.geometry.proofs.fat_line.abscissa.Goals as goal
-
-pub returns-then-second : goal.returns-then-second
-returns-then-second c =
-    let a = c.args in
-    c.abscissa_tight.ensures ∙ sym (ap (λ (ar : Arithmetic). mean_over ar a.w.now a.number.value) (second_is _ c.if-second.true))
 
 pub returns : goal.returns
 returns c =

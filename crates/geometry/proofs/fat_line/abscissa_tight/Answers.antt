@@ -1,7 +1,6 @@
 -- `abscissa_tight` is the sum, which the turns keep, over its divisor.
-use mathlib.Core.Path.{refl, ap, ◌∙◌}
+use mathlib.Core.Path.{ap, ◌∙◌}
 use native.Mathlib.Omega.{arith}
-use lib.Ieee.{of_bits}
 use Rattle.math.specs.Scalars.{ENTIRE, value_or}
 use Rattle.math.specs.Tight.{tight}
 use Rattle.math.specs.declared.scalars.Scalar.{Scalar}
@@ -9,10 +8,6 @@ use Rattle.math.specs.declared.scalars.Divided.{Divided}
 use Rattle.geometry.specs.Abscissae.{mean_over}
 use Rattle.geometry.proofs.fat_line.Zeros.{sum_turn, sum_done}
 use Rattle.geometry.proofs.fat_line.abscissa_tight.Goals as goal
-
-pub loop-j-init : goal.loop-j-init
-unfolding of_bits
-loop-j-init c = (omega arith, refl)
 
 pub loop-j-preserved : goal.loop-j-preserved
 loop-j-preserved c =

@@ -1,16 +1,11 @@
 -- `abscissa_wide` is the sum, which the turns keep, over the divisor.
-use mathlib.Core.Path.{refl, ap, ◌∙◌}
+use mathlib.Core.Path.{ap, ◌∙◌}
 use native.Mathlib.Omega.{arith}
-use lib.Ieee.{of_bits}
 use Rattle.math.specs.Scalars.{geop}
 use Rattle.math.specs.Bounds.{over_s}
 use Rattle.math.specs.declared.scalars.Scalar.{Scalar}
 use Rattle.geometry.proofs.fat_line.Zeros.{sum_turn, sum_done}
 use Rattle.geometry.proofs.fat_line.abscissa_wide.Goals as goal
-
-pub loop-j-init : goal.loop-j-init
-unfolding of_bits
-loop-j-init c = (omega arith, refl)
 
 pub loop-j-preserved : goal.loop-j-preserved
 loop-j-preserved c =

@@ -12,9 +12,6 @@ loop-i-init c =
     let o = off_is tight a.slope a.y0 a.dx.now a.d.now 0 _ _ _ _ c.scalar_at-2.ensures c.chord.ensures c.scalar_at.ensures c.sub-all.ensures in
     (omega arith, (omega arith, o ∙ unions_first (off tight a.slope a.y0 a.dx.now a.d.now)))
 
-pub overflow_add-i : goal.overflow_add-i
-overflow_add-i c = omega (arith, c.loop-i-test.true)
-
 pub loop-i-preserved : goal.loop-i-preserved
 loop-i-preserved c =
     let i = c.loop-i.i in

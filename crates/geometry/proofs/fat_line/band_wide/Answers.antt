@@ -13,9 +13,6 @@ loop-i-init c =
     let o = off-difference a.slope a.y0 a.dx.now a.d.now 0 _ _ _ _ c.scalar_at-2.ensures c.chord.ensures c.scalar_at.ensures c.difference-all.ensures in
     (omega arith, (omega arith, joined_first AreDoubles widen_b (off geop a.slope a.y0 a.dx.now a.d.now) _ o))
 
-pub overflow_add-i : goal.overflow_add-i
-overflow_add-i c = omega (arith, c.loop-i-test.true)
-
 pub loop-i-preserved : goal.loop-i-preserved
 loop-i-preserved c =
     let i = c.loop-i.i in

@@ -1,21 +1,14 @@
 -- `carried_width` equals its definition. The invariant: the widest of the first i points.
 use mathlib.Core.Path.{refl}
 use native.Mathlib.Omega.{arith}
-use lib.ListN.{length}
 use lib.Ieee.{of_bits}
 use Rattle.lists.specs.Lists.{foldl}
-use Rattle.geometry.proofs.nurb_curve.Points.{point_in}
 use Rattle.geometry.proofs.fat_line.Sizes.{carried_turn, carried_end}
 use Rattle.geometry.proofs.fat_line.carried_width.Goals as goal
 
 pub loop-i-init : goal.loop-i-init
 unfolding of_bits foldl
 loop-i-init c = (omega arith, refl)
-
-pub carried_by-best-requires : goal.carried_by-best-requires
-carried_by-best-requires c =
-    let a = c.args in
-    omega (arith, point_in a.dim c.loop-i.i a.count (length a.points.now) (omega arith) (omega arith))
 
 pub loop-i-preserved : goal.loop-i-preserved
 loop-i-preserved c =

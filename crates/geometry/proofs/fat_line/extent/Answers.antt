@@ -1,27 +1,17 @@
 -- `extent` equals its definition. The invariant: what the points from i on add to the sum is the whole length.
 use mathlib.Core.Path.{refl, sym, ap, ◌∙◌}
 use native.Mathlib.Omega.{arith}
-use lib.ListN.{length}
 use lib.Ieee.{binary64, add, of_bits}
 use Rattle.math.specs.Scalars.{zero_f}
 use Rattle.geometry.specs.Sizes.{position_of}
-use Rattle.geometry.proofs.nurb_curve.Points.{point_in}
 use Rattle.geometry.proofs.fat_line.Sizes.{places, with_root, steps-start, steps_turn, distance_is, extent_end}
 use Rattle.geometry.proofs.fat_line.extent.Goals as goal
-
-pub cartesian-at-requires : goal.cartesian-at-requires
-cartesian-at-requires c = let a = c.args in omega (arith, point_in a.dim 0 a.count (length a.points.now) (omega arith) (omega arith))
 
 pub loop-i-init : goal.loop-i-init
 unfolding of_bits
 loop-i-init c =
     let a = c.args in
     (omega arith, omega arith, steps-start with_root a.count (places a.dim a.points.now) (position_of a.dim c.cartesian-at.result) zero_f (omega arith) c.cartesian-at.ensures)
-
-pub cartesian-next-requires : goal.cartesian-next-requires
-cartesian-next-requires c =
-    let a = c.args in
-    omega (arith, point_in a.dim c.loop-i.i a.count (length a.points.now) (omega arith) (omega arith))
 
 pub loop-i-preserved : goal.loop-i-preserved
 loop-i-preserved c =

@@ -9,10 +9,6 @@ returns-in_default c =
     zeros-level (arithmetic a.second) a.count a.xi.now a.dx.now a.d.now c.scalar_at-x0.result c.scalar_at-y0.result c.scalar_at-run.result c.scalar_at-last.result c.sub.result c.div.result c.requires.count_nonzero.0 c.requires.dx_value
     c.scalar_at-x0.ensures c.scalar_at-y0.ensures c.scalar_at-run.ensures c.scalar_at-last.ensures c.sub.ensures c.div.ensures.result _ _ c.in_default.is c.unions.ensures c.level_zeros.ensures
 
-pub band-requires : goal.band-requires
-band-requires c =
-    (c.requires.count_nonzero.0, (c.requires.count_nonzero.1.1.0, c.requires.count_nonzero.1.1.1))
-
 pub returns : goal.returns
 returns c =
     let a = c.args in

@@ -10,32 +10,6 @@ use Rattle.geometry.proofs.fat_line.from_first.Goals as goal
 pub loop-i-init : goal.loop-i-init
 loop-i-init c = let a = c.args in (omega arith, (refl, flat_none (from_first_at (arithmetic a.second) a.xi.now) _))
 
-pub overflow_mul-dx : goal.overflow_mul-dx
-overflow_mul-dx c = omega (arith, c.loop-i-test.true)
-
-pub offset_bounds-dx-i : goal.offset_bounds-dx-i
-offset_bounds-dx-i c = omega (arith, c.loop-i-test.true)
-
-pub bounds-dx-i : goal.bounds-dx-i
-bounds-dx-i c =
-    omega (arith, c.loop-i-test.true)
-
-pub overflow_mul-dx-in-loop-i : goal.overflow_mul-dx-in-loop-i
-overflow_mul-dx-in-loop-i c = omega (arith, c.loop-i-test.true)
-
-pub overflow_add-dx : goal.overflow_add-dx
-overflow_add-dx c = omega (arith, c.loop-i-test.true)
-
-pub offset_bounds-dx-i-in-loop-i : goal.offset_bounds-dx-i-in-loop-i
-offset_bounds-dx-i-in-loop-i c = omega (arith, c.loop-i-test.true)
-
-pub bounds-dx-i-in-loop-i : goal.bounds-dx-i-in-loop-i
-bounds-dx-i-in-loop-i c =
-    simp length-set (omega (arith, c.loop-i-test.true))
-
-pub overflow_add-i : goal.overflow_add-i
-overflow_add-i c = omega (arith, c.loop-i-test.true)
-
 pub loop-i-preserved : goal.loop-i-preserved
 loop-i-preserved c =
     let a = c.args in (

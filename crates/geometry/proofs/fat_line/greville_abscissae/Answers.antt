@@ -7,15 +7,12 @@ use Rattle.math.specs.Revision.{arithmetic}
 use Rattle.math.proofs.Laws.{divisor_own}
 use Rattle.model.specs.FatLine.{window, abscissa}
 use Rattle.geometry.proofs.Lists.Flat.{flat_none, flat-next}
-use Rattle.geometry.proofs.fat_line.Zeros.{in_float_degree, mean_is, held_none, held_some}
+use Rattle.geometry.proofs.fat_line.Zeros.{mean_is, held_none, held_some}
 use Rattle.geometry.proofs.fat_line.greville_abscissae.Goals as goal
 
 pub returns-then-degree-eq0 : goal.returns-then-degree-eq0
 unfolding of_bits
 returns-then-degree-eq0 c = held_none (arithmetic c.args.second) c.args.degree _ _ c.if-degree-eq0.true
-
-pub int_to_float-degree : goal.int_to_float-degree
-int_to_float-degree c = in_float_degree _ c.requires.0
 
 pub loop-i-init : goal.loop-i-init
 loop-i-init c =

@@ -1,17 +1,12 @@
 -- `steps` equals its definition. The invariant: what the steps from point i on make of both numbers is what all steps make.
 use mathlib.Core.Path.{refl}
 use native.Mathlib.Omega.{arith}
-use lib.ListN.{length}
 use lib.Ieee.{binary64, add, of_bits}
 use Rattle.math.specs.Picks.{max_f}
 use Rattle.math.specs.Scalars.{zero_f}
 use Rattle.geometry.specs.Sizes.{position_of}
-use Rattle.geometry.proofs.nurb_curve.Points.{point_in}
 use Rattle.geometry.proofs.fat_line.Sizes.{places, steps-start, steps_turn, steps_done}
 use Rattle.geometry.proofs.fat_line.steps.Goals as goal
-
-pub cartesian-at-requires : goal.cartesian-at-requires
-cartesian-at-requires c = let a = c.args in omega (arith, point_in a.dim 0 a.count (length a.points.now) (omega arith) (omega arith))
 
 pub loop-i-init : goal.loop-i-init
 unfolding of_bits
@@ -22,11 +17,6 @@ loop-i-init c =
       steps-start (λ s x. add binary64 s x) a.count (places a.dim a.points.now) (position_of a.dim c.cartesian-at.result) zero_f (omega arith) c.cartesian-at.ensures,
       steps-start max_f a.count (places a.dim a.points.now) (position_of a.dim c.cartesian-at.result) zero_f (omega arith) c.cartesian-at.ensures,
     )
-
-pub cartesian-next-requires : goal.cartesian-next-requires
-cartesian-next-requires c =
-    let a = c.args in
-    omega (arith, point_in a.dim c.loop-i.i a.count (length a.points.now) (omega arith) (omega arith))
 
 pub loop-i-preserved : goal.loop-i-preserved
 loop-i-preserved c =

@@ -1,9 +1,7 @@
 -- `unions` equals its definition: each turn takes in one more interval.
-use mathlib.Core.Path.{◌≡◌, ap, ◌∙◌}
-use Prim.Native.Nat.{ℕ}
+use mathlib.Core.Path.{◌∙◌}
 use native.Mathlib.Omega.{arith}
-use Rattle.model.specs.Layout.{scalar_at, scalars_of}
-use Rattle.model.specs.Aabb.{unions}
+use Rattle.model.specs.Layout.{scalar_at}
 use Rattle.geometry.proofs.aabb.Unions.{unions_first, unions_turn}
 use Rattle.geometry.proofs.fat_line.unions.Goals as goal
 
@@ -16,9 +14,3 @@ pub loop-i-preserved : goal.loop-i-preserved
 loop-i-preserved c =
     let a = c.args in
     (omega arith, (omega arith, unions_turn (λ j. scalar_at a.l.now j) c.loop-i.i c.loop-i.all _ _ (omega arith) c.loop-i.invariant.1.1 c.scalar_at.ensures c.union-all.ensures))
-
-pub returns : goal.returns
-returns c =
-    let a = c.args in
-    let e : c.loop-i.i ≡ a.count = omega arith in
-    c.loop-i.invariant.1.1 ∙ ap (λ (n : ℕ). unions (scalars_of n a.l.now)) e

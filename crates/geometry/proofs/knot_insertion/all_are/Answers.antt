@@ -1,14 +1,11 @@
 -- `all_are` equals its definition. Invariant: the answer is that of the knots from i on.
-use mathlib.Core.Path.{refl, sym, ap, ◌∙◌}
+use mathlib.Core.Path.{sym, ap, ◌∙◌}
 use mathlib.Core.Bool.{not}
 use lib.Ieee.{eq}
 use Rattle.lists.proofs.Fold.{all_done}
 use Rattle.geometry.proofs.knot_insertion.Spans.{all_on, all_off}
 use native.Mathlib.Omega.{arith}
 use Rattle.geometry.proofs.knot_insertion.all_are.Goals as goal
-
-pub loop-i-init : goal.loop-i-init
-loop-i-init c = (omega arith, refl)
 
 pub returns-then-not-knots-i : goal.returns-then-not-knots-i
 returns-then-not-knots-i c =

@@ -1,7 +1,6 @@
 -- `blend_into` equals its definition: a copy where alpha is 0, nothing where it is 1, and else the point between, in either revision.
 use mathlib.Core.Path.{sym, ap, ◌∙◌}
 use mathlib.Core.List.{List}
-use mathlib.Core.Logic.{inl, inr}
 use lib.Ieee.{Float, of_bits}
 use Rattle.lists.specs.Lists.{put}
 use Rattle.math.specs.Scalars.{Arithmetic}
@@ -27,12 +26,6 @@ unfolding of_bits
 returns-then-is_same-2 c =
     let g = c.args in
     blend_one (arithmetic g.second) g.work.now g.a g.b g.d g.alpha (sym c.is_same.ensures ∙ c.if-is_same.false) (sym c.is_same-2.ensures ∙ c.if-is_same-2.true) (omega arith)
-
-pub interpolate_tight-requires : goal.interpolate_tight-requires
-interpolate_tight-requires c = record { d_in_bounds = (omega arith, omega arith, omega arith); fact = (inl (omega arith), inr (omega arith)) }
-
-pub interpolate_wide-requires : goal.interpolate_wide-requires
-interpolate_wide-requires c = record { d_in_bounds = (omega arith, omega arith, omega arith); fact = (inl (omega arith), inr (omega arith)) }
 
 -- the words with the point between, by an arithmetic
 abbrev between : List Float → ℕ → ℕ → ℕ → Scalar → Arithmetic → List Float

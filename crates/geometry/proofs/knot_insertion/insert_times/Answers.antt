@@ -7,9 +7,6 @@ use Rattle.geometry.proofs.knot_insertion.insert_times.Goals as goal
 pub loop-i-init : goal.loop-i-init
 loop-i-init c = after_none (arithmetic c.args.second) c.args.s c.args.work.now c.args.base c.args.t c.args.times c.requires.0
 
-pub span_in-k-requires : goal.span_in-k-requires
-span_in-k-requires c = (c.loop-i.invariant.held, omega (arith, c.loop-i.invariant.count, c.requires.1))
-
 pub insert_once-requires : goal.insert_once-requires
 insert_once-requires c =
     let a = c.loop-i.invariant in
@@ -19,9 +16,6 @@ insert_once-requires c =
 pub loop-i-preserved : goal.loop-i-preserved
 loop-i-preserved c =
     after_turn (arithmetic c.args.second) c.args.s c.args.work.now c.args.base c.args.t c.args.times c.loop-i.i c.span_in-k.result c.loop-i.work _ c.requires.0 c.loop-i.invariant c.loop-i-test.true c.requires.1 c.requires.2 c.span_in-k.ensures c.insert_once.ensures
-
-pub shape_of-work : goal.shape_of-work
-shape_of-work c = c.loop-i.invariant.long
 
 pub returns : goal.returns
 returns c =

@@ -1,9 +1,7 @@
 -- `multiplicity_of` equals its definition. Invariant: n is how often t occurs from knot i on.
-use mathlib.Core.Path.{◌≡◌, sym, ap, ◌∙◌}
-use Prim.Native.Nat.{ℕ}
+use mathlib.Core.Path.{sym}
 use lib.Ieee.{eq}
-use lib.ListN.{length, drop}
-use Rattle.lists.specs.Lists.{count}
+use lib.ListN.{length}
 use Rattle.lists.proofs.Fold.{count_done}
 use Rattle.geometry.proofs.knot_insertion.Spans.{count_one, count_same}
 use native.Mathlib.Omega.{arith}
@@ -23,10 +21,3 @@ loop-i-preserved c =
     let l = c.loop-i in
     let g = c.args in
     (omega arith, omega arith, count_same g.knots.now g.t l.i l.n (omega arith) (omega arith) c.if-knots-i.false l.invariant.2)
-
-pub returns : goal.returns
-returns c =
-    let l = c.loop-i in
-    let g = c.args in
-    let e : l.i ≡ 0 = omega arith in
-    l.invariant.2 ∙ ap (λ (i : ℕ). count (λ u. eq u g.t) (drop i g.knots.now)) e

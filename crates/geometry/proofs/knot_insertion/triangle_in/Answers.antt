@@ -1,21 +1,12 @@
 -- `triangle_in` equals its definition. Invariant: row r is there, behind the first points of the rows before it, and the last points of those stand behind.
 use mathlib.Core.Path.{refl, ◌∙◌}
 use Rattle.math.specs.Revision.{arithmetic}
-use Rattle.geometry.proofs.slots.Counts.{inside_of}
 use Rattle.geometry.proofs.knot_insertion.Triangle.{triangle-start, triangle-copy, triangle-row, triangle_done}
 use native.Mathlib.Omega.{arith}
 use Rattle.geometry.proofs.knot_insertion.triangle_in.Goals as goal
 
 pub loop-r-init : goal.loop-r-init
 loop-r-init c = (refl, refl, omega arith, refl, triangle-start (arithmetic c.args.second) c.args.s c.args.work.now c.args.base c.args.alpha c.requires.0 c.requires.1)
-
-pub copy_point-requires : goal.copy_point-requires
-copy_point-requires c =
-    (inside_of c.args.s c.args.work.now c.loop-r.work c.args.base c.loop-r.invariant.3 c.requires.0, omega arith, omega arith)
-
-pub next_row-requires : goal.next_row-requires
-next_row-requires c =
-    (inside_of c.args.s c.args.work.now _ c.args.base (c.copy_point.auto.work ∙ c.loop-r.invariant.3) c.requires.0, omega arith, omega arith)
 
 pub loop-r-preserved : goal.loop-r-preserved
 loop-r-preserved c =
@@ -27,14 +18,6 @@ loop-r-preserved c =
       c.next_row.auto.work ∙ c.copy_point.auto.work ∙ l.invariant.3,
       triangle-row (arithmetic g.second) g.s g.work.now g.base g.alpha c.requires.0 c.requires.1 l.r _ _ (omega arith) (triangle-copy (arithmetic g.second) g.s g.work.now g.base g.alpha c.requires.0 c.requires.1 l.r _ _ (omega arith) l.invariant.4 c.copy_point.ensures) c.next_row.ensures,
     )
-
-pub copy_point-requires-2 : goal.copy_point-requires-2
-copy_point-requires-2 c =
-    (inside_of c.args.s c.args.work.now c.loop-r.work c.args.base c.loop-r.invariant.3 c.requires.0, omega arith, omega arith)
-
-pub shape_of-work : goal.shape_of-work
-shape_of-work c =
-    c.copy_point-2.auto.work ∙ c.loop-r.invariant.3
 
 pub returns : goal.returns
 returns c =

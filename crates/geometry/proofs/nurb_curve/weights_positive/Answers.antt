@@ -1,17 +1,11 @@
 -- `weights_positive` equals its definition. The invariant: what is left to test answers for the whole.
 use native.Mathlib.Omega.{arith}
-use lib.ListN.{length}
 use lib.Ieee.{of_bits}
-use Rattle.geometry.proofs.nurb_curve.Points.{point_in, weights-start, weights-keep, weights-stop, weights_end}
+use Rattle.geometry.proofs.nurb_curve.Points.{weights-start, weights-keep, weights-stop, weights_end}
 use Rattle.geometry.proofs.nurb_curve.weights_positive.Goals as goal
 
 pub loop-i-init : goal.loop-i-init
 loop-i-init c = let a = c.args in (omega arith, weights-start a.dim a.count a.points.now)
-
-pub coordinate-w-requires : goal.coordinate-w-requires
-coordinate-w-requires c =
-    let a = c.args in
-    omega (arith, point_in a.dim c.loop-i.i a.count (length a.points.now) (omega arith) (omega arith))
 
 pub returns-then-not-w : goal.returns-then-not-w
 unfolding of_bits

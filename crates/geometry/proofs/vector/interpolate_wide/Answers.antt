@@ -19,9 +19,6 @@ loop-k-preserved c =
     let t = c.loop-k-test.true in
     (omega (arith, t), (c.set_scalar.auto.words ∙ l.invariant.1.0, turn geop g.words.now g.a g.b g.c g.d c.fraction-f.result.alpha c.requires.fact.0 c.requires.fact.1 c.requires.d_in_bounds.2 l.k _ _ _ _ _ (omega (arith, t)) l.invariant.1.1 c.scalar_from-x.ensures c.scalar_from-y.ensures (c.between_wide-z.ensures ∙ between_own geop _ _ _ _ c.fraction-f.ensures) c.set_scalar.ensures))
 
-pub shape_of-words : goal.shape_of-words
-shape_of-words c = c.loop-k.invariant.1.0
-
 pub returns : goal.returns
 returns c =
     let l = c.loop-k in

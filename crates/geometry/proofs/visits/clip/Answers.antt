@@ -22,19 +22,10 @@ loop-k-init c =
     let held = from_first_held (arithmetic a.second) a.xi.now _ _ a.count p.0.0 c.from_first.ensures in
     (omega arith, n, kept ∙ n, held, ap (λ hat. left (arithmetic a.second) a.dim (points_of (suc a.dim) a.count a.points.now) (scalars_of a.count a.xi.now) a.point_box.now hat 0) (c.union-hat.ensures ∙ (λ i. union_s (c.from_f64.ensures i) (c.from_f64-2.ensures i))))
 
-pub clip_axis-requires : goal.clip_axis-requires
-clip_axis-requires c =
-    let p = c.requires in
-    record { count_nonzero = ((p.0.0, p.1.0), (c.loop-k-test.true, (p.1.1.0, omega (arith, p.0.1, c.loop-k.invariant.1)))); count_in_bounds = (omega (arith, p.0.1, c.loop-k.invariant.2), c.loop-k.invariant.3) }
-
 pub returns-in_default : goal.returns-in_default
 returns-in_default c =
     let a = c.args in
     left_none (arithmetic a.second) a.dim (points_of (suc a.dim) a.count a.points.now) (scalars_of a.count a.xi.now) a.point_box.now c.loop-k.hat c.scalar_at-e.result _ c.loop-k.k (omega arith) c.scalar_at-e.ensures c.clip_axis.ensures.value _ c.in_default.is c.loop-k.invariant.4
-
-pub overflow_add-k : goal.overflow_add-k
-overflow_add-k c =
-    omega (arith, c.loop-k-test.true)
 
 pub loop-k-preserved : goal.loop-k-preserved
 loop-k-preserved c =
