@@ -40,7 +40,7 @@ def rust_of(text, crate):
     text = re.sub(r"^([ \t]*)use (" + "|".join(CRATES) + r")::", r"\1use crate::\2::", text, flags=re.M)
     text = re.sub(r"(?<![\w:])(" + "|".join(CRATES) + r")::(?=\w+::)", r"crate::\1::", text)
     text = re.sub(r"^[ \t]*#!?\[(derive|tactic)\b.*\n", "", text, flags=re.M)
-    text = re.sub(r"^(pub )?(struct|enum)\b", r"#[derive(Clone, Copy)]\n\1\2", text, flags=re.M)
+    text = re.sub(r"^(pub(?:\(crate\))? )?(struct|enum)\b", r"#[derive(Clone, Copy)]\n\1\2", text, flags=re.M)
     return text
 
 

@@ -101,13 +101,7 @@ fn knots_valid(degree: usize, count: usize, knots: &[f64]) -> bool
 {
     let a = knots[degree];
     let b = knots[count];
-    if !rising(knots) {
-        return false;
-    }
-    if !(a < b) {
-        return false;
-    }
-    multiplicities_ok(degree, a, b, knots)
+    rising(knots) && a < b && multiplicities_ok(degree, a, b, knots)
 }
 
 // 16: the revision is 1 or 2.

@@ -1,6 +1,6 @@
 -- Laws behind the checks of a call: knots that rise, one by one, and the checks in their order. Assumes nothing.
 use mathlib.Core.Path.{◌≡◌, refl, sym, ap, ◌∙◌}
-use mathlib.Core.Bool.{Bool, true, false, ◌&&◌, ◌||◌, true≢false}
+use mathlib.Core.Bool.{Bool, true, false, ◌&&◌, true≢false}
 use mathlib.Core.List.{List, [], ◌∷◌}
 use Prim.Native.Nat.{ℕ, zero, suc, ◌+◌, ◌*◌, ◌≤◌, ◌<◌}
 use native.Mathlib.Nat.{le_trans, le_of_eq, mul_assoc, mul-le-mul_left, mul-le-mul_right}
@@ -8,27 +8,16 @@ use native.Mathlib.Omega.{arith}
 use borrow.Author.Tests.{eqb-true}
 use lib.Dec.{eqb}
 use lib.ListN.{length, get_or}
-use lib.Ieee.{Float, nan, lt, le}
-use Rattle.lists.specs.Lists.{all}
+use lib.Ieee.{Float, nan, le}
 use Rattle.model.specs.Layout.{slot_words}
-use Rattle.model.specs.Call.{rising, multiplicity_ok, knots_valid}
+use Rattle.model.specs.Call.{rising}
 
--- ---- or, by its first side
-pub or_yes : (t u : Bool) → t ≡ true → t ≡ t || u
-or_yes t u e = e ∙ sym (ap (λ (b : Bool). b || u) e)
-
-pub or_no : (t u : Bool) → t ≡ false → u ≡ t || u
-or_no t u e = sym (ap (λ (b : Bool). b || u) e)
-
--- ---- tests that all have to pass, the first that does not
-pub and-stop : (t u : Bool) → t ≡ false → false ≡ t && u
+-- ---- two tests that both have to pass
+and-stop : (t u : Bool) → t ≡ false → false ≡ t && u
 and-stop t u e = sym (ap (λ (b : Bool). b && u) e)
 
-pub and-go : (t u : Bool) → t ≡ true → u ≡ t && u
-and-go t u e = sym (ap (λ (b : Bool). b && u) e)
-
-pub and_both : (t u : Bool) → t ≡ true → u ≡ true → t && u ≡ true
-and_both t u e f = sym (and-go t u e) ∙ f
+and_both : (t u : Bool) → t ≡ true → u ≡ true → t && u ≡ true
+and_both t u e f = ap (λ (b : Bool). b && u) e ∙ f
 
 -- ---- rising knots, one by one
 rising_each : (l : List Float) → ((k : ℕ) → suc k < length l → le (get_or l k nan) (get_or l (suc k) nan) ≡ true)
@@ -65,50 +54,12 @@ few-points d n p h k l = (le_trans (mul-le-mul (2 * (d + 1)) 8 n 32 (omega arith
     mul-le-mul : (a b c e : ℕ) → a ≤ b → c ≤ e → a * c ≤ b * e
     mul-le-mul a b c e u v = le_trans (mul-le-mul_left a v) (mul-le-mul_right e u)
 
--- ---- valid knots, test by test
-module _ (p n : ℕ) (knots : List Float) where
-  abbrev a : Float
-  a = get_or knots p nan
-
-  abbrev b : Float
-  b = get_or knots n nan
-
-  abbrev fine : Bool
-  fine = all (λ u. multiplicity_ok p (get_or knots p nan) (get_or knots n nan) knots u) knots
-
-  pub knots_fall : rising knots ≡ false → false ≡ knots_valid p n knots
-  unfolding knots_valid
-  knots_fall e = and-stop (rising knots && lt a b) fine (sym (and-stop (rising knots) (lt a b) e))
-
-  pub domain-empty : lt (get_or knots p nan) (get_or knots n nan) ≡ false → false ≡ knots_valid p n knots
-  unfolding knots_valid
-  domain-empty e = and-stop (rising knots && lt a b) fine (ap (λ (t : Bool). rising knots && t) e ∙ never (rising knots))
-    where
-      never : (t : Bool) → t && false ≡ false
-      never true = refl
-      never false = refl
-
-  pub knots-rest : rising knots ≡ true → lt (get_or knots p nan) (get_or knots n nan) ≡ true → all (λ u. multiplicity_ok p (get_or knots p nan) (get_or knots n nan) knots u) knots ≡ knots_valid p n knots
-  unfolding knots_valid
-  knots-rest e f = and-go (rising knots && lt a b) fine (and_both (rising knots) (lt a b) e f)
-
 pub slot-words : (d p n : ℕ) → 2 * (d + 1) * (n + p + 1) + 2 * (n + 2 * p + 2) + 1 ≡ slot_words d p n
 unfolding slot_words
 slot-words d p n = ap (λ (k : ℕ). 2 * k * (n + p + 1) + 2 * (n + 2 * p + 2) + 1) eq
   where
     eq : d + 1 ≡ suc d
     eq = omega arith
-
--- ---- three tests in a row
-pub fails_1 : (t u v : Bool) → t ≡ false → false ≡ t && u && v
-fails_1 t u v e = and-stop (t && u) v (sym (and-stop t u e))
-
-pub fails_2 : (t u v : Bool) → u ≡ false → false ≡ t && u && v
-fails_2 true u v e = and-stop u v e
-fails_2 false u v e = refl
-
-pub passes_2 : (t u v : Bool) → t ≡ true → u ≡ true → v ≡ t && u && v
-passes_2 t u v e f = and-go (t && u) v (and_both t u e f)
 
 -- ---- what the first checks leave
 both : (t u : Bool) → t && u ≡ true → (t ≡ true) × (u ≡ true)

@@ -39,10 +39,7 @@ count_back l base n e h = rw e (back n h).1
 pub words-few : (s : Shape) (i : ℕ) → Sized s → i ≤ 64 → point_words s * i ≤ 512
 words-few s i z h = let a : point_words s ≤ 8 = omega (arith, z.dim) in mul-le-mul a h
 
--- the same in the code's words
-pub code-few : (s : Shape) (i : ℕ) → Sized s → i ≤ 64 → 2 * (s.dim + 1) * i ≤ 512
-code-few s i z h = rw (add-one s.dim) (words-few s i z h)
-
+-- the place of a point in the code's words
 pub code-place : (s : Shape) (base i : ℕ) → base + (s.count + 2 * s.degree + 3) + 2 * (s.dim + 1) * i ≡ place_of s base i
 unfolding place_of
 code-place s base i = rw (add-one s.dim)

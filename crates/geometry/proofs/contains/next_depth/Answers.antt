@@ -1,6 +1,5 @@
 -- `next_depth` reads the last word of the first slot.
-use mathlib.Core.Path.{◌≡◌, refl}
-use Prim.Native.Nat.{◌+◌, ◌*◌}
+use mathlib.Core.Path.{◌≡◌}
 use native.Mathlib.Omega.{arith}
 use Rattle.geometry.specs.Ring.{base_of}
 use Rattle.geometry.proofs.slots.Ring.{base_is}
@@ -10,11 +9,6 @@ use Rattle.geometry.proofs.contains.next_depth.Goals as goal
 -- the first slot
 base : (c : goal.After-slot_base) → c.slot_base.result ≡ base_of c.args.s c.args.q.head
 base c = let a = c.args in base_is a.s a.w c.requires.waits.1 a.q.head _ c.slot_base.ensures
-
-pub slot_base-requires : goal.slot_base-requires
-slot_base-requires c =
-    let a = c.args in
-    omega (arith, base_is a.s a.w c.requires.waits.1 a.q.head (0 + a.q.head * a.w) refl, c.requires.waits.0.held.inside.within)
 
 pub depth_at-requires : goal.depth_at-requires
 depth_at-requires c =

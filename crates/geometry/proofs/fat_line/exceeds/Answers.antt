@@ -1,8 +1,8 @@
 -- `exceeds` equals its definition: by the squares of the steps where they show it, and else by the length itself.
-use mathlib.Core.Path.{sym, ap, subst}
+use mathlib.Core.Path.{sym, subst}
 use native.Mathlib.Omega.{arith}
 use lib.Dec.{T}
-use lib.Ieee.{Float, binary64, fits, lt}
+use lib.Ieee.{binary64, fits}
 use Rattle.geometry.proofs.fat_line.Sizes.{places, places_of}
 use Rattle.geometry.proofs.fat_line.PathLength.{exceeds-yes}
 use Rattle.geometry.proofs.fat_line.exceeds.Goals as goal
@@ -13,6 +13,3 @@ returns-then-s c =
     let a = c.args in
     exceeds-yes a.dim a.count _ (places a.dim a.points.now) a.limit _ _ (omega arith) (places_of a.dim a.count a.points.now) held
     c.next_up-next.ensures c.steps-s.ensures c.if-next-s.true c.if-s.true
-
-pub returns : goal.returns
-returns c = let a = c.args in ap (λ (v : Float). lt a.limit v) c.extent.ensures

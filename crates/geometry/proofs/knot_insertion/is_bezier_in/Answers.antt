@@ -1,10 +1,9 @@
 -- `is_bezier_in` equals its definition: the second test where the first passed.
-use borrow.Author.Tests.{ne_eqb}
 use mathlib.Core.Path.{ap}
 use lib.ListN.{length}
 use Rattle.geometry.proofs.slots.Counts.{count_readable}
 use Rattle.geometry.proofs.slots.Piece.{knots_long}
-use Rattle.geometry.proofs.knot_insertion.Cuts.{single-yes, single-no}
+use Rattle.geometry.proofs.knot_insertion.Cuts.{single-yes}
 use native.Mathlib.Omega.{arith}
 use Rattle.geometry.proofs.knot_insertion.is_bezier_in.Goals as goal
 
@@ -21,8 +20,3 @@ pub returns-then-multiplicity_of-eq0 : goal.returns-then-multiplicity_of-eq0
 returns-then-multiplicity_of-eq0 c =
     let g = c.args in
     single-yes g.s g.work.now _ g.base _ _ g.t c.requires.0 c.knots_in-knots.ensures c.multiplicity_of.ensures _ c.count_at-n.ensures c.if-multiplicity_of-eq0.true c.is_bezier_span.ensures
-
-pub returns-else-multiplicity_of-eq0 : goal.returns-else-multiplicity_of-eq0
-returns-else-multiplicity_of-eq0 c =
-    let g = c.args in
-    single-no g.s g.work.now _ g.base _ c.count_at-n.result g.t c.requires.0 c.knots_in-knots.ensures c.multiplicity_of.ensures _ c.if-multiplicity_of-eq0.false (ne_eqb c.multiplicity_of.result 0 c.if-multiplicity_of-eq0.false)
