@@ -4,7 +4,8 @@ ghost use Rattle.std.specs.Prelude.{◌≡◌, suc, ◌+◌, ◌*◌, ◌≤◌,
 ghost use Rattle.std.specs.Float.Ieee.{lt, le, eq};
 ghost use Rattle.lists.specs.Lists.{all};
 ghost use Rattle.math.specs.Scalars.{zero_f};
-ghost use Rattle.model.specs.Layout.{scalars_of, slot_words};
+ghost use Rattle.model.specs.Layout.{points_of, scalars_of, slot_words};
+ghost use Rattle.geometry.specs.Polygon.{vectors};
 ghost use Rattle.model.specs.Call.{curve_of, usable, ordered, rising, multiplicity_ok};
 ghost use Rattle.model.specs.Call.{lengths_fit, numbers_usable, bounds_ordered, curve_refusal, question_refusal, refusal};
 ghost use Rattle.model.specs.Call.{knots_valid, nodes_fit, revision_fits, revision_refusal, sizes_refusal, stated_words};
@@ -12,7 +13,7 @@ ghost use Rattle.model.specs.Numbers.{code_of};
 ghost use Rattle.geometry.specs.Call.{curve_in, call_in, QuestionRefused};
 ghost use Rattle.geometry.specs.Multiplicity.{repeats_at, multiplicity_ok_at};
 
-use crate::nurb_curve::weights_positive;
+use crate::nurb_curve::Polygon;
 use model::refusal::Refusal;
 
 // A number, and at most 2^100 in size.
@@ -195,7 +196,7 @@ pub(crate) struct Lent<'a> {
     pub(crate) nodes: usize,
 }
 
-impl Lent<'_> {
+impl<'a> Lent<'a> {
     // 4: each slice has its length.
     fn lengths_fit(self) -> bool
         requires { (self.dim ≤ 3) × (self.degree ≤ 7) × (self.count ≤ 32) }
@@ -217,6 +218,19 @@ impl Lent<'_> {
             && all_usable(self.point_box)
             && usable(self.resolution)
             && 0.0 <= self.resolution
+    }
+
+    // The control points, where there are as many numbers as the sizes give.
+    pub(crate) fn polygon(self) -> Polygon<'a>
+        requires { (self.dim ≤ 3) × (self.count ≤ 32) × (2 * (suc self.dim * self.count) ≤ length self.points.now) }
+        ensures { let q = self.entry in
+            (result.dim ≡ q.dim) × (result.count ≡ q.count) × (vectors result ≡ points_of (suc q.dim) q.count q.points.now) }
+    {
+        Polygon {
+            words: self.points,
+            dim: self.dim,
+            count: self.count,
+        }
     }
 
     // 6: no lo is above its hi.
@@ -246,7 +260,7 @@ impl Lent<'_> {
         if !self.bounds_ordered() {
             return Err(Refusal::Order);
         }
-        if !weights_positive(self.points, self.dim, self.count) {
+        if !self.polygon().weights_positive() {
             return Err(Refusal::Weight);
         }
         if !knots_valid(self.degree, self.count, self.knots) {

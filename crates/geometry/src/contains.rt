@@ -154,7 +154,7 @@ fn search_lent<R: Revision>(q: Lent<'_>, work: &mut [f64]) -> Found
     let degree = q.degree;
     let count = q.count;
     let words = stated_words(dim, degree, count, q.nodes);
-    if !curve_could_meet_aabb::<R>(q.points, q.point_box, dim, degree, count) {
+    if !curve_could_meet_aabb::<R>(q.polygon(), q.point_box, degree) {
         fill(work, 0, words, 0.0);
         return Found::Nothing(0, 0, 0);
     }

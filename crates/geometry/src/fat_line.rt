@@ -6,7 +6,8 @@ ghost use Rattle.math.specs.Scalars.{geop, ZERO, zero_f, sharp, middle, width_s}
 ghost use Rattle.math.specs.Tight.{tight};
 ghost use Rattle.math.specs.Revision.{arithmetic};
 ghost use Rattle.math.specs.Bounds.{over_s, divisor_of};
-ghost use Rattle.model.specs.Layout.{scalars_of, point_at, points_of, flat};
+ghost use Rattle.model.specs.Layout.{scalars_of};
+ghost use Rattle.geometry.specs.Polygon.{vector, vectors};
 ghost use Rattle.model.specs.Aabb.{unions};
 ghost use Rattle.model.specs.FatLine.{window, greville, crossing, fat_line_zeros, cartesian, square, distance};
 ghost use Rattle.model.specs.FatLine.{extent, to_f64, widest, carried_by, carried_width, restricts, halves};
@@ -20,7 +21,7 @@ ghost use Rattle.model.specs.NurbCurve.{domain, in_domain};
 ghost use Rattle.model.specs.Contains.{carried};
 ghost use Rattle.geometry.specs.Sizes.{position_of, squared, steps};
 
-use crate::nurb_curve::{coordinate, domain, in_domain, scalar_at};
+use crate::nurb_curve::{Polygon, domain, in_domain, scalar_at};
 use math::bounds::Divisor;
 use math::floats::{max, next_up};
 use math::revision::Revision;
@@ -177,26 +178,26 @@ struct Position {
 }
 
 // The middle of coordinate k of point i over w, and 0 where there is no such coordinate.
-fn cartesian_at(points: &[f64], dim: usize, i: usize, k: usize, w: f64) -> f64
-    requires { (dim ≤ 3) × (i < 32) × (2 * (suc dim * suc i) ≤ length points.now) }
-    ensures { result ≡ cond (ltb k dim) (div binary64 (middle (coordinate (point_at (suc dim) points.now i) k)) w)
+fn cartesian_at(p: Polygon<'_>, i: usize, k: usize, w: f64) -> f64
+    requires { i < p.count }
+    ensures { result ≡ cond (ltb k p.entry.dim) (div binary64 (middle (coordinate (vector p.entry i) k)) w)
         zero_f }
 {
-    if k < dim {
-        return coordinate(points, dim, i, k).to_f64() / w;
+    if k < p.dim {
+        return p.coordinate(i, k).to_f64() / w;
     }
     0.0
 }
 
 // The middle of each coordinate of point i, over the middle of its weight.
-fn cartesian(points: &[f64], dim: usize, i: usize) -> Position
-    requires { (dim ≤ 3) × (i < 32) × (2 * (suc dim * suc i) ≤ length points.now) }
-    ensures { position_of dim result ≡ cartesian dim (point_at (suc dim) points.now i) }
+fn cartesian(p: Polygon<'_>, i: usize) -> Position
+    requires { i < p.count }
+    ensures { position_of p.entry.dim result ≡ cartesian p.entry.dim (vector p.entry i) }
 {
-    let w = coordinate(points, dim, i, dim).to_f64();
-    let x = cartesian_at(points, dim, i, 0, w);
-    let y = cartesian_at(points, dim, i, 1, w);
-    let z = cartesian_at(points, dim, i, 2, w);
+    let w = p.weight(i).to_f64();
+    let x = cartesian_at(p, i, 0, w);
+    let y = cartesian_at(p, i, 1, w);
+    let z = cartesian_at(p, i, 2, w);
     Position { x, y, z }
 }
 
@@ -230,15 +231,15 @@ fn distance(dim: usize, a: Position, b: Position) -> f64
 }
 
 // The length of the control polygon, and 0 where that is a NaN.
-pub(crate) fn extent(points: &[f64], dim: usize, count: usize) -> f64
-    requires { (dim ≤ 3) × (1 ≤ count) × (count ≤ 32) × (2 * (suc dim * count) ≤ length points.now) }
-    ensures { result ≡ extent dim (points_of (suc dim) count points.now) }
+pub(crate) fn extent(p: Polygon<'_>) -> f64
+    requires { 1 ≤ p.count }
+    ensures { result ≡ extent p.entry.dim (vectors p.entry) }
 {
-    let mut at = cartesian(points, dim, 0);
+    let mut at = cartesian(p, 0);
     let mut sum = 0.0;
-    for i in 1..count {
-        let next = cartesian(points, dim, i);
-        sum = sum + distance(dim, at, next);
+    for i in 1..p.count {
+        let next = cartesian(p, i);
+        sum = sum + distance(p.dim, at, next);
         at = next;
     }
     max(0.0, sum)
@@ -252,16 +253,16 @@ struct Squares {
 }
 
 // The squares of the distances from each point to the next.
-fn steps(points: &[f64], dim: usize, count: usize) -> Squares
-    requires { (dim ≤ 3) × (1 ≤ count) × (count ≤ 32) × (2 * (suc dim * count) ≤ length points.now) }
-    ensures { result ≡ steps dim (points_of (suc dim) count points.now) }
+fn steps(p: Polygon<'_>) -> Squares
+    requires { 1 ≤ p.count }
+    ensures { result ≡ steps p.entry.dim (vectors p.entry) }
 {
-    let mut at = cartesian(points, dim, 0);
+    let mut at = cartesian(p, 0);
     let mut total = 0.0;
     let mut top = 0.0;
-    for i in 1..count {
-        let next = cartesian(points, dim, i);
-        let s = squared(dim, at, next);
+    for i in 1..p.count {
+        let next = cartesian(p, i);
+        let s = squared(p.dim, at, next);
         total = total + s;
         top = max(top, s);
         at = next;
@@ -271,52 +272,51 @@ fn steps(points: &[f64], dim: usize, count: usize) -> Squares
 
 // The length of the control polygon is above the limit. Mostly the squares of its steps show that, and no root is taken: one of them is above
 // the square of the number next to the limit, and their sum shows that none is a NaN.
-pub(crate) fn exceeds(points: &[f64], dim: usize, count: usize, limit: f64) -> bool
-    requires { (dim ≤ 3) × (1 ≤ count) × (count ≤ 32) × (2 * (suc dim * count) ≤ length points.now) }
-    ensures { result ≡ lt limit (extent dim (points_of (suc dim) count points.now)) }
+pub(crate) fn exceeds(p: Polygon<'_>, limit: f64) -> bool
+    requires { 1 ≤ p.count }
+    ensures { result ≡ lt limit (extent p.entry.dim (vectors p.entry)) }
 {
     let next = next_up(limit);
-    let s = steps(points, dim, count);
+    let s = steps(p);
     if next * next < s.top {
         if s.total == s.total {
             return true;
         }
     }
-    limit < extent(points, dim, count)
+    limit < extent(p)
 }
 
 // The greater of best and of the width of coordinate k of point i over w, where there is a coordinate k.
-fn wider(best: f64, points: &[f64], dim: usize, i: usize, k: usize, w: f64) -> f64
-    requires { (dim ≤ 3) × (i < 32) × (2 * (suc dim * suc i) ≤ length points.now) }
-    ensures { result ≡ cond (ltb k dim)
-        (max_f best (div binary64 (to_f64 (width_s (coordinate (point_at (suc dim) points.now i) k))) w))
+fn wider(best: f64, p: Polygon<'_>, i: usize, k: usize, w: f64) -> f64
+    requires { i < p.count }
+    ensures { result ≡ cond (ltb k p.entry.dim)
+        (max_f best (div binary64 (to_f64 (width_s (coordinate (vector p.entry i) k))) w))
         best }
 {
-    if k < dim {
-        return max(best, coordinate(points, dim, i, k).width().to_f64() / w);
+    if k < p.dim {
+        return max(best, p.coordinate(i, k).width().to_f64() / w);
     }
     best
 }
 
 // The greater of best and of the width of each coordinate of point i over the middle of its weight.
-fn carried_by(best: f64, points: &[f64], dim: usize, i: usize) -> f64
-    requires { (dim ≤ 3) × (i < 32) × (2 * (suc dim * suc i) ≤ length points.now) }
-    ensures { result ≡ carried_by dim best (point_at (suc dim) points.now i) }
+fn carried_by(best: f64, p: Polygon<'_>, i: usize) -> f64
+    requires { i < p.count }
+    ensures { result ≡ carried_by p.entry.dim best (vector p.entry i) }
 {
-    let w = coordinate(points, dim, i, dim).to_f64();
-    let b = wider(best, points, dim, i, 0, w);
-    let c = wider(b, points, dim, i, 1, w);
-    wider(c, points, dim, i, 2, w)
+    let w = p.weight(i).to_f64();
+    let b = wider(best, p, i, 0, w);
+    let c = wider(b, p, i, 1, w);
+    wider(c, p, i, 2, w)
 }
 
 // The widest coordinate of any point, over the middle of its weight.
-pub(crate) fn carried_width(points: &[f64], dim: usize, count: usize) -> f64
-    requires { (dim ≤ 3) × (count ≤ 32) × (2 * (suc dim * count) ≤ length points.now) }
-    ensures { result ≡ carried_width dim (points_of (suc dim) count points.now) }
+pub(crate) fn carried_width(p: Polygon<'_>) -> f64
+    ensures { result ≡ carried_width p.entry.dim (vectors p.entry) }
 {
     let mut best = 0.0;
-    for i in 0..count {
-        best = carried_by(best, points, dim, i);
+    for i in 0..p.count {
+        best = carried_by(best, p, i);
     }
     best
 }
@@ -334,13 +334,12 @@ pub(crate) fn box_width(point_box: &[f64], dim: usize) -> f64
 }
 
 // The width that the points carry, or the lent box's own where it is wider.
-pub(crate) fn carried(points: &[f64], point_box: &[f64], dim: usize, count: usize) -> f64
-    requires { (dim ≤ 3) × (count ≤ 32) × (2 * (suc dim * count) ≤ length points.now)
-        × (2 * dim ≤ length point_box.now) }
-    ensures { let box = point_box.now in
-        result ≡ carried dim (scalars_of dim box) (points_of (suc dim) count points.now) }
+pub(crate) fn carried(p: Polygon<'_>, point_box: &[f64]) -> f64
+    requires { 2 * p.dim ≤ length point_box.now }
+    ensures { let q = p.entry in
+        result ≡ carried q.dim (scalars_of q.dim point_box.now) (vectors q) }
 {
-    max(carried_width(points, dim, count), box_width(point_box, dim))
+    max(carried_width(p), box_width(point_box, p.dim))
 }
 
 // ---- restriction and stalled, on a domain from a to b
@@ -388,16 +387,14 @@ pub(crate) fn stalled(a: f64, b: f64, size: f64, carried: f64, resolution: f64) 
 
 // `restriction` with the length of the control polygon as the size, which is looked at last.
 pub(crate) fn restricts<R: Revision>(
-    points: &[f64],
-    dim: usize,
-    count: usize,
+    p: Polygon<'_>,
     a: f64,
     b: f64,
     hat: Scalar,
     carried: f64,
 ) -> bool
-    requires { (dim ≤ 3) × (1 ≤ count) × (count ≤ 32) × (2 * (suc dim * count) ≤ length points.now) }
-    ensures { result ≡ restricts (arithmetic R.second) a b hat (extent dim (points_of (suc dim) count points.now)) carried }
+    requires { 1 ≤ p.count }
+    ensures { result ≡ restricts (arithmetic R.second) a b hat (extent p.entry.dim (vectors p.entry)) carried }
 {
     if !reaches_in(a, b, hat) {
         return false;
@@ -405,21 +402,13 @@ pub(crate) fn restricts<R: Revision>(
     if !narrow::<R>(a, b, hat) {
         return false;
     }
-    exceeds(points, dim, count, carried)
+    exceeds(p, carried)
 }
 
 // `stalled` with the length of the control polygon as the size, which is looked at last. What exceeds the greater of two numbers exceeds both.
-pub(crate) fn halves(
-    points: &[f64],
-    dim: usize,
-    count: usize,
-    a: f64,
-    b: f64,
-    carried: f64,
-    resolution: f64,
-) -> bool
-    requires { (dim ≤ 3) × (1 ≤ count) × (count ≤ 32) × (2 * (suc dim * count) ≤ length points.now) }
-    ensures { result ≡ halves a b (extent dim (points_of (suc dim) count points.now)) carried resolution }
+pub(crate) fn halves(p: Polygon<'_>, a: f64, b: f64, carried: f64, resolution: f64) -> bool
+    requires { 1 ≤ p.count }
+    ensures { result ≡ halves a b (extent p.entry.dim (vectors p.entry)) carried resolution }
 {
     if !(resolution < domain(a, b).width().lo) {
         return false;
@@ -427,5 +416,5 @@ pub(crate) fn halves(
     if carried != carried {
         return false;
     }
-    exceeds(points, dim, count, max(carried, resolution))
+    exceeds(p, max(carried, resolution))
 }

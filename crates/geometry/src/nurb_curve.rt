@@ -5,7 +5,7 @@ ghost use Rattle.std.specs.Float.Ieee.{lt};
 ghost use Rattle.math.specs.Scalars.{zero_f, is_same};
 ghost use Rattle.math.specs.Revision.{arithmetic};
 ghost use Rattle.model.specs.Vector.{coordinate};
-ghost use Rattle.model.specs.Layout.{scalar_at, point_at, points_of};
+ghost use Rattle.model.specs.Layout.{scalar_at};
 ghost use Rattle.model.specs.NurbCurve.{domain, in_domain, mid_parameter, weights_positive};
 
 use math::revision::Revision;
@@ -22,12 +22,47 @@ pub(crate) fn scalar_at(l: &[f64], j: usize) -> Scalar
     }
 }
 
-// Interval number k of point i, of dim + 1 intervals; the weight is number dim.
-pub(crate) fn coordinate(points: &[f64], dim: usize, i: usize, k: usize) -> Scalar
-    requires { (k ≤ dim) × (2 * (suc dim * suc i) ≤ length points.now) }
-    ensures { result ≡ coordinate (point_at (suc dim) points.now i) k }
-{
-    scalar_at(points, (dim + 1) * i + k)
+// The control points of a piece: `count` of them, of dim + 1 intervals each, the weight's last. In `words` their numbers
+// stand one behind the other, lo and hi side by side.
+#[derive(Clone, Copy)]
+pub(crate) struct Polygon<'a> {
+    pub(crate) words: &'a [f64],
+    pub(crate) dim: usize,
+    pub(crate) count: usize,
+    ghost sized: { (dim ≤ 3) × (count ≤ 64) × (2 * (suc dim * count) ≤ length words.now) },
+}
+
+impl Polygon<'_> {
+    ghost use Rattle.geometry.specs.Polygon.{vector, vectors};
+
+    // Interval number k of point i; the weight is number dim.
+    pub(crate) fn coordinate(self, i: usize, k: usize) -> Scalar
+        requires { (k ≤ self.dim) × (i < self.count) }
+        ensures { result ≡ coordinate (vector self.entry i) k }
+    {
+        scalar_at(self.words, (self.dim + 1) * i + k)
+    }
+
+    // The weight of point i.
+    pub(crate) fn weight(self, i: usize) -> Scalar
+        requires { i < self.count }
+        ensures { result ≡ coordinate (vector self.entry i) self.entry.dim }
+    {
+        self.coordinate(i, self.dim)
+    }
+
+    // Every point's weight has its lo above zero.
+    pub(crate) fn weights_positive(self) -> bool
+        ensures { let p = self.entry in
+            result ≡ weights_positive p.dim (vectors p) }
+    {
+        for i in 0..self.count {
+            if !(0.0 < self.weight(i).lo) {
+                return false;
+            }
+        }
+        true
+    }
 }
 
 // The interval from a to b.
@@ -70,18 +105,4 @@ pub(crate) fn repeats(a: Scalar, b: Scalar) -> bool
         return positive(a);
     }
     false
-}
-
-// Every point's weight has its lo above zero.
-pub(crate) fn weights_positive(points: &[f64], dim: usize, count: usize) -> bool
-    requires { (dim ≤ 3) × (count ≤ 64) × (2 * (suc dim * count) ≤ length points.now) }
-    ensures { result ≡ weights_positive dim (points_of (suc dim) count points.now) }
-{
-    for i in 0..count {
-        let w = coordinate(points, dim, i, dim);
-        if !(0.0 < w.lo) {
-            return false;
-        }
-    }
-    true
 }

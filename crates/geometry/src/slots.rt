@@ -5,8 +5,11 @@ ghost use Rattle.std.specs.Float.Ieee.{in_unsigned};
 ghost use Rattle.lists.specs.Lists.{part, put};
 ghost use Rattle.model.specs.KnotInsertion.{left_of, right_of};
 ghost use Rattle.model.specs.Layout.{points_of};
-ghost use Rattle.geometry.specs.Slots.{word, point_words, count_at, knots_from, place_of, numbers};
+ghost use Rattle.geometry.specs.Polygon.{vectors};
+ghost use Rattle.geometry.specs.Slots.{word, point_words, count_at, knots_from, place_of};
 ghost use Rattle.geometry.specs.Slots.{piece_at, placed, Sized, Inside, Held, Apart};
+
+use crate::nurb_curve::Polygon;
 
 // What the pieces of a call have in common: the dimension, the degree, and the number of points of the whole curve.
 #[derive(Clone, Copy)]
@@ -93,15 +96,20 @@ pub(crate) fn knots_in(work: &[f64], base: usize, s: Shape) -> &[f64]
     &work[from..end]
 }
 
-// The numbers of the points of the piece in the slot at base.
-pub(crate) fn points_in(work: &[f64], base: usize, s: Shape) -> &[f64]
+// The control points of the piece in the slot at base.
+pub(crate) fn points_in(work: &[f64], base: usize, s: Shape) -> Polygon<'_>
     requires { Held s work.now base }
-    ensures { result.now ≡ numbers (piece_at s work.now base).points }
+    ensures { (result.dim ≡ s.dim) × (result.count ≡ count_at work.now base)
+        × (vectors result ≡ (piece_at s work.now base).points) }
 {
-    let n = count_at(work, base);
+    let count = count_at(work, base);
     let from = place_of(s, base, 0);
-    let end = place_of(s, base, n);
-    &work[from..end]
+    let end = place_of(s, base, count);
+    Polygon {
+        words: &work[from..end],
+        dim: s.dim,
+        count,
+    }
 }
 
 // The words at a become those of the source.

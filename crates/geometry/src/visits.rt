@@ -3,7 +3,8 @@
 ghost use Rattle.std.specs.Prelude.{◌≡◌, ℕ, suc, ◌+◌, ◌*◌, ◌≤◌, ◌<◌, length};
 ghost use Rattle.lists.specs.Lists.{put};
 ghost use Rattle.math.specs.Revision.{arithmetic};
-ghost use Rattle.model.specs.Layout.{scalars_of, points_of, flat};
+ghost use Rattle.model.specs.Layout.{scalars_of};
+ghost use Rattle.geometry.specs.Polygon.{vectors};
 ghost use Rattle.model.specs.NurbCurve.{domain, weights_positive};
 ghost use Rattle.model.specs.FatLine.{greville, fat_line_zeros};
 ghost use Rattle.model.specs.Split.{split_mid, restrict};
@@ -15,8 +16,8 @@ ghost use Rattle.geometry.specs.Plan.{plan_hat, plan_clip, planned};
 
 use crate::aabb::aabb_could_overlap;
 use crate::fat_line::{carried, fat_line_zeros, from_first, greville_abscissae, halves, restricts};
-use crate::nurb_curve::{coordinate, domain, repeats, scalar_at, weights_positive};
-use crate::slots::{Shape, count_at, knots_in, points_in};
+use crate::nurb_curve::{Polygon, domain, repeats, scalar_at};
+use crate::slots::{Shape, knots_in, points_in};
 use crate::split::{restrict, split_mid};
 use crate::subdivide::Outcome;
 use math::revision::Revision;
@@ -45,18 +46,19 @@ fn times_weight<R: Revision>(e: Scalar, w: Scalar, last: Weighed) -> Weighed
 }
 
 // The values of axis k, one for each point, written to d: the coordinate less e times the weight.
-fn axis<R: Revision>(points: &[f64], dim: usize, k: usize, e: Scalar, d: &mut [Scalar])
-    requires { (0 < length d.old) × (k < dim) × (2 * (suc dim * length d.old) ≤ length points.now) }
-    ensures { d.new ≡ axis (arithmetic R.second) dim k e (points_of (suc dim) (length d.old) points.now) }
+fn axis<R: Revision>(p: Polygon<'_>, k: usize, e: Scalar, d: &mut [Scalar])
+    requires { (1 ≤ p.count) × (k < p.dim) × (length d.old ≡ p.count) }
+    ensures { let q = p.entry in
+        d.new ≡ axis (arithmetic R.second) q.dim k e (vectors q) }
 {
-    let w = coordinate(points, dim, 0, dim);
+    let w = p.weight(0);
     let mut last = Weighed {
         weight: w,
         product: R::times(e, w),
     };
-    for i in 0..d.len() {
-        last = times_weight::<R>(e, coordinate(points, dim, i, dim), last);
-        d[i] = R::sub(coordinate(points, dim, i, k), last.product);
+    for i in 0..p.count {
+        last = times_weight::<R>(e, p.weight(i), last);
+        d[i] = R::sub(p.coordinate(i, k), last.product);
     }
 }
 
@@ -76,46 +78,42 @@ fn narrowed(hat: Scalar, zeros: Option<Scalar>) -> Option<Scalar>
 fn clip_axis<R: Revision>(
     xi: &[Scalar],
     dx: &[Scalar],
-    points: &[f64],
-    dim: usize,
+    p: Polygon<'_>,
     k: usize,
     e: Scalar,
     hat: Scalar,
     d: &mut [Scalar],
 ) -> Option<Scalar>
-    requires lengths { (0 < length xi.now) × (length d.old ≡ length xi.now) }
-    requires points { (k < dim) × (2 * (suc dim * length xi.now) ≤ length points.now) }
+    requires lengths { (1 ≤ p.count) × (length xi.now ≡ p.count) × (length d.old ≡ p.count) }
+    requires axis { k < p.dim }
     requires dx_value { dx.now ≡ from_first (arithmetic R.second) xi.now }
     ensures value { result ≡ narrowed hat (fat_line_zeros (arithmetic R.second) xi.now
-        (axis (arithmetic R.second) dim k e (points_of (suc dim) (length xi.now) points.now))) }
+        (axis (arithmetic R.second) p.entry.dim k e (vectors p.entry))) }
 {
-    axis::<R>(points, dim, k, e, d);
+    axis::<R>(p, k, e, d);
     narrowed(hat, fat_line_zeros::<R>(xi, dx, d))
 }
 
 // The hat that the axes of the box leave of the domain from start to end: no axis is taken once nothing is left.
 pub(crate) fn clip<R: Revision>(
     xi: &[Scalar],
-    points: &[f64],
+    p: Polygon<'_>,
     point_box: &[f64],
-    dim: usize,
     start: f64,
     end: f64,
 ) -> Option<Scalar>
-    requires { (0 < length xi.now) × (length xi.now ≤ 32)
-        × (2 * (suc dim * length xi.now) ≤ length points.now) × (2 * dim ≤ length point_box.now) }
-    ensures { let box = point_box.now in
-        result ≡ clip (arithmetic R.second) dim (points_of (suc dim) (length xi.now) points.now) xi.now
-        (domain start end) 0 (scalars_of dim box) }
+    requires { (1 ≤ p.count) × (p.count ≤ 32) × (length xi.now ≡ p.count) × (2 * p.dim ≤ length point_box.now) }
+    ensures { let q = p.entry in
+        result ≡ clip (arithmetic R.second) q.dim (vectors q) xi.now (domain start end) 0 (scalars_of q.dim point_box.now) }
 {
-    let count = xi.len();
+    let count = p.count;
     let mut dx = [Scalar::ZERO; 32];
     from_first::<R>(xi, &mut dx[..count]);
     let mut d = [Scalar::ZERO; 32];
     let mut hat = domain(start, end);
-    for k in 0..dim {
+    for k in 0..p.dim {
         let e = scalar_at(point_box, k);
-        hat = clip_axis::<R>(xi, &dx[..count], points, dim, k, e, hat, &mut d[..count])?;
+        hat = clip_axis::<R>(xi, &dx[..count], p, k, e, hat, &mut d[..count])?;
     }
     Some(hat)
 }
@@ -137,26 +135,22 @@ pub enum Plan {
 
 // What to make of a piece with a hat, on a domain from a to b.
 fn plan_hat<R: Revision>(
-    points: &[f64],
+    p: Polygon<'_>,
     point_box: &[f64],
-    dim: usize,
-    count: usize,
     a: f64,
     b: f64,
     hat: Scalar,
     resolution: f64,
 ) -> Plan
-    requires { (dim ≤ 3) × (1 ≤ count) × (count ≤ 32) × (2 * (suc dim * count) ≤ length points.now)
-        × (2 * dim ≤ length point_box.now) }
-    ensures { let box = point_box.now in
-        result ≡ plan_hat (arithmetic R.second) dim (scalars_of dim box) resolution a b (points_of (suc dim) count points.now)
-        hat }
+    requires { (1 ≤ p.count) × (2 * p.dim ≤ length point_box.now) }
+    ensures { let q = p.entry in
+        result ≡ plan_hat (arithmetic R.second) q.dim (scalars_of q.dim point_box.now) resolution a b (vectors q) hat }
 {
-    let w = carried(points, point_box, dim, count);
-    if restricts::<R>(points, dim, count, a, b, hat, w) {
+    let w = carried(p, point_box);
+    if restricts::<R>(p, a, b, hat, w) {
         return Plan::Restrict(hat);
     }
-    if halves(points, dim, count, a, b, w, resolution) {
+    if halves(p, a, b, w, resolution) {
         return Plan::Halve(hat);
     }
     Plan::Report(hat)
@@ -165,53 +159,47 @@ fn plan_hat<R: Revision>(
 // What to make of a piece whose box does not miss.
 fn plan_clip<R: Revision>(
     knots: &[f64],
-    points: &[f64],
+    p: Polygon<'_>,
     point_box: &[f64],
-    dim: usize,
     degree: usize,
-    count: usize,
     resolution: f64,
 ) -> Plan
-    requires dim_bound { (dim ≤ 3) × (1 ≤ count) × (count ≤ 32) × (2 * (suc dim * count) ≤ length points.now)
-        × (2 * dim ≤ length point_box.now) }
-    requires degree_bound { (degree ≤ 7) × (count + degree + 1 ≤ length knots.now) }
-    ensures { let box = point_box.now in
-        result ≡ plan_clip (arithmetic R.second) dim degree (scalars_of dim box) resolution
-        (record { knots = knots.now; points = points_of (suc dim) count points.now })
-        (greville (arithmetic R.second) degree count knots.now) }
+    requires dim_bound { (1 ≤ p.count) × (2 * p.dim ≤ length point_box.now) }
+    requires degree_bound { (degree ≤ 7) × (p.count ≤ 32) × (p.count + degree + 1 ≤ length knots.now) }
+    ensures { let q = p.entry in
+        result ≡ plan_clip (arithmetic R.second) q.dim degree (scalars_of q.dim point_box.now) resolution
+        (record { knots = knots.now; points = vectors q })
+        (greville (arithmetic R.second) degree q.count knots.now) }
 {
     let a = knots[degree];
-    let b = knots[count];
-    let Some(xi) = greville_abscissae::<R>(knots, degree, count) else {
+    let b = knots[p.count];
+    let Some(xi) = greville_abscissae::<R>(knots, degree, p.count) else {
         return Plan::Report(domain(a, b));
     };
-    let Some(hat) = clip::<R>(&xi[..count], points, point_box, dim, a, b) else {
+    let Some(hat) = clip::<R>(&xi[..p.count], p, point_box, a, b) else {
         return Plan::Skip;
     };
-    plan_hat::<R>(points, point_box, dim, count, a, b, hat, resolution)
+    plan_hat::<R>(p, point_box, a, b, hat, resolution)
 }
 
 // What a visit is to make of the piece with these knots and count points.
 pub(crate) fn planned<R: Revision>(
     knots: &[f64],
-    points: &[f64],
+    p: Polygon<'_>,
     point_box: &[f64],
-    dim: usize,
     degree: usize,
-    count: usize,
     resolution: f64,
 ) -> Plan
-    requires dim_bound { (dim ≤ 3) × (1 ≤ count) × (count ≤ 32) × (2 * (suc dim * count) ≤ length points.now)
-        × (2 * dim ≤ length point_box.now) }
-    requires degree_bound { (degree ≤ 7) × (count + degree + 1 ≤ length knots.now) }
-    ensures { let box = point_box.now in
-        result ≡ planned (arithmetic R.second) dim degree (scalars_of dim box) resolution
-        (record { knots = knots.now; points = points_of (suc dim) count points.now }) }
+    requires dim_bound { (1 ≤ p.count) × (2 * p.dim ≤ length point_box.now) }
+    requires degree_bound { (degree ≤ 7) × (p.count ≤ 32) × (p.count + degree + 1 ≤ length knots.now) }
+    ensures { let q = p.entry in
+        result ≡ planned (arithmetic R.second) q.dim degree (scalars_of q.dim point_box.now) resolution
+        (record { knots = knots.now; points = vectors q }) }
 {
-    if !aabb_could_overlap::<R>(points, point_box, dim, count) {
+    if !aabb_could_overlap::<R>(p, point_box) {
         return Plan::Skip;
     }
-    plan_clip::<R>(knots, points, point_box, dim, degree, count, resolution)
+    plan_clip::<R>(knots, p, point_box, degree, resolution)
 }
 
 // What a visit is to make of the piece in the slot at base.
@@ -228,10 +216,9 @@ fn plan_in<R: Revision>(
         result ≡ planned (arithmetic R.second) s.dim s.degree (scalars_of s.dim box) resolution
         (piece_at s work.now base) }
 {
-    let n = count_at(work, base);
     let knots = knots_in(work, base, s);
     let points = points_in(work, base, s);
-    planned::<R>(knots, points, point_box, s.dim, s.degree, n, resolution)
+    planned::<R>(knots, points, point_box, s.degree, resolution)
 }
 
 // Every weight of the piece in the slot at base has its lo above zero.
@@ -239,8 +226,7 @@ fn weights_positive_in(work: &[f64], base: usize, s: Shape) -> bool
     requires { Held s work.now base }
     ensures { result ≡ weights_positive s.dim (piece_at s work.now base).points }
 {
-    let n = count_at(work, base);
-    weights_positive(points_in(work, base, s), s.dim, n)
+    points_in(work, base, s).weights_positive()
 }
 
 // ---- the visit

@@ -40,12 +40,12 @@ axis-tab ar points dim n k e h =
     at : (i a : ℕ) → a < suc dim → coordinate (point_at (suc dim) points i) a ≡ scalar_at points (suc dim * i + a)
     at i a h = get_or-tab (suc dim) (λ a. scalar_at points (suc dim * i + a)) a absent h
 
-pub axis_done : (ar : Arithmetic) (points : List Float) (l d : List Scalar) (dim i k : ℕ) (e : Scalar) → k < dim → i ≡ length l → d ≡ put l 0 (tab i (axis_at_lem ar points dim k e)) → d ≡ axis ar dim k e (points_of (suc dim) (length l) points)
-axis_done ar points l d dim i k e h g D =
+pub axis_done : (ar : Arithmetic) (points : List Float) (l d : List Scalar) (dim n i k : ℕ) (e : Scalar) → k < dim → length l ≡ n → i ≡ n → d ≡ put l 0 (tab i (axis_at_lem ar points dim k e)) → d ≡ axis ar dim k e (points_of (suc dim) n points)
+axis_done ar points l d dim n i k e h L g D =
     D
     ∙ ap (λ (m : ℕ). put l 0 (tab m (axis_at_lem ar points dim k e))) g
-    ∙ put_whole l (tab (length l) (axis_at_lem ar points dim k e)) (length-tab (length l) (axis_at_lem ar points dim k e))
-    ∙ axis-tab ar points dim (length l) k e h
+    ∙ put_whole l (tab n (axis_at_lem ar points dim k e)) (length-tab n (axis_at_lem ar points dim k e) ∙ sym L)
+    ∙ axis-tab ar points dim n k e h
 
 -- ---- what one axis leaves
 
@@ -61,10 +61,8 @@ pub narrowed_none : (hat : Scalar) (zeros : Hat) → zeros ≡ None → None ≡
 unfolding narrowed
 narrowed_none hat zeros Z = sym (ap (narrowed hat) Z)
 
-pub axis-leaves : (ar : Arithmetic) (ξ d : List Scalar) (points : List Float) (dim m k : ℕ) (e hat : Scalar) (zeros r : Hat) → m ≡ length ξ → d ≡ axis ar dim k e (points_of (suc dim) m points)
-    → zeros ≡ fat_line_zeros ar ξ d → r ≡ narrowed hat zeros → r ≡ narrowed hat (fat_line_zeros ar ξ (axis ar dim k e (points_of (suc dim) (length ξ) points)))
-axis-leaves ar ξ d points dim m k e hat zeros r L D Z R =
-    R ∙ ap (narrowed hat) (Z ∙ ap (fat_line_zeros ar ξ) (D ∙ ap (λ (n : ℕ). axis ar dim k e (points_of (suc dim) n points)) L))
+pub axis-leaves : (ar : Arithmetic) (ξ d v : List Scalar) (hat : Scalar) (zeros r : Hat) → d ≡ v → zeros ≡ fat_line_zeros ar ξ d → r ≡ narrowed hat zeros → r ≡ narrowed hat (fat_line_zeros ar ξ v)
+axis-leaves ar ξ d v hat zeros r D Z R = R ∙ ap (narrowed hat) (Z ∙ ap (fat_line_zeros ar ξ) D)
 
 -- ---- the axes, one after the other
 module _ (ar : Arithmetic) (dim : ℕ) (ps : List Vector) (ξ : List Scalar) (box : List Float) where

@@ -110,13 +110,13 @@ module _ (ar : Arithmetic) (dim p n : ℕ) (box : List Scalar) (resolution : Flo
   clip_report d G D = ap (λ (v : Scalar). Report v) (D ∙ ap (domain (get_or knots p nan)) ends) ∙ sym (ap (plan_clip ar dim p box resolution piece_by) G)
 
   -- with them
-  module _ (ξ : List Scalar) (h : Hat) (L : length ξ ≡ n) (G : greville ar p n knots ≡ some ξ)
-      (H : h ≡ clip ar dim (points_of (suc dim) (length ξ) points) ξ (domain (get_or knots p nan) (get_or knots n nan)) 0 box) where
+  module _ (ξ : List Scalar) (h : Hat) (G : greville ar p n knots ≡ some ξ)
+      (H : h ≡ clip ar dim (points_of (suc dim) n points) ξ (domain (get_or knots p nan) (get_or knots n nan)) 0 box) where
     opened : plan_shrink ar dim p box resolution piece_by h ≡ plan_clip ar dim p box resolution piece_by (greville ar p n knots)
     unfolding plan_clip
     opened =
         ap (plan_shrink ar dim p box resolution piece_by)
-        (H ∙ (λ i. clip ar dim (points_of (suc dim) (L i) points) ξ (domain (get_or knots p nan) (ends i)) 0 box))
+        (H ∙ (λ i. clip ar dim (points_of (suc dim) n points) ξ (domain (get_or knots p nan) (ends i)) 0 box))
         ∙ sym (ap (plan_clip ar dim p box resolution piece_by) G)
 
     pub clip-skip : h ≡ None → Skip ≡ plan_clip ar dim p box resolution piece_by (greville ar p n knots)

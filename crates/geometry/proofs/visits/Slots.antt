@@ -6,7 +6,6 @@ use native.Mathlib.Nat.{mul_assoc}
 use native.Mathlib.Omega.{arith}
 use lib.ListN.{length}
 use lib.Ieee.{Float}
-use Rattle.model.specs.NurbCurve.{Piece}
 use Rattle.model.specs.Layout.{points_of}
 use Rattle.geometry.specs.Slots.{count_at, numbers, piece_at, Held, Whole}
 use Rattle.geometry.specs.declared.slots.Shape.{Shape}
@@ -29,13 +28,10 @@ module _ (s : Shape) (l : List Float) (base : ℕ) (h : Held s l base) where
         ap length P ∙ length_numbers (suc s.dim) (piece_at s l base).points (fits-piece s l base h).wide ∙ ap (λ (k : ℕ). 2 * suc s.dim * k) (sym e) in
         omega (arith, f, mul_assoc 2 (suc s.dim) n)
 
-    module _ (ks : List Float) (K : ks ≡ (piece_at s l base).knots) where
-      pub knots-room : n + s.degree + 1 ≤ length ks
-      knots-room = omega (arith, ap length K, (fits-piece s l base h).knots, count-points s l base h)
+  module _ (n : ℕ) (N : n ≡ count_at l base) where
+    pub knots-room : (ks : List Float) → ks ≡ (piece_at s l base).knots → n + s.degree + 1 ≤ length ks
+    knots-room ks K = omega (arith, ap length K, (fits-piece s l base h).knots, count-points s l base h)
 
-      pub piece_back : ◌≡◌ {A = Piece} (record { knots = ks; points = points_of (suc s.dim) n ps }) (piece_at s l base)
-      piece_back = λ i. record { knots = K i; points = points_back i }
-
-      -- what a visit asks of a piece
-      pub visit-asks : Whole s (piece_at s l base) → (s.dim ≤ 3) × (1 ≤ n) × (n ≤ 32) × (s.degree ≤ 7)
-      visit-asks w = let k = whole-count s l base h w in (h.inside.sized.dim, omega (arith, N, k.0), omega (arith, N, k.1, h.inside.sized.count), h.inside.sized.degree)
+    -- what a visit asks of a piece
+    pub visit-asks : Whole s (piece_at s l base) → (1 ≤ n) × (n ≤ 32)
+    visit-asks w = let k = whole-count s l base h w in (omega (arith, N, k.0), omega (arith, N, k.1, h.inside.sized.count))

@@ -9,4 +9,4 @@ use Rattle.geometry.proofs.aabb.aabb_could_overlap.Given as goal
 
 abbrev pub invariant-loop-k : goal.invariant-loop-k
 invariant-loop-k ty l =
-    overlap_from l.dim (axis_at_lem (arithmetic ty.R.Revision.second) l.dim l.count l.points) (scalar_at l.point_box) l.k ≡ could_overlap (tab l.dim (axis_at_lem (arithmetic ty.R.Revision.second) l.dim l.count l.points)) (tab l.dim (scalar_at l.point_box))
+    overlap_from l.p.dim (axis_at_lem (arithmetic ty.R.Revision.second) l.p.dim l.p.count l.p.words.now) (scalar_at l.point_box) l.k ≡ could_overlap (tab l.p.dim (axis_at_lem (arithmetic ty.R.Revision.second) l.p.dim l.p.count l.p.words.now)) (tab l.p.dim (scalar_at l.point_box))

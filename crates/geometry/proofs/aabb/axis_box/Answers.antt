@@ -13,8 +13,8 @@ loop-i-init ty c =
     let ar = arithmetic R.second in
     let a = c.args in
     let d = c.divisor-last.ensures in
-    let p = place_by R.Picked R.closed ar a.dim a.k (point_at (suc a.dim) a.points.now 0) _ _ c.divisor-last.result _ c.coordinate-2.ensures c.coordinate.ensures d.0 (c.bounds_over-all.ensures d.1) in
-    (omega arith, joined_first R.Picked R.closed (place_at_lem ar a.dim a.k a.points.now) _ p, d.1)
+    let p = place_by R.Picked R.closed ar a.p.dim a.k (point_at (suc a.p.dim) a.p.words.now 0) _ _ c.divisor-last.result _ c.coordinate.ensures c.weight.ensures d.0 (c.bounds_over-all.ensures d.1) in
+    (omega arith, joined_first R.Picked R.closed (place_at_lem ar a.p.dim a.k a.p.words.now) _ p, d.1)
 
 pub loop-i-preserved : goal.loop-i-preserved
 loop-i-preserved ty c =
@@ -23,10 +23,10 @@ loop-i-preserved ty c =
     let a = c.args in
     let i = c.loop-i.i in
     let d = c.divisor_of-last.ensures in
-    let p = place_by R.Picked R.closed ar a.dim a.k (point_at (suc a.dim) a.points.now i) _ _ c.divisor_of-last.result _ c.coordinate-in-loop-i-2.ensures c.coordinate-in-loop-i.ensures d.0 (c.bounds_over.ensures d.1) in
-    (omega arith, joined_turn R.Picked R.closed (place_at_lem ar a.dim a.k a.points.now) i _ _ _ c.loop-i.invariant.0 c.loop-i.invariant.1 p c.pick-all.ensures, d.1)
+    let p = place_by R.Picked R.closed ar a.p.dim a.k (point_at (suc a.p.dim) a.p.words.now i) _ _ c.divisor_of-last.result _ c.coordinate-in-loop-i.ensures c.weight-in-loop-i.ensures d.0 (c.bounds_over.ensures d.1) in
+    (omega arith, joined_turn R.Picked R.closed (place_at_lem ar a.p.dim a.k a.p.words.now) i _ _ _ c.loop-i.invariant.0 c.loop-i.invariant.1 p c.pick-all.ensures, d.1)
 
 pub returns : goal.returns
 returns ty c =
     let a = c.args in
-    axis_done (arithmetic ty.R.Revision.second) a.dim a.k a.count c.loop-i.i a.points.now _ _ (omega arith) c.loop-i.invariant.1.is c.close.ensures
+    axis_done (arithmetic ty.R.Revision.second) a.p.dim a.k a.p.count c.loop-i.i a.p.words.now _ _ (omega arith) c.loop-i.invariant.1.is c.close.ensures

@@ -10,4 +10,4 @@ use Rattle.geometry.proofs.aabb.axis_box.Given as goal
 abbrev pub invariant-loop-i : goal.invariant-loop-i
 invariant-loop-i ty l =
     let R = ty.R.Revision in
-    (1 ≤ l.i) × Gives R.Picked R.closed (unions (tab l.i (place_at_lem (arithmetic R.second) l.dim l.k l.points))) l.all × R.Own l.last
+    (1 ≤ l.i) × Gives R.Picked R.closed (unions (tab l.i (place_at_lem (arithmetic R.second) l.p.dim l.k l.p.words.now))) l.all × R.Own l.last

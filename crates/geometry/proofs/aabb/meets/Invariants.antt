@@ -10,5 +10,5 @@ use Rattle.geometry.proofs.aabb.meets.Given as goal
 
 abbrev pub invariant-loop-k : goal.invariant-loop-k
 invariant-loop-k ty l =
-    meets (arithmetic ty.R.Revision.second) l.dim (point_at (suc l.dim) l.points 0) (point_at (suc l.dim) l.points 1) l.range l.k (drop l.k (scalars_of l.dim l.point_box))
-    ≡ meets (arithmetic ty.R.Revision.second) l.dim (point_at (suc l.dim) l.points 0) (point_at (suc l.dim) l.points 1) (union_s ZERO ONE) 0 (scalars_of l.dim l.point_box)
+    meets (arithmetic ty.R.Revision.second) l.p.dim (point_at (suc l.p.dim) l.p.words.now 0) (point_at (suc l.p.dim) l.p.words.now 1) l.range l.k (drop l.k (scalars_of l.p.dim l.point_box))
+    ≡ meets (arithmetic ty.R.Revision.second) l.p.dim (point_at (suc l.p.dim) l.p.words.now 0) (point_at (suc l.p.dim) l.p.words.now 1) (union_s ZERO ONE) 0 (scalars_of l.p.dim l.point_box)

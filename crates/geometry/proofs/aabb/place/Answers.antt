@@ -11,4 +11,4 @@ pub returns : goal.returns
 unfolding place
 returns ty c =
     c.unwrap_or.ensures ∙ value_or_is c.div.result c.entire.result ∙ ap (value_or c.div.result) c.entire.ensures
-    ∙ ap (λ (d : Divided). value_or d ENTIRE) (c.div.ensures.result ∙ (λ i. (arithmetic ty.R.Revision.second).div (c.coordinate-x.ensures i) (c.coordinate-w.ensures i)))
+    ∙ ap (λ (d : Divided). value_or d ENTIRE) (c.div.ensures.result ∙ (λ i. (arithmetic ty.R.Revision.second).div (c.coordinate-x.ensures i) (c.weight-w.ensures i)))

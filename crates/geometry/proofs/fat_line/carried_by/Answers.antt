@@ -17,8 +17,8 @@ pub returns : goal.returns
 unfolding carried_by
 returns c =
     let a = c.args in
-    let q = point_at (suc a.dim) a.points.now a.i in
-    let e : c.to_f64-w.result ≡ middle (coordinate q a.dim) = c.to_f64-w.ensures ∙ ap middle c.coordinate.ensures in
-    let f : ℕ → Float → Float → Float = λ k b v. cond (ltb k a.dim) (max_f b (div binary64 (to_f64 (width_s (coordinate q k))) v)) b in
-    fold-three max_f a.dim (λ k. div binary64 (to_f64 (width_s (coordinate q k))) (middle (coordinate q a.dim))) a.best _ _ _ (omega arith)
+    let q = point_at (suc a.p.dim) a.p.words.now a.i in
+    let e : c.to_f64-w.result ≡ middle (coordinate q a.p.dim) = c.to_f64-w.ensures ∙ ap middle c.weight.ensures in
+    let f : ℕ → Float → Float → Float = λ k b v. cond (ltb k a.p.dim) (max_f b (div binary64 (to_f64 (width_s (coordinate q k))) v)) b in
+    fold-three max_f a.p.dim (λ k. div binary64 (to_f64 (width_s (coordinate q k))) (middle (coordinate q a.p.dim))) a.best _ _ _ (omega arith)
     (c.wider-b.ensures ∙ ap (f 0 a.best) e) (c.wider-c.ensures ∙ ap (f 1 c.wider-b.result) e) (c.wider.ensures ∙ ap (f 2 c.wider-c.result) e)

@@ -13,9 +13,9 @@ loop-i-init c = refl
 pub loop-i-preserved : goal.loop-i-preserved
 loop-i-preserved c =
     let a = c.args in
-    carried_turn a.dim a.points.now c.loop-i.i _ _ c.loop-i.invariant c.carried_by-best.ensures
+    carried_turn a.p.dim a.p.words.now c.loop-i.i _ _ c.loop-i.invariant c.carried_by-best.ensures
 
 pub returns : goal.returns
 returns c =
     let a = c.args in
-    carried_end a.dim a.count a.points.now c.loop-i.i _ (omega arith) c.loop-i.invariant
+    carried_end a.p.dim a.p.count a.p.words.now c.loop-i.i _ (omega arith) c.loop-i.invariant

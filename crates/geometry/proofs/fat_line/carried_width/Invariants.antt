@@ -4,4 +4,4 @@ use Rattle.geometry.proofs.fat_line.Sizes.{carried_of}
 use Rattle.geometry.proofs.fat_line.carried_width.Given as goal
 
 abbrev pub invariant-loop-i : goal.invariant-loop-i
-invariant-loop-i l = l.best ≡ carried_of l.dim l.points l.i
+invariant-loop-i l = l.best ≡ carried_of l.p.dim l.p.words.now l.i

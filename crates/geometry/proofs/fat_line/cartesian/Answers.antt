@@ -16,8 +16,8 @@ pub returns : goal.returns
 unfolding cartesian
 returns c =
     let a = c.args in
-    let q = point_at (suc a.dim) a.points.now a.i in
-    let e : c.to_f64-w.result ≡ middle (coordinate q a.dim) = c.to_f64-w.ensures ∙ ap middle c.coordinate.ensures in
-    let f : ℕ → Float → Float = λ k v. cond (ltb k a.dim) (div binary64 (middle (coordinate q k)) v) zero_f in
-    three a.dim (λ k. div binary64 (middle (coordinate q k)) (middle (coordinate q a.dim))) _ _ _ (omega arith)
+    let q = point_at (suc a.p.dim) a.p.words.now a.i in
+    let e : c.to_f64-w.result ≡ middle (coordinate q a.p.dim) = c.to_f64-w.ensures ∙ ap middle c.weight.ensures in
+    let f : ℕ → Float → Float = λ k v. cond (ltb k a.p.dim) (div binary64 (middle (coordinate q k)) v) zero_f in
+    three a.p.dim (λ k. div binary64 (middle (coordinate q k)) (middle (coordinate q a.p.dim))) _ _ _ (omega arith)
     (c.cartesian_at-x.ensures ∙ ap (f 0) e) (c.cartesian_at-y.ensures ∙ ap (f 1) e) (c.cartesian_at-z.ensures ∙ ap (f 2) e)

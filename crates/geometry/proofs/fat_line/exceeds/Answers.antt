@@ -9,7 +9,7 @@ use Rattle.geometry.proofs.fat_line.exceeds.Goals as goal
 
 pub returns-then-s : goal.returns-then-s
 returns-then-s c =
-    let held : T (fits binary64 c.args.limit) = subst T (sym c.well_formed.1.1.1.0.1) tt in
+    let held : T (fits binary64 c.args.limit) = subst T (sym c.well_formed.1.0.1) tt in
     let a = c.args in
-    exceeds-yes a.dim a.count _ (places a.dim a.points.now) a.limit _ _ (omega arith) (places_of a.dim a.count a.points.now) held
+    exceeds-yes a.p.dim a.p.count _ (places a.p.dim a.p.words.now) a.limit _ _ (omega arith) (places_of a.p.dim a.p.count a.p.words.now) held
     c.next_up-next.ensures c.steps-s.ensures c.if-next-s.true c.if-s.true

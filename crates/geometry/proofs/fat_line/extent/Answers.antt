@@ -11,13 +11,13 @@ pub loop-i-init : goal.loop-i-init
 unfolding of_bits
 loop-i-init c =
     let a = c.args in
-    (omega arith, steps-start with_root a.count (places a.dim a.points.now) (position_of a.dim c.cartesian-at.result) zero_f (omega arith) c.cartesian-at.ensures)
+    (omega arith, steps-start with_root a.p.count (places a.p.dim a.p.words.now) (position_of a.p.dim c.cartesian-at.result) zero_f (omega arith) c.cartesian-at.ensures)
 
 pub loop-i-preserved : goal.loop-i-preserved
 loop-i-preserved c =
     let a = c.args in (
       omega arith,
-      steps_turn with_root a.count (places a.dim a.points.now) c.loop-i.sum _ _ (position_of a.dim c.loop-i.at) (position_of a.dim c.cartesian-next.result) c.loop-i.i _
+      steps_turn with_root a.p.count (places a.p.dim a.p.words.now) c.loop-i.sum _ _ (position_of a.p.dim c.loop-i.at) (position_of a.p.dim c.cartesian-next.result) c.loop-i.i _
           (omega arith) c.cartesian-next.ensures refl (ap (add binary64 c.loop-i.sum) (c.distance-sum.ensures ∙ sym (distance_is _ _))) c.loop-i.invariant.1,
     )
 
@@ -25,4 +25,4 @@ pub returns : goal.returns
 unfolding of_bits
 returns c =
     let a = c.args in
-    extent_end a.dim a.count a.points.now c.loop-i.sum _ (position_of a.dim c.loop-i.at) c.loop-i.i (omega arith) c.loop-i.invariant.1 c.max.ensures
+    extent_end a.p.dim a.p.count a.p.words.now c.loop-i.sum _ (position_of a.p.dim c.loop-i.at) c.loop-i.i (omega arith) c.loop-i.invariant.1 c.max.ensures

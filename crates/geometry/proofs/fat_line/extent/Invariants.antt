@@ -9,4 +9,4 @@ use Rattle.geometry.proofs.fat_line.extent.Given as goal
 
 abbrev pub invariant-loop-i : goal.invariant-loop-i
 invariant-loop-i l =
-    (1 ≤ l.i) × (steps_from with_root (tab l.count (places l.dim l.points)) l.sum (position_of l.dim l.at) l.i ≡ foldl with_root zero_f (squares (tab l.count (places l.dim l.points))))
+    (1 ≤ l.i) × (steps_from with_root (tab l.p.count (places l.p.dim l.p.words.now)) l.sum (position_of l.p.dim l.at) l.i ≡ foldl with_root zero_f (squares (tab l.p.count (places l.p.dim l.p.words.now))))

@@ -14,7 +14,7 @@ pub returns-then-not-resolution-width : goal.returns-then-not-resolution-width
 unfolding halves
 returns-then-not-resolution-width c =
     let a = c.args in
-    let s = extent a.dim (points_of (suc a.dim) a.count a.points.now) in
+    let s = extent a.p.dim (points_of (suc a.p.dim) a.p.count a.p.words.now) in
     third_failed (lt (max_f a.carried a.resolution) s) (lt a.carried s) _
     (ap (λ (v : Scalar). lt a.resolution v.lo) (sym (c.width.ensures ∙ ap (λ (v : Scalar). sharp (width_s v)) c.domain.ensures)) ∙ c.if-not-resolution-width.true)
 
@@ -22,13 +22,13 @@ pub returns-then-carried : goal.returns-then-carried
 unfolding halves
 returns-then-carried c =
     let a = c.args in
-    halves_nan a.carried a.resolution (extent a.dim (points_of (suc a.dim) a.count a.points.now)) _ c.if-carried.true
+    halves_nan a.carried a.resolution (extent a.p.dim (points_of (suc a.p.dim) a.p.count a.p.words.now)) _ c.if-carried.true
 
 pub returns : goal.returns
 unfolding halves
 returns c =
     let a = c.args in
-    let s = extent a.dim (points_of (suc a.dim) a.count a.points.now) in
+    let s = extent a.p.dim (points_of (suc a.p.dim) a.p.count a.p.words.now) in
     c.exceeds.ensures
     ∙ ap (λ (v : Float). lt v s) c.max.ensures
     ∙ halves-both a.carried a.resolution s _ c.if-carried.false

@@ -14,14 +14,14 @@ pub returns-then-not-reaches_in : goal.returns-then-not-reaches_in
 unfolding restricts
 returns-then-not-reaches_in ty c =
     let a = c.args in
-    third_failed (lt a.carried (extent a.dim (points_of (suc a.dim) a.count a.points.now))) (lt (width_s a.hat) ((arithmetic ty.R.Revision.second).mul (sharp (width_s (domain a.a a.b))) (arithmetic ty.R.Revision.second).four_fifths).lo) _
+    third_failed (lt a.carried (extent a.p.dim (points_of (suc a.p.dim) a.p.count a.p.words.now))) (lt (width_s a.hat) ((arithmetic ty.R.Revision.second).mul (sharp (width_s (domain a.a a.b))) (arithmetic ty.R.Revision.second).four_fifths).lo) _
     (sym c.reaches_in.ensures ∙ c.if-not-reaches_in.true)
 
 pub returns-then-not-narrow : goal.returns-then-not-narrow
 unfolding restricts
 returns-then-not-narrow ty c =
     let a = c.args in
-    middle_failed (lt a.carried (extent a.dim (points_of (suc a.dim) a.count a.points.now))) _ _ (sym c.narrow.ensures ∙ c.if-not-narrow.true)
+    middle_failed (lt a.carried (extent a.p.dim (points_of (suc a.p.dim) a.p.count a.p.words.now))) _ _ (sym c.narrow.ensures ∙ c.if-not-narrow.true)
 
 pub returns : goal.returns
 unfolding restricts

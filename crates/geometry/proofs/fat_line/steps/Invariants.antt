@@ -12,5 +12,5 @@ use Rattle.geometry.proofs.fat_line.steps.Given as goal
 abbrev pub invariant-loop-i : goal.invariant-loop-i
 invariant-loop-i l =
     (1 ≤ l.i)
-    × (steps_from (λ s x. add binary64 s x) (tab l.count (places l.dim l.points)) l.total (position_of l.dim l.at) l.i ≡ foldl (λ s x. add binary64 s x) zero_f (squares (tab l.count (places l.dim l.points))))
-    × (steps_from max_f (tab l.count (places l.dim l.points)) l.top (position_of l.dim l.at) l.i ≡ foldl max_f zero_f (squares (tab l.count (places l.dim l.points))))
+    × (steps_from (λ s x. add binary64 s x) (tab l.p.count (places l.p.dim l.p.words.now)) l.total (position_of l.p.dim l.at) l.i ≡ foldl (λ s x. add binary64 s x) zero_f (squares (tab l.p.count (places l.p.dim l.p.words.now))))
+    × (steps_from max_f (tab l.p.count (places l.p.dim l.p.words.now)) l.top (position_of l.p.dim l.at) l.i ≡ foldl max_f zero_f (squares (tab l.p.count (places l.p.dim l.p.words.now))))

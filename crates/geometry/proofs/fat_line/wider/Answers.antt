@@ -10,11 +10,11 @@ use Rattle.math.proofs.Bools.{pick_yes}
 use Rattle.model.specs.FatLine.{to_f64}
 use Rattle.geometry.proofs.fat_line.wider.Goals as goal
 
-pub returns-then-k-dim : goal.returns-then-k-dim
+pub returns-then-k-p : goal.returns-then-k-p
 unfolding to_f64
-returns-then-k-dim c =
+returns-then-k-p c =
     let a = c.args in
     c.max.ensures
     ∙ ap (λ (v : Float). max_f a.best (div binary64 v a.w))
     (c.to_f64.ensures ∙ ap middle (c.width.ensures ∙ ap (λ (v : Scalar). sharp (width_s v)) c.coordinate.ensures))
-    ∙ pick_yes _ _ _ (lt-ltb a.k a.dim (omega arith))
+    ∙ pick_yes _ _ _ (lt-ltb a.k a.p.dim (omega arith))

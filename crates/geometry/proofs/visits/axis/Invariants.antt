@@ -9,4 +9,4 @@ use Rattle.geometry.proofs.visits.axis.Given as goal
 abbrev pub invariant-loop-i : goal.invariant-loop-i
 invariant-loop-i ty l =
     let ar = arithmetic ty.R.Revision.second in
-    (length l.d ≡ length l.initial.d) × (l.d ≡ put l.initial.d 0 (tab l.i (axis_at_lem ar l.points l.dim l.k l.e))) × (l.last.product ≡ ar.mul l.e l.last.weight)
+    (length l.d ≡ length l.initial.d) × (l.d ≡ put l.initial.d 0 (tab l.i (axis_at_lem ar l.p.words.now l.p.dim l.k l.e))) × (l.last.product ≡ ar.mul l.e l.last.weight)

@@ -12,19 +12,19 @@ pub returns-in_err-hat : goal.returns-in_err-hat
 returns-in_err-hat ty c =
     let a = c.args in
     c.from_residual.ensures
-    ∙ left_none (arithmetic ty.R.Revision.second) a.dim (points_of (suc a.dim) (length a.xi.now) a.points.now) a.xi.now a.point_box.now c.loop-k.hat c.scalar_at-e.result _ c.loop-k.k c.loop-k-test.true c.scalar_at-e.ensures c.clip_axis.ensures.value _ c.in_err-hat.was c.loop-k.invariant.3
+    ∙ left_none (arithmetic ty.R.Revision.second) a.p.dim (points_of (suc a.p.dim) a.p.count a.p.words.now) a.xi.now a.point_box.now c.loop-k.hat c.scalar_at-e.result _ c.loop-k.k c.loop-k-test.true c.scalar_at-e.ensures c.clip_axis.ensures.value _ c.in_err-hat.was c.loop-k.invariant.3
 
 pub loop-k-preserved : goal.loop-k-preserved
 loop-k-preserved ty c =
     let a = c.args in
-    let front : length (take (length a.xi.now) c.loop-k.d) ≡ length a.xi.now = simp length-take (omega (arith, c.loop-k.invariant.0)) in (
+    let front : length (take a.p.count c.loop-k.d) ≡ a.p.count = simp length-take (omega (arith, c.loop-k.invariant.0)) in (
       simp (length-append, length-drop) (omega (arith, c.clip_axis.auto.d, front, c.loop-k.invariant.0)),
       c.loop-k.invariant.1,
       c.loop-k.invariant.2,
-      left_next (arithmetic ty.R.Revision.second) a.dim (points_of (suc a.dim) (length a.xi.now) a.points.now) a.xi.now a.point_box.now c.loop-k.hat c.scalar_at-e.result _ c.loop-k.k c.loop-k-test.true c.scalar_at-e.ensures c.clip_axis.ensures.value _ _ c.in_ok-hat.was c.loop-k.invariant.3,
+      left_next (arithmetic ty.R.Revision.second) a.p.dim (points_of (suc a.p.dim) a.p.count a.p.words.now) a.xi.now a.point_box.now c.loop-k.hat c.scalar_at-e.result _ c.loop-k.k c.loop-k-test.true c.scalar_at-e.ensures c.clip_axis.ensures.value _ _ c.in_ok-hat.was c.loop-k.invariant.3,
     )
 
 pub returns : goal.returns
 returns ty c =
     let a = c.args in
-    left_done (arithmetic ty.R.Revision.second) a.dim (points_of (suc a.dim) (length a.xi.now) a.points.now) a.xi.now a.point_box.now c.loop-k.hat c.loop-k.k _ (omega arith) c.loop-k.invariant.3
+    left_done (arithmetic ty.R.Revision.second) a.p.dim (points_of (suc a.p.dim) a.p.count a.p.words.now) a.xi.now a.point_box.now c.loop-k.hat c.loop-k.k _ (omega arith) c.loop-k.invariant.3

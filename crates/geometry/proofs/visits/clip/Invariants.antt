@@ -13,8 +13,8 @@ use Rattle.geometry.proofs.visits.clip.Given as goal
 abbrev pub invariant-loop-k : goal.invariant-loop-k
 invariant-loop-k ty l =
     let ar = arithmetic ty.R.Revision.second in
-    let points = points_of (suc l.dim) (length l.xi) l.points in
+    let points = points_of (suc l.p.dim) l.p.count l.p.words.now in
     (length l.d ≡ 32)
     × (length l.dx ≡ 32)
-    × (take (length l.xi) l.dx ≡ from_first ar l.xi)
-    × (left ar l.dim points l.xi l.point_box l.hat l.k ≡ clip ar l.dim points l.xi (domain l.start l.end) 0 (scalars_of l.dim l.point_box))
+    × (take l.p.count l.dx ≡ from_first ar l.xi)
+    × (left ar l.p.dim points l.xi l.point_box l.hat l.k ≡ clip ar l.p.dim points l.xi (domain l.start l.end) 0 (scalars_of l.p.dim l.point_box))

@@ -11,6 +11,7 @@ use Rattle.model.proofs.Checks.{none_left, pass, fail, else_left, else_taken, Sm
 use Rattle.geometry.specs.declared.call.Lent.{Lent}
 use Rattle.geometry.specs.Call.{curve_in}
 use Rattle.geometry.proofs.call.Checks.{lengths_are}
+use Rattle.model.specs.NurbCurve.{weights_positive}
 use Rattle.geometry.proofs.call.Lent.curve_refusal.Goals as goal
 
 -- ---- behind each check that is passed, the refusal is that of the checks that are left
@@ -91,13 +92,13 @@ returns-then-not-bounds_ordered c =
     let finite = sym c.numbers_usable.ensures ∙ c.if-not-numbers_usable.false in
     sym (past5 c.args.self sizes long finite ∙ fail _ 6 (bounds c.args.self) _ (sym c.bounds_ordered.ensures ∙ c.if-not-bounds_ordered.true))
 
-pub weights_positive-requires : goal.weights_positive-requires
+pub polygon-requires : goal.polygon-requires
 unfolding lengths_fit
-weights_positive-requires c =
+polygon-requires c =
     let g = c.args.self in
     let z : SmallSizes g.dim g.degree g.count = small-sizes _ _ _ (sym c.in_ok-sizes_refusal.ensures) in
     let l = lengths_are _ g.degree g.count _ g.dim _ g.dim (sym c.lengths_fit.ensures ∙ c.if-not-lengths_fit.false) in
-    (z.dim, omega (arith, z.count), l.1)
+    (z.dim, z.count, l.1)
 
 pub returns-then-not-weights_positive : goal.returns-then-not-weights_positive
 unfolding weights_fit
@@ -106,7 +107,7 @@ returns-then-not-weights_positive c =
     let long = sym c.lengths_fit.ensures ∙ c.if-not-lengths_fit.false in
     let finite = sym c.numbers_usable.ensures ∙ c.if-not-numbers_usable.false in
     let ordered = sym c.bounds_ordered.ensures ∙ c.if-not-bounds_ordered.false in
-    sym (past6 c.args.self sizes long finite ordered ∙ fail _ 7 weights_fit _ (sym c.weights_positive.ensures ∙ c.if-not-weights_positive.true))
+    sym (past6 c.args.self sizes long finite ordered ∙ fail _ 7 weights_fit _ (sym (c.weights_positive.ensures ∙ (λ i. weights_positive (c.polygon.ensures.0 i) (c.polygon.ensures.2 i))) ∙ c.if-not-weights_positive.true))
 
 pub knots_valid-requires : goal.knots_valid-requires
 unfolding lengths_fit
@@ -123,7 +124,7 @@ returns-then-not-knots_valid c =
     let long = sym c.lengths_fit.ensures ∙ c.if-not-lengths_fit.false in
     let finite = sym c.numbers_usable.ensures ∙ c.if-not-numbers_usable.false in
     let ordered = sym c.bounds_ordered.ensures ∙ c.if-not-bounds_ordered.false in
-    let weights = sym c.weights_positive.ensures ∙ c.if-not-weights_positive.false in
+    let weights = sym (c.weights_positive.ensures ∙ (λ i. weights_positive (c.polygon.ensures.0 i) (c.polygon.ensures.2 i))) ∙ c.if-not-weights_positive.false in
     sym (past7 c.args.self sizes long finite ordered weights ∙ fail _ 8 knots_fit _ (sym c.knots_valid.ensures ∙ c.if-not-knots_valid.true))
 
 pub returns : goal.returns
@@ -133,5 +134,5 @@ returns c =
     let long = sym c.lengths_fit.ensures ∙ c.if-not-lengths_fit.false in
     let finite = sym c.numbers_usable.ensures ∙ c.if-not-numbers_usable.false in
     let ordered = sym c.bounds_ordered.ensures ∙ c.if-not-bounds_ordered.false in
-    let weights = sym c.weights_positive.ensures ∙ c.if-not-weights_positive.false in
+    let weights = sym (c.weights_positive.ensures ∙ (λ i. weights_positive (c.polygon.ensures.0 i) (c.polygon.ensures.2 i))) ∙ c.if-not-weights_positive.false in
     sym (past7 c.args.self sizes long finite ordered weights ∙ pass _ 8 knots_fit _ (sym c.knots_valid.ensures ∙ c.if-not-knots_valid.false) ∙ none_left _ 9)
