@@ -127,11 +127,7 @@ pub(crate) fn sizes(text: &[u8], at: usize) -> Option<(Sizes, usize)>
     let (dim, i) = small_line(text, at, b"dim=")?;
     let (degree, j) = small_line(text, i, b"degree=")?;
     let (count, k) = small_line(text, j, b"count=")?;
-    let found = Sizes {
-        dim,
-        degree,
-        count,
-    };
+    let found = Sizes { dim, degree, count };
     Some((found, k))
 }
 
@@ -160,12 +156,7 @@ fn shape(text: &[u8], at: usize, s: Sizes, out: &mut [f64]) -> Option<usize>
 }
 
 // All the other lines.
-pub(crate) fn numbers(
-    text: &[u8],
-    at: usize,
-    s: Sizes,
-    out: &mut [f64],
-) -> Option<(usize, usize)>
+pub(crate) fn numbers(text: &[u8], at: usize, s: Sizes, out: &mut [f64]) -> Option<(usize, usize)>
     requires { (at ≤ length text.now) × Small s × (303 ≤ length out.old) }
     ensures { let t = text.now in
         NumbersRead t (numbers s (drop at t)) s out.old out.new result }

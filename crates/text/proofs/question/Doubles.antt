@@ -2,7 +2,7 @@
 use mathlib.Core.Path.{◌≡◌, refl, sym, ap, ◌∙◌, subst}
 use mathlib.Core.Bool.{Bool, true, false}
 use mathlib.Core.List.{List, [], ◌∷◌, ◌++◌, append_assoc, append-nil}
-use Prim.Native.Nat.{ℕ, zero, suc, ◌+◌, ◌-◌, ◌*◌, ◌≤◌, ◌<◌}
+use Prim.Native.Nat.{ℕ, suc, ◌+◌, ◌-◌, ◌*◌, ◌≤◌, ◌<◌}
 use native.Mathlib.Nat.{mul-zero, mul-suc, mul-le-mul_left}
 use native.Mathlib.Numerals.{add-one}
 use native.Mathlib.Omega.{arith}
@@ -21,10 +21,6 @@ use Rattle.text.proofs.question.Words.{then-bad, then-got}
 use Rattle.text.proofs.numerals.Decimal.{both}
 
 -- ---- doubles
-
-pub behind_more : (n : ℕ) → (n ≡ 0 → ⊥) → 32 ≡ behind n
-behind_more zero h = absurd (h refl)
-behind_more (suc n) h = refl
 
 module _ (text : List ℕ) (at b : ℕ) (r : Bool) (d : r ≡ is_double (drop at text)) where
   -- there is no double

@@ -118,9 +118,6 @@ module _ (text : List ℕ) (r : Option (ℕ × ℕ)) (h : SmallRead text (revisi
     revision-seen : SmallRead text (revision text) (Some (rev, at))
     revision-seen = subst (SmallRead text (revision text)) e h
 
-    pub revision_inside : at ≤ length text
-    revision_inside = revision-seen.1
-
     alike : (k : ℕ) → k ≡ revision_refusal rev → reading text ≡ named k
     unfolding reading begun_by
     alike k K = ap (begun_by (length text)) revision-seen.2 ∙ sym (ap named K)
