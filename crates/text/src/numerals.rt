@@ -52,7 +52,7 @@ fn is_small(text: &[u8], at: usize, n: usize) -> bool
     text[at] != 48
 }
 
-// A small number from `at` on. As of all that read here, what was read stands before the place at which the rest begins.
+// A small number from `at` on, and where the rest begins. It is so of all that read here and in question.rt.
 pub(crate) fn small(text: &[u8], at: usize) -> Option<(usize, usize)>
     requires { at ≤ length text.now }
     ensures { SmallRead text.now (small (drop at text.now)) result }

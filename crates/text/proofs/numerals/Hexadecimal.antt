@@ -90,6 +90,7 @@ module _ (l : List ℕ) (at : ℕ) (r : Bool) (R : r ≡ is_double (drop at l)) 
   pub double_digits : r ≡ true → all is_hex (part l at 16) ≡ true
   double_digits e = (both (leb 16 (length (drop at l))) (all is_hex (part l at 16)) (sym R ∙ e)).1
 
-  pub double_got : r ≡ true → (x : Float) → x ≡ double_of (hex_of (part l at 16)) → double (drop at l) ≡ got x (drop (at + 16) l)
+  pub double_got : r ≡ true → (x : Float) → x ≡ double_of (hex_of (part l at 16))
+      → double (drop at l) ≡ got x (drop (at + 16) l)
   unfolding double
   double_got e x f = rw (sym R ∙ e, drop-drop 16 at l, f)

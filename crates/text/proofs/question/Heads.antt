@@ -23,7 +23,8 @@ module _ (text : List ℕ) where
 
   -- the text begins with its key: it is read as any other
   pub revision-read : (p : Option ℕ) → WordRead text (word (bytes "rev=") (drop 0 text)) p → is_some p ≡ true
-      → (r : Option (ℕ × ℕ)) → SmallRead text (small_line (bytes "rev=") (drop 0 text)) r → SmallRead text (revision text) r
+      → (r : Option (ℕ × ℕ)) → SmallRead text (small_line (bytes "rev=") (drop 0 text)) r
+      → SmallRead text (revision text) r
   unfolding revision revision_by
   revision-read None key e r h = absurd (true≢false (sym e))
   revision-read (Some i) key e r h =
@@ -31,7 +32,8 @@ module _ (text : List ℕ) where
 
 -- ---- the three lines from `at` on: none of them is there, or the first, or two, or all three
 
-module _ (text : List ℕ) (at : ℕ) (r : Option (ℕ × ℕ)) (one : SmallRead text (small_line (bytes "dim=") (drop at text)) r) where
+module _ (text : List ℕ) (at : ℕ) (r : Option (ℕ × ℕ))
+    (one : SmallRead text (small_line (bytes "dim=") (drop at text)) r) where
   pub sizes_none : r ≡ None → sizes (drop at text) ≡ bad
   unfolding sizes
   sizes_none e = then-bad (small_line (bytes "dim=") (drop at text)) _ (subst (SmallRead text _) e one)

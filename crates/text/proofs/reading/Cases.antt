@@ -97,7 +97,8 @@ module _ (rev : ℕ) (text : List ℕ) (at : ℕ) (r : Option (Sizes × ℕ)) (h
     head-refused zero K never = absurd (never refl)
     head-refused (suc k) K never = same (suc k) K
 
-    pub head-asked : (k : ℕ) (m : List Float) (a : Result Asked Refusal) → k ≡ sizes_refusal s.dim s.degree s.count → k ≡ 0
+    pub head-asked : (k : ℕ) (m : List Float) (a : Result Asked Refusal)
+        → k ≡ sizes_refusal s.dim s.degree s.count → k ≡ 0
         → TextRead (complete_by rev s (length text) (numbers s (drop i text))) m a
         → TextRead from m a
     unfolding opened_by

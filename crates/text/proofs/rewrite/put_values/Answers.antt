@@ -43,4 +43,5 @@ pub returns : goal.returns
 returns c =
     let l = c.loop-i in
     let a = c.args in
-    (values_all a.xs.now a.from a.n c.requires.n_in_bounds.1 a.out.now a.at l.i l.out (omega arith) (omega arith) l.invariant, refl)
+    let all = values_all a.xs.now a.from a.n c.requires.n_in_bounds.1 a.out.now a.at l.i l.out in
+    (all (omega arith) (omega arith) l.invariant, refl)
