@@ -6,8 +6,8 @@
 ghost use Rattle.text.specs.Form.{Within};
 
 use input::read_input;
-use std::io;
 use model::refusal::Refusal;
+use std::io;
 use text::rewrite::rewrite;
 
 // Says on standard error by what the text is refused.
@@ -17,11 +17,7 @@ fn say_refused(rt: &impl Eprint, refused: Refusal) -> io::Result<()> {
 }
 
 // Prints what the writer gave, which stands at the front of `form`.
-fn print(
-    rt: &(impl Print + Eprint),
-    form: &[u8],
-    given: Result<usize, Refusal>,
-) -> io::Result<()>
+fn print(rt: &(impl Print + Eprint), form: &[u8], given: Result<usize, Refusal>) -> io::Result<()>
     requires { Within given form.now }
 {
     match given {

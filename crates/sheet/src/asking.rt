@@ -99,10 +99,8 @@ fn summed(sum: [u8; 150], f: Found) -> [u8; 150]
     ensures { SumAfter sum f result }
 {
     match f {
-        Found::Nothing(_, _, _) => sum,
         Found::Enclosed(lo, hi, _, _, _) => { take_double(add_double(sum, hi), lo) }
-        Found::Spent(_, _, _, _) => sum,
-        Found::Refused(_, _, _, _) => sum,
+        _ => sum,
     }
 }
 

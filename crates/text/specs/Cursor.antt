@@ -1,11 +1,12 @@
 -- How the code says what it read: by the place at which the rest of the text begins. Definitions only.
-use Rattle.std.specs.Prelude.{ℕ, ◌+◌, ◌*◌, ◌≤◌, ◌≡◌, true, List, [], ◌∷◌, ◌++◌, length, drop, get_or, Option, Some, None, Result, Ok, Err, Float}
+use Rattle.std.specs.Prelude.{ℕ, ◌+◌, ◌*◌, ◌≤◌, ◌≡◌, List, [], ◌∷◌, ◌++◌, length, drop, get_or, Float}
+use Rattle.std.specs.Prelude.{Option, Some, None, Result, Ok, Err}
 use Rattle.std.specs.Float.{nan}
-use Rattle.lists.specs.Lists.{all, part, put}
+use Rattle.lists.specs.Lists.{part, put}
 use Rattle.model.specs.Numbers.{number_of}
 use Rattle.model.specs.declared.refusal.Refusal.{Refusal}
 use Rattle.text.specs.Bytes.{bytes, Read, bad, got, then, word}
-use Rattle.text.specs.Numerals.{is_hex, hex_of, double_of, double}
+use Rattle.text.specs.Numerals.{double}
 use Rattle.text.specs.Question.{small_line, line, lines}
 use Rattle.text.specs.Question.{Sizes, knot_doubles, point_doubles, box_doubles, Numbers}
 use Rattle.text.specs.Question.{Reading, refused_by, asks}
@@ -32,18 +33,21 @@ HeadRead text spec (Some (s, i)) = (i ≤ length text) × (spec ≡ got s (drop 
 
 -- ---- doubles
 
--- A double stands at `at`, with the byte b behind it, and the rest begins at i.
-pub record ValueAt (text : List ℕ) (at b i : ℕ) : Type 0 where
+-- A double was read. It has sixteen digits.
+abbrev pub DoubleRead : List ℕ → ℕ → Option Float → Type 0
+DoubleRead text at None = double (drop at text) ≡ bad
+DoubleRead text at (Some x) = (at + 16 ≤ length text) × (double (drop at text) ≡ got x (drop (at + 16) text))
+
+-- The double x stands at `at`, with the byte b behind it, and the rest begins at i.
+pub record ValueAt (text : List ℕ) (at b : ℕ) (x : Float) (i : ℕ) : Type 0 where
   pub inside : i ≤ length text
-  pub room : at + 16 ≤ length text
-  pub digits : all is_hex (part text at 16) ≡ true
-  pub reads : double (drop at text) ≡ got (double_of (hex_of (part text at 16))) (drop (at + 16) text)
+  pub reads : double (drop at text) ≡ got x (drop (at + 16) text)
   pub goes_on : word (b ∷ []) (drop (at + 16) text) ≡ got tt (drop i text)
 
 -- A double and the byte b behind it were read.
-abbrev pub ValueRead : List ℕ → ℕ → ℕ → Option ℕ → Type 0
+abbrev pub ValueRead : List ℕ → ℕ → ℕ → Option (Float × ℕ) → Type 0
 ValueRead text at b None = then (double (drop at text)) (λ x rest. word (b ∷ []) rest) ≡ bad
-ValueRead text at b (Some i) = ValueAt text at b i
+ValueRead text at b (Some (x, i)) = ValueAt text at b x i
 
 -- n doubles were read up to i, and written to the memory l from `to` on, which became m.
 pub record ValuesAt (text : List ℕ) (spec : Read (List Float)) (n to : ℕ) (l m : List Float) (i : ℕ) : Type 0 where

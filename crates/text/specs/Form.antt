@@ -1,6 +1,7 @@
 -- The one form of a text (request E7): what the writer gives for a question, which texts it refuses, and what it leaves
 -- of the bytes that it is lent. Definitions only.
-use Rattle.std.specs.Prelude.{ℕ, zero, suc, ◌≡◌, cond, List, [], ◌∷◌, ◌++◌, length, take, drop, leb, Result, Ok, Err, Float}
+use Rattle.std.specs.Prelude.{ℕ, zero, suc, ◌≡◌, cond, List, [], ◌∷◌, ◌++◌, length, take, drop, leb, Float}
+use Rattle.std.specs.Prelude.{Result, Ok, Err}
 use Rattle.lists.specs.Lists.{put}
 use Rattle.model.specs.Call.{curve_of, question_refusal}
 use Rattle.model.specs.Subdivide.{positive_zero}

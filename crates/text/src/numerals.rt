@@ -5,7 +5,7 @@ ghost use Rattle.std.specs.Char.{is_ascii_digit};
 ghost use Rattle.lists.specs.Lists.{part, all};
 ghost use Rattle.text.specs.Numerals.{is_digit, digits, decimal_of, is_small, small};
 ghost use Rattle.text.specs.Numerals.{nibble, is_hex, hex_of, is_double, double_of};
-ghost use Rattle.text.specs.Cursor.{SmallRead};
+ghost use Rattle.text.specs.Cursor.{SmallRead, DoubleRead};
 
 // How many digits these bytes begin with.
 fn leading(s: &[u8]) -> usize
@@ -52,7 +52,7 @@ fn is_small(text: &[u8], at: usize, n: usize) -> bool
     text[at] != 48
 }
 
-// A small number from `at` on. As of all that read here, what was read stands before the place at which the rest begins.
+// A small number from `at` on, and where the rest begins. It is so of all that read here and in question.rt.
 pub(crate) fn small(text: &[u8], at: usize) -> Option<(usize, usize)>
     requires { at ≤ length text.now }
     ensures { SmallRead text.now (small (drop at text.now)) result }
@@ -85,7 +85,7 @@ fn all_hex(s: &[u8]) -> bool
 }
 
 // Sixteen hexadecimal digits stand from `at` on.
-pub(crate) fn is_double(text: &[u8], at: usize) -> bool
+fn is_double(text: &[u8], at: usize) -> bool
     requires { at ≤ length text.now }
     ensures { let t = text.now in
         (result ≡ is_double (drop at t)) × (result ≡ true → at + 16 ≤ length t) }
@@ -115,10 +115,13 @@ fn double_of(bits: u64) -> f64
     f64::from_bits(bits)
 }
 
-// The double from `at` on, where sixteen hexadecimal digits stand.
-pub(crate) fn double(text: &[u8], at: usize) -> f64
-    requires { (at + 16 ≤ length text.now) × (all is_hex (part text.now at 16) ≡ true) }
-    ensures { result ≡ double_of (hex_of (part text.now at 16)) }
+// The double from `at` on.
+pub(crate) fn double(text: &[u8], at: usize) -> Option<f64>
+    requires { at ≤ length text.now }
+    ensures { DoubleRead text.now at result }
 {
-    double_of(hex_of(text, at))
+    if !is_double(text, at) {
+        return None;
+    }
+    Some(double_of(hex_of(text, at)))
 }

@@ -7,7 +7,7 @@ ghost use Rattle.text.specs.Cursor.{WordRead, SmallRead, HeadRead, ValueRead, Va
 ghost use Rattle.text.specs.Cursor.{Small, LimitsRead, ShapeRead, NumbersRead};
 
 use crate::cursor::Sizes;
-use crate::numerals::{double, is_double, small};
+use crate::numerals::{double, small};
 
 // The word w from `at` on.
 fn word(text: &[u8], at: usize, w: &[u8]) -> Option<usize>
@@ -52,15 +52,14 @@ pub(crate) fn behind(n: usize) -> u8
     if n == 0 { 10 } else { 32 }
 }
 
-// One double from `at` on, with the byte b behind it: where the rest begins.
-fn value(text: &[u8], at: usize, b: u8) -> Option<usize>
+// One double from `at` on, with the byte b behind it, and where the rest begins.
+fn value(text: &[u8], at: usize, b: u8) -> Option<(f64, usize)>
     requires { at ≤ length text.now }
     ensures { ValueRead text.now at b result }
 {
-    if !is_double(text, at) {
-        return None;
-    }
-    byte(text, at + 16, b)
+    let x = double(text, at)?;
+    let end = byte(text, at + 16, b)?;
+    Some((x, end))
 }
 
 // n doubles from `at` on, written to `out` from `to` on.
@@ -71,8 +70,8 @@ fn values(text: &[u8], at: usize, n: usize, out: &mut [f64], to: usize) -> Optio
 {
     let mut k = at;
     for i in 0..n {
-        let j = value(text, k, behind(n - i - 1))?;
-        out[to + i] = double(text, k);
+        let (x, j) = value(text, k, behind(n - i - 1))?;
+        out[to + i] = x;
         k = j;
     }
     Some(k)
@@ -113,9 +112,9 @@ fn lines(
 pub(crate) fn revision(text: &[u8]) -> Option<(usize, usize)>
     ensures { SmallRead text.now (revision text.now) result }
 {
-    let Some(_) = word(text, 0, b"rev=") else {
+    if word(text, 0, b"rev=").is_none() {
         return Some((1, 0));
-    };
+    }
     small_line(text, 0, b"rev=")
 }
 
@@ -127,12 +126,7 @@ pub(crate) fn sizes(text: &[u8], at: usize) -> Option<(Sizes, usize)>
     let (dim, i) = small_line(text, at, b"dim=")?;
     let (degree, j) = small_line(text, i, b"degree=")?;
     let (count, k) = small_line(text, j, b"count=")?;
-    let found = Sizes {
-        dim,
-        degree,
-        count,
-    };
-    Some((found, k))
+    Some((Sizes { dim, degree, count }, k))
 }
 
 // The line of the nodes and that of the resolution, which is written to the front of `out`.
@@ -160,12 +154,7 @@ fn shape(text: &[u8], at: usize, s: Sizes, out: &mut [f64]) -> Option<usize>
 }
 
 // All the other lines.
-pub(crate) fn numbers(
-    text: &[u8],
-    at: usize,
-    s: Sizes,
-    out: &mut [f64],
-) -> Option<(usize, usize)>
+pub(crate) fn numbers(text: &[u8], at: usize, s: Sizes, out: &mut [f64]) -> Option<(usize, usize)>
     requires { (at ≤ length text.now) × Small s × (303 ≤ length out.old) }
     ensures { let t = text.now in
         NumbersRead t (numbers s (drop at t)) s out.old out.new result }

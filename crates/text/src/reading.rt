@@ -17,7 +17,13 @@ pub(crate) fn room() -> [f64; 303]
 
 // What a text of these sizes comes to, whose other lines begin at `at`. As of all that read here, the doubles of its
 // question are written to the front of `lines`: the resolution, the knots, the points, the box.
-fn read_numbers(text: &[u8], at: usize, rev: usize, s: Sizes, lines: &mut [f64]) -> Result<Asked, Refusal>
+fn read_numbers(
+    text: &[u8],
+    at: usize,
+    rev: usize,
+    s: Sizes,
+    lines: &mut [f64],
+) -> Result<Asked, Refusal>
     requires { (at ≤ length text.now) × Small s × (303 ≤ length lines.old) }
     ensures { let t = text.now in
         TextRead (complete_by rev s (length t) (numbers s (drop at t))) lines.new result }

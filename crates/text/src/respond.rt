@@ -76,10 +76,7 @@ pub fn respond(text: &[u8], out: &mut [u8]) -> usize
 fn are_numbers(x: f64, y: f64) -> bool
     ensures { result ≡ (is_number x && is_number y) }
 {
-    if is_nan(x) {
-        return false;
-    }
-    !is_nan(y)
+    !is_nan(x) && !is_nan(y)
 }
 
 // Neither bound of an answer is a NaN.
@@ -87,10 +84,8 @@ fn is_printable(f: Found) -> bool
     ensures { result ≡ is_printable f }
 {
     match f {
-        Found::Nothing(_, _, _) => true,
         Found::Enclosed(lo, hi, _, _, _) => are_numbers(lo, hi),
-        Found::Spent(_, _, _, _) => true,
-        Found::Refused(_, _, _, _) => true,
+        _ => true,
     }
 }
 

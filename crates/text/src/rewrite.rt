@@ -138,8 +138,8 @@ fn given(n: usize, room: usize) -> usize
     if n <= room { n } else { 0 }
 }
 
-// The text, written to the front of `out` where it fits: how many bytes it has. Where it does not fit, nothing is written,
-// and the number is 15.
+// The text, written to the front of `out` where it fits. The result is how many bytes it has.
+// Where it does not fit, nothing is written, and the number is 15.
 pub fn give(text: &[u8], out: &mut [u8]) -> Result<usize, Refusal>
     ensures count { result ≡ count_for (length out.old) text.now }
     ensures output { out.new ≡ output_for out.old text.now }
@@ -187,9 +187,10 @@ fn rewrite_lines(asked: Asked, lines: &[f64], out: &mut [u8]) -> Result<usize, R
     give(&text[..n], out)
 }
 
-// The one form of a text, written to the front of `out`, and how many bytes it has: lower-case digits, no negative zero, and always the line of
-// the revision. A text that 16, 1 to 9 or 12 refuses has that number, whatever room there is; an output that is too
-// short for any other has 15. Nothing is written then. 5,405 bytes are enough for any text.
+// The one form of a text, written to the front of `out`: lower-case digits, no negative zero, and always the line of
+// the revision. The result is how many bytes it has. A text that 16, 1 to 9 or 12 refuses has that number, whatever room
+// there is; an output that is too short for any other has 15. Nothing is written then. 5,405 bytes are enough for any
+// text.
 //
 // Its laws are stated in crates/text/specs/OneForm.antt and proved in crates/text/proofs/rewrite/Laws.antt:
 // `AllReadBack`, what is written reads back to the same numbers, and writing it again changes no byte; `OneForm`, two

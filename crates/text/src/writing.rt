@@ -10,10 +10,7 @@ use crate::print::{put_decimal, put_digits, put_word};
 fn has_room(bytes: usize, at: usize, n: usize) -> bool
     ensures { result ≡ leb (at + n) bytes }
 {
-    if bytes < at {
-        return false;
-    }
-    n <= bytes - at
+    at <= bytes && n <= bytes - at
 }
 
 // The word w, from `at` on. As of all that write here, the result is where the rest begins: at `at` itself where there is no room.

@@ -1,15 +1,14 @@
 -- Laws of small numbers in a text: of the digits that it begins with, and of the number that they are.
 -- Assumes nothing.
 use mathlib.Core.Path.{◌≡◌, refl, sym, ap, ◌∙◌, subst}
-use mathlib.Core.Bool.{Bool, true, false, not, cond, ◌&&◌, ◌||◌}
+use mathlib.Core.Bool.{Bool, true, false, cond, ◌&&◌}
 use mathlib.Core.List.{List, [], ◌∷◌}
 use Prim.Native.Nat.{ℕ, suc, ◌+◌, ◌-◌, ◌≤◌, ◌<◌}
-use native.Mathlib.Nat.{add-zero}
 use native.Mathlib.Omega.{arith}
 use lib.ListN.{length, take, drop, get_or, length-drop}
-use lib.Seq.{drop-drop, get_or-drop}
-use lib.Dec.{T, leb, eqb}
-use borrow.Author.Tests.{leb-true, le-leb, lt-leb, ne_eqb}
+use lib.Seq.{drop-drop}
+use lib.Dec.{T, leb}
+use borrow.Author.Tests.{leb-true}
 use Rattle.std.specs.List.{prefix_len}
 use Rattle.std.specs.Char.{is_ascii_digit}
 use Rattle.std.proofs.lemmas.List.{take_all}
@@ -97,27 +96,9 @@ module _ (t : List ℕ) (at n : ℕ) (h : at + n ≤ length t) where
 
 -- ---- small numbers
 
--- no digit
-pub small_none : (n : ℕ) (t : List ℕ) → n < 1 → false ≡ is_small n t
-small_none n t h = rw (lt-leb 1 n h)
-
--- too many
-pub small-over : (n : ℕ) (t : List ℕ) → 9 < n → false ≡ is_small n t
-small-over n t h = let g : 1 ≤ n = omega arith in rw (le-leb 1 n g, lt-leb n 9 h)
-
 -- one digit
 pub small_one : (n : ℕ) (t : List ℕ) → n ≡ 1 → true ≡ is_small n t
 small_one n t e = rw e
-
--- from two to nine
-pub small-more : (n : ℕ) (l : List ℕ) (at : ℕ) → 1 ≤ n → n ≤ 9 → (n ≡ 1 → ⊥)
-    → not (eqb (get_or l at 0) 48) ≡ is_small n (drop at l)
-small-more n l at g h e = rw (le-leb 1 n g, le-leb n 9 h, ne_eqb n 1 e, get_or-drop at l 0 0, add-zero at)
-
-pub small-nine : (n : ℕ) (t : List ℕ) → is_small n t ≡ true → n ≤ 9
-small-nine n t e =
-    let some = (both (leb 1 n && leb n 9) (eqb n 1 || not (eqb (get_or t 0 0) 48)) e).0 in
-    leb-true n 9 (both (leb 1 n) (leb n 9) some).1
 
 pub small-bad : (t : List ℕ) (n : ℕ) → n ≡ digits t → is_small n t ≡ false → small t ≡ bad
 unfolding small

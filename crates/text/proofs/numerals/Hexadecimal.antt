@@ -1,17 +1,19 @@
 -- Laws of doubles in a text: of hexadecimal digits, and of the double that sixteen of them are. Assumes nothing.
-use mathlib.Core.Path.{◌≡◌, refl, ap, ◌∙◌}
+use mathlib.Core.Path.{◌≡◌, refl, sym, ap, ◌∙◌}
 use mathlib.Core.Bool.{Bool, true, false, not, ◌&&◌}
 use mathlib.Core.List.{List, [], ◌∷◌}
 use Prim.Native.Nat.{ℕ, ◌+◌, ◌-◌, ◌/◌, ◌%◌, ◌≤◌, ◌<◌}
 use native.Mathlib.Omega.{arith}
 use lib.ListN.{length, take, drop, get_or, length-drop}
 use lib.Dec.{leb}
-use lib.Ieee.{nan, binary64, nan_bits, of_bits}
+use lib.Ieee.{Float, nan, binary64, nan_bits, of_bits}
 use borrow.Author.Tests.{leb-true, le-leb, eqb-true, eq-eqb, ne_eqb}
 use Rattle.std.specs.List.{list_all}
 use Rattle.lists.specs.Lists.{part, all}
-use Rattle.text.specs.Numerals.{is_digit, is_hex, is_double, nibble, double_of}
-use Rattle.text.proofs.numerals.Decimal.{part_all}
+use lib.Seq.{drop-drop}
+use Rattle.text.specs.Bytes.{bad, got}
+use Rattle.text.specs.Numerals.{is_digit, is_hex, is_double, hex_of, nibble, double_of, double}
+use Rattle.text.proofs.numerals.Decimal.{both, part_all}
 
 -- ---- hexadecimal digits
 
@@ -75,3 +77,20 @@ double_nan b e = rw e
 pub double_number : (b : ℕ) → nan_bits binary64 b ≡ false → of_bits binary64 b ≡ double_of b
 unfolding double_of
 double_number b e = rw e
+
+-- ---- a double in a text
+
+module _ (l : List ℕ) (at : ℕ) (r : Bool) (R : r ≡ is_double (drop at l)) where
+  -- there is none
+  pub double_none : r ≡ false → double (drop at l) ≡ bad
+  unfolding double
+  double_none e = rw (sym R ∙ e)
+
+  -- there is one
+  pub double_digits : r ≡ true → all is_hex (part l at 16) ≡ true
+  double_digits e = (both (leb 16 (length (drop at l))) (all is_hex (part l at 16)) (sym R ∙ e)).1
+
+  pub double_got : r ≡ true → (x : Float) → x ≡ double_of (hex_of (part l at 16))
+      → double (drop at l) ≡ got x (drop (at + 16) l)
+  unfolding double
+  double_got e x f = rw (sym R ∙ e, drop-drop 16 at l, f)

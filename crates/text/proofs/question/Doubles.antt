@@ -1,52 +1,40 @@
 -- Laws of reading doubles: one, a line of them, and several lines; one turn of each loop.
 use mathlib.Core.Path.{◌≡◌, refl, sym, ap, ◌∙◌, subst}
-use mathlib.Core.Bool.{Bool, true, false}
 use mathlib.Core.List.{List, [], ◌∷◌, ◌++◌, append_assoc, append-nil}
-use Prim.Native.Nat.{ℕ, zero, suc, ◌+◌, ◌-◌, ◌*◌, ◌≤◌, ◌<◌}
+use Prim.Native.Nat.{ℕ, suc, ◌+◌, ◌-◌, ◌*◌, ◌≤◌, ◌<◌}
 use native.Mathlib.Nat.{mul-zero, mul-suc, mul-le-mul_left}
 use native.Mathlib.Numerals.{add-one}
 use native.Mathlib.Omega.{arith}
 use lib.ListN.{length, drop, set, length-append}
-use lib.Seq.{drop-drop}
-use lib.Dec.{leb}
 use lib.Ieee.{Float}
-use Rattle.lists.specs.Lists.{all, part, put}
+use Rattle.lists.specs.Lists.{put}
 use Rattle.lists.proofs.Put.{put-nil, put-put, put_one, length-put}
 use Rattle.std.specs.Prelude.{Option, Some, None}
 use Rattle.text.specs.Bytes.{Read, bad, got, then, word}
-use Rattle.text.specs.Numerals.{is_hex, is_double, hex_of, double_of, double}
+use Rattle.text.specs.Numerals.{double}
 use Rattle.text.specs.Question.{behind, values, line, lines}
-use Rattle.text.specs.Cursor.{WordRead, ValueRead, ValuesAt, ValuesRead}
+use Rattle.text.specs.Cursor.{WordRead, DoubleRead, ValueAt, ValueRead, ValuesAt, ValuesRead}
 use Rattle.text.proofs.question.Words.{then-bad, then-got}
-use Rattle.text.proofs.numerals.Decimal.{both}
 
 -- ---- doubles
 
-pub behind_more : (n : ℕ) → (n ≡ 0 → ⊥) → 32 ≡ behind n
-behind_more zero h = absurd (h refl)
-behind_more (suc n) h = refl
-
-module _ (text : List ℕ) (at b : ℕ) (r : Bool) (d : r ≡ is_double (drop at text)) where
+module _ (text : List ℕ) (at b : ℕ) (r : Option Float) (d : DoubleRead text at r) where
   -- there is no double
-  pub value_none : r ≡ false → then (double (drop at text)) (λ x rest. word (b ∷ []) rest) ≡ bad
-  unfolding double
-  value_none e = then-bad _ _ (rw (sym d ∙ e))
-
-  reads : r ≡ true → double (drop at text) ≡ got (double_of (hex_of (part text at 16))) (drop (at + 16) text)
-  unfolding double
-  reads e = rw (sym d ∙ e, drop-drop 16 at text)
+  pub value_none : r ≡ None → then (double (drop at text)) (λ x rest. word (b ∷ []) rest) ≡ bad
+  value_none e = then-bad _ _ (subst (DoubleRead text at) e d)
 
   -- there is one, and the byte b behind it or not
-  pub value_is : r ≡ true → at + 16 ≤ length text → (q : Option ℕ)
-      → WordRead text (word (b ∷ []) (drop (at + 16) text)) q → ValueRead text at b q
-  value_is e h None w = then-got (double (drop at text)) _ _ _ (reads e) ∙ w
-  value_is e h (Some i) w = record {
-    inside = w.0;
-    room = h;
-    digits = (both (leb 16 (length (drop at text))) (all is_hex (part text at 16)) (sym d ∙ e)).1;
-    reads = reads e;
-    goes_on = w.1;
-  }
+  module _ (x : Float) (e : r ≡ Some x) (q : Option ℕ) (w : WordRead text (word (b ∷ []) (drop (at + 16) text)) q) where
+    there : DoubleRead text at (Some x)
+    there = subst (DoubleRead text at) e d
+
+    pub value-endless : q ≡ None → then (double (drop at text)) (λ x rest. word (b ∷ []) rest) ≡ bad
+    value-endless f = then-got (double (drop at text)) _ _ _ there.1 ∙ subst (WordRead text _) f w
+
+    pub value_is : (i : ℕ) → q ≡ Some i → ValueAt text at b x i
+    value_is i f =
+        let v = subst (WordRead text _) f w in
+        record { inside = v.0; reads = there.1; goes_on = v.1 }
 
 -- Some doubles, and what is read behind them.
 pub prepend : List Float → Read (List Float) → Read (List Float)
@@ -140,7 +128,7 @@ module _ (text : List ℕ) (n at to : ℕ) (l : List Float) where
   pub values_begin : Values 0 at l
   values_begin = let z : n ≡ n - 0 = omega arith in taken_none to l (ap (λ (q : ℕ). values q (drop at text)) z)
 
-  module _ (i k b : ℕ) (m : List Float) (r : Option ℕ) (less : i < n) (sep : b ≡ behind (n - i - 1))
+  module _ (i k b : ℕ) (m : List Float) (r : Option (Float × ℕ)) (less : i < n) (sep : b ≡ behind (n - i - 1))
       (read : ValueRead text k b r) (so : Values i k m) where
     next : n - i ≡ suc (n - i - 1)
     next = omega arith
@@ -151,14 +139,14 @@ module _ (text : List ℕ) (n at to : ℕ) (l : List Float) where
         taken-bad so (values-stuck (n - i) (n - i - 1) (drop k text) b next sep (subst (ValueRead text k b) e read))
 
     -- one value
-    pub values_turn : (j : ℕ) (x : Float) → r ≡ Some j → x ≡ double_of (hex_of (part text k 16)) → to + n ≤ length l
+    pub values_turn : (x : Float) (j : ℕ) → r ≡ Some (x, j) → to + n ≤ length l
         → Values (i + 1) j (set m (to + i) x)
-    values_turn j x e f h =
+    values_turn x j e h =
         let v = subst (ValueRead text k b) e read in
         let s : n - i - 1 ≡ n - (i + 1) = omega arith in
         let w : length m ≡ length l = rw so.wrote (length-put l to so.xs (omega (arith, so.long))) in
         let o : values (n - i) (drop k text) ≡ prepend (x ∷ []) (values (n - (i + 1)) (drop j text)) =
-        rw (f, ← s) (values_one (n - i) (n - i - 1) _ _ (drop j text) b _ next sep v.reads v.goes_on) in
+        rw (← s) (values_one (n - i) (n - i - 1) _ _ (drop j text) b _ next sep v.reads v.goes_on) in
         rw (put_one m (to + i) x (omega arith)) (taken_more so (x ∷ []) o refl (omega arith))
 
   -- behind the last value

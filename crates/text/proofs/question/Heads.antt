@@ -4,7 +4,8 @@ use mathlib.Core.List.{List}
 use Prim.Native.Nat.{ℕ}
 use native.Mathlib.Omega.{arith}
 use lib.ListN.{drop}
-use Rattle.std.specs.Prelude.{Option, Some, None}
+use mathlib.Core.Bool.{true, false, true≢false}
+use Rattle.std.specs.Prelude.{Option, Some, None, is_some}
 use Rattle.text.specs.Bytes.{bytes, Read, bad, got, then, word}
 use Rattle.text.specs.Question.{small_line, revision_by, revision, sizes_of, sizes}
 use Rattle.text.specs.Cursor.{WordRead, SmallRead, HeadRead}
@@ -12,20 +13,27 @@ use Rattle.text.proofs.question.Words.{then-bad, then-got}
 
 -- ---- the line of the revision
 
-module _ (text : List ℕ) (p : Option ℕ) (key : WordRead text (word (bytes "rev=") (drop 0 text)) p) where
+module _ (text : List ℕ) where
   -- there is none: the revision is 1, and nothing is read
-  pub revision_none : p ≡ None → SmallRead text (revision text) (Some (1, 0))
+  pub revision_none : (p : Option ℕ) → WordRead text (word (bytes "rev=") (drop 0 text)) p → is_some p ≡ false
+      → SmallRead text (revision text) (Some (1, 0))
   unfolding revision revision_by
-  revision_none e = (omega arith, omega arith, ap (revision_by text) (subst (WordRead text _) e key))
+  revision_none None key e = (omega arith, omega arith, ap (revision_by text) key)
+  revision_none (Some i) key e = absurd (true≢false e)
 
   -- the text begins with its key: it is read as any other
-  pub revision-read : (i : ℕ) (r : Option (ℕ × ℕ)) → p ≡ Some i → SmallRead text (small_line (bytes "rev=") (drop 0 text)) r → SmallRead text (revision text) r
+  pub revision-read : (p : Option ℕ) → WordRead text (word (bytes "rev=") (drop 0 text)) p → is_some p ≡ true
+      → (r : Option (ℕ × ℕ)) → SmallRead text (small_line (bytes "rev=") (drop 0 text)) r
+      → SmallRead text (revision text) r
   unfolding revision revision_by
-  revision-read i r e h = subst (λ (x : Read ℕ). SmallRead text x r) (sym (ap (revision_by text) (subst (WordRead text _) e key).1)) h
+  revision-read None key e r h = absurd (true≢false (sym e))
+  revision-read (Some i) key e r h =
+      subst (λ (x : Read ℕ). SmallRead text x r) (sym (ap (revision_by text) key.1)) h
 
 -- ---- the three lines from `at` on: none of them is there, or the first, or two, or all three
 
-module _ (text : List ℕ) (at : ℕ) (r : Option (ℕ × ℕ)) (one : SmallRead text (small_line (bytes "dim=") (drop at text)) r) where
+module _ (text : List ℕ) (at : ℕ) (r : Option (ℕ × ℕ))
+    (one : SmallRead text (small_line (bytes "dim=") (drop at text)) r) where
   pub sizes_none : r ≡ None → sizes (drop at text) ≡ bad
   unfolding sizes
   sizes_none e = then-bad (small_line (bytes "dim=") (drop at text)) _ (subst (SmallRead text _) e one)

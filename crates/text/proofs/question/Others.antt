@@ -22,7 +22,8 @@ put_next l a b xs ys e h = rw e (put-put l a xs ys h)
 
 -- ---- the limits, by how many of their lines are there
 
-module _ (text t : List ℕ) (r : Option (ℕ × ℕ)) (one : SmallRead text (small_line (bytes "nodes=") t) r) (l m : List Float) where
+module _ (text t : List ℕ) (r : Option (ℕ × ℕ)) (one : SmallRead text (small_line (bytes "nodes=") t) r)
+    (l m : List Float) where
   -- The two lines.
   abbrev limits-lines : Read (List Float)
   limits-lines = then (small_line (bytes "nodes=") t) (λ _ a. line (bytes "resolution=") 1 a)

@@ -97,7 +97,8 @@ module _ (rev : ℕ) (text : List ℕ) (at : ℕ) (r : Option (Sizes × ℕ)) (h
     head-refused zero K never = absurd (never refl)
     head-refused (suc k) K never = same (suc k) K
 
-    pub head-asked : (k : ℕ) (m : List Float) (a : Result Asked Refusal) → k ≡ sizes_refusal s.dim s.degree s.count → k ≡ 0
+    pub head-asked : (k : ℕ) (m : List Float) (a : Result Asked Refusal)
+        → k ≡ sizes_refusal s.dim s.degree s.count → k ≡ 0
         → TextRead (complete_by rev s (length text) (numbers s (drop i text))) m a
         → TextRead from m a
     unfolding opened_by
@@ -117,9 +118,6 @@ module _ (text : List ℕ) (r : Option (ℕ × ℕ)) (h : SmallRead text (revisi
 
     revision-seen : SmallRead text (revision text) (Some (rev, at))
     revision-seen = subst (SmallRead text (revision text)) e h
-
-    pub revision_inside : at ≤ length text
-    revision_inside = revision-seen.1
 
     alike : (k : ℕ) → k ≡ revision_refusal rev → reading text ≡ named k
     unfolding reading begun_by

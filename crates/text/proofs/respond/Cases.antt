@@ -3,28 +3,21 @@ use mathlib.Core.Path.{◌≡◌, refl, sym, ap, ◌∙◌, subst}
 use Prim.Native.Nat.{ℕ, ◌≤◌, ◌<◌}
 use native.Mathlib.Omega.{arith}
 use borrow.Author.Tests.{le-leb, lt-leb}
-use lib.Dec.{T, leb}
+use lib.Dec.{leb}
 use mathlib.Core.Bool.{Bool, true, false, ◌&&◌}
 use mathlib.Core.List.{List, []}
 use Rattle.lists.proofs.Put.{put-nil}
-use Rattle.text.specs.Printable.{Written, is_number, Printable, is_printable}
+use Rattle.text.specs.Printable.{Written, is_printable}
 use lib.ListN.{length, take}
 use lib.Seq.{length-take-le}
-use Rattle.math.proofs.Bools.{yes, and_l, and_r, and_yes, and_no, pick_yes, pick_no}
+use Rattle.math.proofs.Bools.{and_yes, and_no, pick_yes, pick_no}
 use Rattle.model.specs.Paper.{paper}
 use Rattle.model.specs.declared.contains.Found.{Found}
-use Rattle.model.specs.declared.contains.Found.TheVariants.{Nothing, Enclosed, Spent, Refused}
-use Rattle.text.specs.Question.{Reading, reading}
+use Rattle.text.specs.Question.{reading}
 use Rattle.text.specs.Respond.{answered, printed, response, fitting, printed_in, AnswersReading, SaysAnswer}
 use Rattle.text.specs.Counts.{Counts}
 use Rattle.text.proofs.print.Writing.{written-front}
 use Rattle.text.proofs.respond.Lent.{answer_same}
-
--- ---- the answer
-
--- An answer to what the text comes to is one to the text.
-pub answers-read : (a b : Reading) (r : Found) → a ≡ b → AnswersReading b r → AnswersReading a r
-answers-read a b r e h = subst (λ (x : Reading). AnswersReading x r) (sym e) h
 
 -- ---- what is written
 
@@ -54,15 +47,6 @@ too_short text l h =
     )
 
 -- ---- the lines of any answer
-
--- the test says what it is to say
-pub printable_is : {b : Bool} (f : Found) → b ≡ is_printable f → b ≡ true → Printable f
-printable_is (Nothing v k d) e h = tt
-printable_is (Spent n v k d) e h = tt
-printable_is (Refused n v k d) e h = tt
-printable_is (Enclosed lo hi v k d) e h =
-    let both : T (is_number lo && is_number hi) = yes _ (sym e ∙ h) in
-    (and_l (is_number lo) (is_number hi) both, and_r (is_number lo) (is_number hi) both)
 
 -- all of them
 pub prints : {l m : List ℕ} {r : ℕ} {b : Bool} (f : Found) → 192 ≤ length l → b ≡ is_printable f → b ≡ true → length m ≡ length l → r ≤ 192

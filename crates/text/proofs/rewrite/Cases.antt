@@ -85,8 +85,8 @@ on-paper n (asks rev s q) = by (length (form rev s q)) (leb (length (form rev s 
     by w false = refl
 
 -- so what is given and what is left are all that is to be shown
-rewrites : (a : Reading) (l m : List ℕ) (r : Result ℕ Refusal) → numbered r ≡ rewritten_by (length l) a → m ≡ output_by l a
-    → Rewrites a l m r
+rewrites : (a : Reading) (l m : List ℕ) (r : Result ℕ Refusal)
+    → numbered r ≡ rewritten_by (length l) a → m ≡ output_by l a → Rewrites a l m r
 rewrites a l m r R M =
     record { result = R; paper = same_paper r ∙ ap paper_of R ∙ on-paper (length l) a; memory = M }
 
@@ -99,8 +99,8 @@ rewrites_refused text l n e =
     rewrites (accepted text) l l (Err n) (sym (ap (rewritten_by (length l)) a)) (sym (ap (output_by l) a))
 
 -- it comes to a question
-pub rewrites_asked : (text l m : List ℕ) (rev : ℕ) (s : Sizes) (q : Numbers) (r : Result ℕ Refusal) → reading text ≡ asks rev s q
-    → Rewrites (accepted_by (asks rev s q)) l m r → Rewrites (accepted text) l m r
+pub rewrites_asked : (text l m : List ℕ) (rev : ℕ) (s : Sizes) (q : Numbers) (r : Result ℕ Refusal)
+    → reading text ≡ asks rev s q → Rewrites (accepted_by (asks rev s q)) l m r → Rewrites (accepted text) l m r
 unfolding accepted
 rewrites_asked text l m rev s q r e h = subst (λ (a : Reading). Rewrites (accepted_by a) l m r) (sym e) h
 

@@ -12,7 +12,8 @@ loop-i-preserved c =
     let l = c.loop-i in (
       length-set l.s l.i _ ∙ l.invariant.0,
       omega (arith, c.from.ensures, c.loop-i-test.element_fits.fits),
-      ap (λ (g : ℕ). let v = g + l.rest % 256 in number (set l.s l.i (v % 256)) + (l.rest / 256 + v / 256) * 256 ^ (l.i + 1)) c.from.ensures
+      ap (λ (g : ℕ). let v = g + l.rest % 256 in
+          number (set l.s l.i (v % 256)) + (l.rest / 256 + v / 256) * 256 ^ (l.i + 1)) c.from.ensures
           ∙ sum_turn l.s l.i l.rest _ (omega (arith, l.invariant.0)) l.invariant.2,
     )
 

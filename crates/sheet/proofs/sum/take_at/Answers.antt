@@ -15,9 +15,12 @@ loop-i-preserved c =
     let l = c.loop-i in (
       length-set l.s l.i _ ∙ l.invariant.0,
       omega (arith, c.from.ensures, c.loop-i-test.element_fits.fits),
-      ap (λ (g : ℕ). let v = g + (256 - l.rest % 256) in number k + (l.rest / 256 + (1 - v / 256)) * 256 ^ (l.i + 1)) c.from.ensures
-          ∙ rest_turn l.s l.i l.rest _ _ (omega (arith, l.invariant.0)) (omega (arith, c.from.ensures, c.loop-i-test.element_fits.fits)) l.invariant.2
-          ∙ ap (λ (g : ℕ). let v = g + (256 - l.rest % 256) in number (set l.s l.i (v % 256)) + x * 256 ^ a) (sym c.from.ensures),
+      ap (λ (g : ℕ). let v = g + (256 - l.rest % 256) in
+          number k + (l.rest / 256 + (1 - v / 256)) * 256 ^ (l.i + 1)) c.from.ensures
+          ∙ rest_turn l.s l.i l.rest _ _ (omega (arith, l.invariant.0))
+          (omega (arith, c.from.ensures, c.loop-i-test.element_fits.fits)) l.invariant.2
+          ∙ ap (λ (g : ℕ). let v = g + (256 - l.rest % 256) in
+          number (set l.s l.i (v % 256)) + x * 256 ^ a) (sym c.from.ensures),
     )
 
 pub returns : goal.returns

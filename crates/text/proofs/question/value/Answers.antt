@@ -1,15 +1,19 @@
 -- `value` reads a double and the byte behind it.
-use Rattle.text.proofs.question.Doubles.{value_none, value_is}
+use Rattle.text.proofs.question.Doubles.{value_none, value-endless, value_is}
 use Rattle.text.proofs.question.value.Goals as goal
 
-pub returns-then-not-is_double : goal.returns-then-not-is_double
-returns-then-not-is_double c =
+pub returns-in_err-x : goal.returns-in_err-x
+returns-in_err-x c =
     let a = c.args in
-    value_none a.text.now a.at a.b _ c.is_double.ensures.0 c.if-not-is_double.true
+    rw c.from_residual.ensures (value_none a.text.now a.at a.b _ c.double.ensures c.in_err-x.was)
+
+pub returns-in_err-end : goal.returns-in_err-end
+returns-in_err-end c =
+    let a = c.args in
+    rw c.from_residual-in_err-end.ensures
+    (value-endless a.text.now a.at a.b _ c.double.ensures _ c.in_ok-x.was _ c.byte.ensures c.in_err-end.was)
 
 pub returns : goal.returns
 returns c =
-    let d = c.is_double in
     let a = c.args in
-    let t = c.if-not-is_double.false in
-    value_is a.text.now a.at a.b _ d.ensures.0 t (d.ensures.1 t) c.byte.result c.byte.ensures
+    value_is a.text.now a.at a.b _ c.double.ensures _ c.in_ok-x.was _ c.byte.ensures _ c.in_ok-end.was

@@ -10,22 +10,22 @@ loop-i-init c =
     let a = c.args in
     (omega arith, values_begin a.text.now a.n a.at a.to a.out.now)
 
-pub returns-in_err-j : goal.returns-in_err-j
-returns-in_err-j c =
+pub returns-in_err-x : goal.returns-in_err-x
+returns-in_err-x c =
     let l = c.loop-i in
     let a = c.args in
     rw c.from_residual.ensures
     (values-stop a.text.now a.n a.at a.to a.out.now l.i l.k _ l.out _ (omega arith)
-    c.behind.ensures c.value.ensures l.invariant.1 c.in_err-j.was)
+    c.behind.ensures c.value.ensures l.invariant.1 c.in_err-x.was)
 
 pub loop-i-preserved : goal.loop-i-preserved
 loop-i-preserved c =
     let l = c.loop-i in
     let a = c.args in
-    let e = c.in_ok-j.was in (
+    let e = c.in_ok-x.was in (
       (subst (ValueRead _ _ _) e c.value.ensures).inside,
       values_turn a.text.now a.n a.at a.to a.out.now l.i l.k _ l.out _ (omega arith)
-          c.behind.ensures c.value.ensures l.invariant.1 _ _ e c.double.ensures (omega arith),
+          c.behind.ensures c.value.ensures l.invariant.1 _ _ e (omega arith),
     )
 
 pub returns : goal.returns

@@ -22,7 +22,10 @@ put_line-p-requires c =
     let bytes-in = row_in (6 + 17 * c.args.n) c.loop-i.i c.args.k (omega arith) in
     let doubles-in = row_in c.args.n c.loop-i.i c.args.k (omega arith) in
     let l = c.loop-i in
-    let a = c.args in record { n_in_bounds = (omega (arith, bytes-in, l.invariant.0), omega (arith, doubles-in)); n_value = all_part is_number a.xs.now a.from (a.n * a.k) (a.n * l.i) a.n doubles-in c.requires.k_value }
+    let a = c.args in record {
+      n_in_bounds = (omega (arith, bytes-in, l.invariant.0), omega (arith, doubles-in));
+      n_value = all_part is_number a.xs.now a.from (a.n * a.k) (a.n * l.i) a.n doubles-in c.requires.k_value;
+    }
 
 pub loop-i-preserved : goal.loop-i-preserved
 unfolding bytes

@@ -35,12 +35,13 @@ loop-i-preserved c =
     let w = c.put_double-k in
     let long : length w.new.out ≡ length a.out.now = w.auto.out ∙ l.auto.out in
     values-more a.xs.now a.from a.n c.requires.n_in_bounds.1 a.out.now a.at l.i l.out w.new.out w.result
-          c.behind.result (omega arith) c.requires.n_in_bounds.0 l.invariant l.auto.out long w.ensures.1 c.behind.ensures
-          (subst (λ (x : Float). Written l.out (a.at + 17 * l.i) (hexadecimal x) w.new.out w.result)
-          c.positive_zero-y.ensures w.ensures.0)
+    c.behind.result (omega arith) c.requires.n_in_bounds.0 l.invariant l.auto.out long w.ensures.1 c.behind.ensures
+    (subst (λ (x : Float). Written l.out (a.at + 17 * l.i) (hexadecimal x) w.new.out w.result)
+    c.positive_zero-y.ensures w.ensures.0)
 
 pub returns : goal.returns
 returns c =
     let l = c.loop-i in
     let a = c.args in
-    (values_all a.xs.now a.from a.n c.requires.n_in_bounds.1 a.out.now a.at l.i l.out (omega arith) (omega arith) l.invariant, refl)
+    let all = values_all a.xs.now a.from a.n c.requires.n_in_bounds.1 a.out.now a.at l.i l.out in
+    (all (omega arith) (omega arith) l.invariant, refl)
