@@ -10,16 +10,11 @@ use geometry::contains::curve_could_contain;
 use model::contains::Found;
 
 // Degree is above 3, count above 8 or nodes above 48.
+#[tactic(auto, unfolding(crate::specs::Cart::is_beyond))]
 fn is_beyond(degree: usize, count: usize, nodes: usize) -> bool
     ensures { result ≡ is_beyond degree count nodes }
 {
-    if 3 < degree {
-        return true;
-    }
-    if 8 < count {
-        return true;
-    }
-    48 < nodes
+    3 < degree || 8 < count || 48 < nodes
 }
 
 // `curve_could_contain` of crates/geometry on the cart, which has a work area of its own.

@@ -8,7 +8,7 @@ use Rattle.math.proofs.Bools.{yes, no}
 use Rattle.model.specs.Call.{Call, refusal, arithmetic_of, searched_by, searched, answer_to}
 use Rattle.model.specs.Enclosure.{Accepted, HitsEnclosed}
 use Rattle.model.specs.declared.contains.Found.{Found}
-use Rattle.model.specs.declared.contains.Found.TheVariants.{Nothing}
+use Rattle.model.specs.declared.contains.Found.TheVariants.{Nothing, Enclosed, Spent, Refused}
 use Rattle.model.specs.Promise.{Answers}
 use Rattle.clear.specs.Clear.{is_clear, Clears}
 
@@ -20,6 +20,14 @@ accepted c v k d h = go (refusal c) refl h
     go : (n : ℕ) → refusal c ≡ n → Nothing v k d ≡ searched_by (arithmetic_of c) c n → refusal c ≡ 0
     go zero e h = e
     go (suc n) e h = absurd (no true (ap is_clear h) tt)
+
+-- any other result
+pub other : (r : Found) → ((v k d : ℕ) → r ≡ Nothing v k d → ⊥) → is_clear r ≡ false
+unfolding is_clear
+other (Nothing v k d) h = absurd (h v k d refl)
+other (Enclosed lo hi v k d) h = refl
+other (Spent n v k d) h = refl
+other (Refused n v k d) h = refl
 
 module _ (c : Call) (before after : List Float) (r : Found) (P : Answers c before after r) where
   -- The promises, of the answer that the definition gives.

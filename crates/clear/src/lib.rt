@@ -26,12 +26,8 @@ pub fn is_clear(
         let c = lent rev dim degree count k p b resolution nodes (length work.old) in
         Clears c work.old work.new result }
 {
-    match curve_could_contain(
+    let found = curve_could_contain(
         rev, dim, degree, count, knots, points, point_box, resolution, nodes, work,
-    ) {
-        Found::Nothing(_, _, _) => true,
-        Found::Enclosed(_, _, _, _, _) => false,
-        Found::Spent(_, _, _, _) => false,
-        Found::Refused(_, _, _, _) => false,
-    }
+    );
+    matches!(found, Found::Nothing(..))
 }

@@ -1,7 +1,7 @@
 // The text on standard input or in a file, for the programs.
 #![tactic(auto)]
 
-ghost use Rattle.std.specs.Prelude.{◌≡◌, ◌+◌, ◌<◌, ◌≤◌, false, min, length, take};
+ghost use Rattle.std.specs.Prelude.{◌≡◌, ◌+◌, ◌<◌, ◌≤◌, false, length, take};
 ghost use Rattle.std.specs.Io.KnownBytes.{Consumes, IsAtEnd};
 ghost use Rattle.std.specs.List.{between};
 ghost use Rattle.input.specs.Counts.{IsPrefixLen};
@@ -11,18 +11,11 @@ use std::io;
 use std::io::Read;
 
 // What was read: so many bytes at the front of a slice, and whether a read failed.
+// (No `Result`: the bytes count after a failure too.)
 #[derive(Clone, Copy)]
 pub struct Input {
     pub bytes: usize,
     pub failed: bool,
-}
-
-// The lesser of two.
-fn lesser(a: usize, b: usize) -> usize
-    ensures bound { (result ≤ a) × (result ≤ b) }
-    ensures value { result ≡ min a b }
-{
-    if a < b { a } else { b }
 }
 
 // One read into `room`, of which what was read is copied to buf behind its first `done` bytes. (Of what a read leaves in
@@ -58,7 +51,7 @@ fn read_more<R: Read>(reader: &mut R, buf: &mut [u8], done: usize) -> Input
     ensures end { result.failed ≡ false → result.bytes ≡ done → done < length buf.old → IsAtEnd (R.remaining reader.new) }
 {
     let mut room = [0u8; 4096];
-    let most = lesser(4096, buf.len() - done);
+    let most = room.len().min(buf.len() - done);
     read_through(reader, &mut room[..most], buf, done)
 }
 

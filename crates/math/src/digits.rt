@@ -13,7 +13,7 @@ pub(crate) fn product(m: u64, n: u64) -> u128
     u128::from(m) * u128::from(n)
 }
 
-// n against w * 2^d. It ends with the first doubling of w that passes n.
+// n against w * 2^d. It ends with the first doubling of w that passes n; a 0 is not doubled, since none would.
 fn doubled(n: u128, w: u128, d: u64) -> Ordering
     requires { n < 2 ^ 108 }
     ensures { result ≡ nat_cmp n (w * 2 ^ d) }
@@ -32,6 +32,7 @@ fn doubled(n: u128, w: u128, d: u64) -> Ordering
 }
 
 // The digits of the bit pattern of a double without its sign, and how far they are moved up.
+#[tactic(auto, unfolding(crate::specs::Digits::digits_of))]
 pub fn digits(b: u64) -> u64
     ensures { (result ≡ digits_of b) × (result < 2 ^ 53) }
 {
@@ -41,6 +42,7 @@ pub fn digits(b: u64) -> u64
     b % 0x10_0000_0000_0000 + 0x10_0000_0000_0000
 }
 
+#[tactic(auto, unfolding(crate::specs::Digits::shift_of))]
 pub fn shift(b: u64) -> u64
     ensures { (result ≡ shift_of b) × (result ≤ 4096) }
 {

@@ -6,7 +6,7 @@ ghost use Rattle.math.specs.Neighbours.{next_up, next_down};
 ghost use Rattle.math.specs.Picks.{lesser_f, greater_f, min_f, max_f};
 
 // The neighbouring f64 above a number: 2^-1074 from either zero; the positive infinity stays. The bits go one up from
-// zero on, and one down below it.
+// zero on, and one down below it. (The library's `next_up` and `next_down` make more tests: tried, and slower.)
 pub(crate) fn up(x: f64) -> f64
     requires { is_nan x ≡ false }
     ensures { result ≡ next_up x }
@@ -83,6 +83,8 @@ pub fn greater(a: f64, b: f64) -> f64
 }
 
 // The lesser of two: a NaN is passed over where the other is a number, and of two equal ones it is the first.
+// (The library's `min` and `max` promise either of two equal ones, as 0 and -0.)
+#[tactic(auto, unfolding(crate::specs::Picks::min_f))]
 pub fn min(a: f64, b: f64) -> f64
     ensures { result ≡ min_f a b }
 {
@@ -93,6 +95,7 @@ pub fn min(a: f64, b: f64) -> f64
 }
 
 // The greater of two, by the same rules.
+#[tactic(auto, unfolding(crate::specs::Picks::max_f))]
 pub fn max(a: f64, b: f64) -> f64
     ensures { result ≡ max_f a b }
 {

@@ -9,14 +9,13 @@ pub(crate) fn number_of(f: Found) -> u64
     ensures { result ≡ number_of f }
 {
     match f {
-        Found::Nothing(_, _, _) => 0,
-        Found::Enclosed(_, _, _, _, _) => 0,
-        Found::Spent(_, _, _, _) => 0,
-        Found::Refused(number, _, _, _) => number,
+        Found::Nothing(..) | Found::Enclosed(..) | Found::Spent(..) => 0,
+        Found::Refused(number, ..) => number,
     }
 }
 
 // The kind of the answer, visited, pending, cuts, and depth.
+#[tactic(auto, unfolding(crate::specs::Answers::counts_of))]
 pub(crate) fn counts_of(f: Found) -> [u64; 5]
     ensures { result ≡ counts_of f }
 {
@@ -29,13 +28,12 @@ pub(crate) fn counts_of(f: Found) -> [u64; 5]
 }
 
 // lo and hi.
+#[tactic(auto, unfolding(crate::specs::Answers::bounds_of))]
 pub(crate) fn bounds_of(f: Found) -> [f64; 2]
     ensures { result ≡ bounds_of f }
 {
     match f {
-        Found::Nothing(_, _, _) => [0.0, 0.0],
-        Found::Enclosed(lo, hi, _, _, _) => [lo, hi],
-        Found::Spent(_, _, _, _) => [0.0, 0.0],
-        Found::Refused(_, _, _, _) => [0.0, 0.0],
+        Found::Enclosed(lo, hi, ..) => [lo, hi],
+        Found::Nothing(..) | Found::Spent(..) | Found::Refused(..) => [0.0, 0.0],
     }
 }

@@ -114,9 +114,6 @@ module _ {m₀ a₀ m₁ a₁ m a : ℕ} (q rem : ℕ) (A : a₀ ≤ 3119) (n : 
   small_q : q < 2 ^ 53
   small_q = q_high m ((a - 52) / 2) q rem (m₀ * 2 ^ a₀) low_m high_m s.0 s.1 small-k (joined n e)
 
-  pub next_lt : q + 1 < 2 ^ 54
-  next_lt = omega (arith, small_q)
-
   pub up_lt : (a - 52) / 2 * 2 ^ 52 + (q + 1) < 0x7ff0_0000_0000_0000
   up_lt = bound ((a - 52) / 2) (q + 1) small-k (omega (arith, small_q))
 
