@@ -106,10 +106,6 @@ module _ (ar : Arithmetic) (e a b d x : Scalar) (q : Divided) (hd : d ≡ ar.sub
     second : r ≡ ar.div (ar.sub (sharp e.hi) a) (ar.sub b a)
     second = hr ∙ (λ i. ar.div (hy i) (hd i))
 
-    pub along_second : r ≡ Failed → Missing ≡ along ar e a b
-    unfolding along along_by
-    along_second h = rw (sym first ∙ hs, sym second ∙ h)
-
     pub along-both : (t u : Scalar) → r ≡ Value t → u ≡ union_s s t → Over u ≡ along ar e a b
     unfolding along along_by
     along-both t u h k = rw (sym first ∙ hs, sym second ∙ h, k)

@@ -1,14 +1,12 @@
 -- Laws of the abscissae and of the zeros by a fat line, over plain values: what the turns of their loops keep, and what each answer is. Assumes nothing.
 use mathlib.Core.Path.{◌≡◌, refl, sym, ap, ◌∙◌, subst}
-use mathlib.Core.Bool.{Bool, true, false}
 use mathlib.Core.List.{List, map, zip_with}
 use mathlib.Core.Option.{some}
-use Prim.Native.Nat.{ℕ, zero, suc, ◌+◌, ◌-◌, ◌*◌, ◌^◌, ◌≤◌, ◌<◌}
+use Prim.Native.Nat.{ℕ, zero, suc, ◌+◌, ◌-◌, ◌*◌, ◌≤◌, ◌<◌}
 use native.Mathlib.Omega.{arith}
-use lib.Dec.{T, le→leb}
-use lib.ListN.{length, drop, get_or, replicate, length-replicate}
+use lib.ListN.{length, drop, get_or, replicate}
 use lib.IntN.{pos}
-use lib.Ieee.{Float, nan, binary64, of_int, in_float}
+use lib.Ieee.{Float, nan, binary64, of_int}
 use Rattle.lists.specs.Lists.{put, tab, last_d}
 use Rattle.lists.proofs.Tab.{length-tab, get_or-tab, map-tab, zip_with-tab}
 use Rattle.lists.proofs.Fold.{foldl_turn, foldl_done}
@@ -17,17 +15,15 @@ use Rattle.math.specs.declared.scalars.Divided.{Divided}
 use Rattle.math.specs.declared.scalars.Divided.TheVariants.{Value, Failed}
 use Rattle.math.specs.declared.bounds.Bounds.{Bounds}
 use Rattle.math.specs.declared.bounds.Divisor.{Divisor}
-use Rattle.math.specs.Scalars.{Arithmetic, geop, sharp, absent, zero_f, ZERO, ENTIRE, could_be_equal, union_s}
+use Rattle.math.specs.Scalars.{Arithmetic, geop, sharp, absent, zero_f, ZERO}
 use Rattle.math.specs.Bounds.{widen_b, difference_b, divisor_of, over_s}
-use Rattle.math.proofs.Bools.{pick_yes, pick_no}
 use Rattle.math.proofs.Laws.{AreDoubles, difference_doubles, widen_difference, over_own}
 use Rattle.model.specs.Layout.{scalar_at, scalars_of, flat}
 use Rattle.model.specs.Aabb.{unions}
-use Rattle.model.specs.FatLine.{window, abscissa, greville, offset, crossing, zeros_by, fat_line_zeros}
+use Rattle.model.specs.FatLine.{window, abscissa, greville, offset, zeros_by, fat_line_zeros}
 use Rattle.geometry.specs.Abscissae.{summed, mean_over, held}
 use Rattle.geometry.specs.Zeros.{from_first, chord_at, off_run, level_zeros, sloped_zeros}
 use Rattle.model.specs.declared.fat_line.Hat.{Hat}
-use Rattle.model.specs.declared.fat_line.Hat.TheVariants.{Over, Missing}
 use Rattle.geometry.specs.declared.fat_line.Abscissae.{Abscissae}
 use Rattle.geometry.specs.declared.fat_line.Greville.TheVariants.{Some, None}
 use Rattle.geometry.proofs.aabb.Unions.{Gives}
@@ -42,11 +38,6 @@ sum_turn ar w s t v j h e g inv = ap (λ (k : Scalar). summed ar k (drop (j + 1)
 
 pub sum_done : (ar : Arithmetic) (w : List Float) (s : Scalar) (j : ℕ) → length w ≤ j → summed ar s (drop j w) ≡ summed ar ZERO w → s ≡ summed ar ZERO w
 sum_done ar w s j h inv = sym (foldl_done (λ s u. ar.add s (sharp u)) s w j h) ∙ inv
-
--- a degree is a double
-pub in_float_degree : (p : ℕ) → p ≤ 7 → T (in_float binary64 (pos p))
-unfolding in_float
-in_float_degree p h = le→leb p (2 ^ 53) (omega arith)
 
 -- in revision 1 the sum goes over a divisor that is at hand
 pub mean-over : (w : List Float) (r : Scalar) (d : Divisor) → d ≡ divisor_of d.value → r ≡ over_s (summed geop ZERO w) d → r ≡ mean_over geop w d.value
@@ -71,15 +62,6 @@ held_some ar zero n i knots at h e inv = absurd (h refl)
 held_some ar (suc p) n i knots at h e inv =
     (λ k. record { has = Some; at = inv k })
     ∙ ap (λ (m : ℕ). held (some (tab m (λ j. abscissa ar (suc p) (window (suc p) knots j))))) e
-
--- The array is never outgrown.
-pub held_long : (ar : Arithmetic) (p n : ℕ) (knots : List Float) (r : Abscissae) → n ≤ 32 → r ≡ held (greville ar p n knots) → length r.at ≡ 64
-unfolding held greville
-held_long ar zero n knots r h e = ap (λ (a : Abscissae). length a.at) e ∙ length-replicate 64 zero_f
-held_long ar (suc p) n knots r h e =
-    ap (λ (a : Abscissae). length a.at) e
-    ∙ length-put-flat (replicate 64 zero_f) n (λ i. abscissa ar (suc p) (window (suc p) knots i)) (rw (length-replicate 64 zero_f) (omega arith))
-    ∙ length-replicate 64 zero_f
 
 -- degree 0 has none, and it alone
 pub none_degree : (ar : Arithmetic) (p n : ℕ) (knots : List Float) (r : Abscissae) → r ≡ held (greville ar p n knots) → r.has ≡ None → p ≡ 0
@@ -165,24 +147,6 @@ off-difference slope y0 dx d i x c y b X C Y B = record {
 }
 
 -- ---- the zeros
-
-pub level-yes : (u r : Scalar) (t : Bool) → t ≡ could_be_equal u ZERO → r ≡ ENTIRE → t ≡ true → Over r ≡ level_zeros u
-level-yes u r t T R e = ap (λ (v : Scalar). Over v) R ∙ pick_yes _ _ _ (sym T ∙ e)
-
-pub level-no : (u : Scalar) (t : Bool) → t ≡ could_be_equal u ZERO → t ≡ false → Missing ≡ level_zeros u
-level-no u t T e = pick_no _ _ _ (sym T ∙ e)
-
--- the tests, with what they are made on
-module _ (ar : Arithmetic) (slope x0 y0 last band u b : Scalar) (t : Bool) (U : u ≡ union_s y0 last) (B : b ≡ ar.add u band) (E : t ≡ could_be_equal b ZERO) where
-  reaches : t ≡ could_be_equal (ar.add (union_s y0 last) band) ZERO
-  reaches = E ∙ ap (λ (v : Scalar). could_be_equal v ZERO) (B ∙ ap (λ (v : Scalar). ar.add v band) U)
-
-  pub sloped_yes : (s : Scalar) (q : Divided) (r : Hat) → s ≡ ar.add y0 band → q ≡ ar.div s slope → r ≡ crossing ar x0 q → t ≡ true
-      → r ≡ sloped_zeros ar slope x0 y0 last band
-  sloped_yes s q r S Q R e = R ∙ ap (crossing ar x0) (Q ∙ ap (λ (v : Scalar). ar.div v slope) S) ∙ pick_yes _ _ _ (sym reaches ∙ e)
-
-  pub sloped_no : t ≡ false → Missing ≡ sloped_zeros ar slope x0 y0 last band
-  sloped_no e = pick_no _ _ _ (sym reaches ∙ e)
 
 module _ (ar : Arithmetic) (n : ℕ) (xi dx d : List Float) (x0 y0 run yn rise : Scalar) (q : Divided) (h : 0 < n) (D : scalars_of n dx ≡ from_first ar (scalars_of n xi)) (X0 : x0 ≡ scalar_at xi 0) (Y0 : y0 ≡ scalar_at d 0)
     (R : run ≡ scalar_at dx (n - 1)) (YN : yn ≡ scalar_at d (n - 1)) (S : rise ≡ ar.sub yn y0) (Q : q ≡ ar.div rise run) where
