@@ -1,4 +1,5 @@
--- What a call lends, what the checks of a question give, and what is left of a call that they let through. Definitions only.
+-- What a call lends, what the checks of a question give, and what is left of a call that they let through. Definitions
+-- only.
 use Rattle.std.specs.Prelude.{ℕ, ◌≡◌, List, Float}
 use Rattle.math.specs.Scalars.{Arithmetic}
 use Rattle.geometry.specs.declared.call.Lent.{Lent}

@@ -1,7 +1,7 @@
 // What a call may lend: the check 16 of request E8 and 1 to 10 of the scope, each equal to its definition. 16 looks at
 // the revision, 1 to 3 at the sizes, 1 to 8 at a curve, 9 and 10 at the nodes and the work area.
 ghost use Rattle.std.specs.Prelude.{◌≡◌, suc, ◌+◌, ◌*◌, ◌≤◌, ◌<◌, length, leb, eqb, true, ◌&&◌, ◌||◌};
-ghost use Rattle.std.specs.Float.Ieee.{lt, le, eq};
+ghost use Rattle.std.specs.Float.Ieee.{lt, eq};
 ghost use Rattle.lists.specs.Lists.{all};
 ghost use Rattle.math.specs.Scalars.{zero_f};
 ghost use Rattle.model.specs.Layout.{points_of, scalars_of, slot_words};
@@ -65,10 +65,7 @@ fn repeats_at(knots: &[f64], i: usize, k: usize) -> bool
     requires { (i < length knots.now) × (k ≤ 8) }
     ensures { result ≡ repeats_at knots.now i k }
 {
-    if i + k < knots.len() {
-        return knots[i + k] == knots[i];
-    }
-    false
+    i + k < knots.len() && knots[i + k] == knots[i]
 }
 
 // On a domain from a to b, number i of rising knots does not begin a run that is too long.

@@ -6,13 +6,13 @@ use mathlib.Core.Bool.{Bool, true, false, not, cond, ◌&&◌, ◌||◌}
 use mathlib.Core.List.{List, [], ◌∷◌}
 use Prim.Native.Nat.{ℕ, zero, suc, ◌+◌, ◌≤◌, ◌<◌, max}
 use native.Mathlib.Omega.{arith}
-use borrow.Author.Tests.{not-true, not-false, lt-ltb, le-ltb, le-leb, lt-leb}
+use borrow.Author.Tests.{not-true, not-false, le-leb, lt-leb}
 use lib.Dec.{T, not_T, leb, ltb, ltb→lt, lt→ltb}
 use lib.ListN.{length, get_or}
 use lib.Ieee.{Float, nan, inf, fin, lt, le, eq}
 use Rattle.lists.specs.Lists.{all, count}
 use Rattle.geometry.proofs.Lists.Walks.{all_each, all_miss}
-use Rattle.math.proofs.Bools.{yes as holds, no as fails, decide, never, and_i, and_l, and_r, and_yes, and_no, or_r, or_split, pick_yes, pick_no}
+use Rattle.math.proofs.Bools.{yes as holds, no as fails, decide, never, and_i, and_l, and_r, or_r, or_split, pick_yes, pick_no}
 use Rattle.math.proofs.Laws.{number, le_number_r, le_trans, le_self, lt_not_le, lt_le, le_lt, eq→value, value→eq}
 use Rattle.model.specs.Call.{rising, multiplicity_ok}
 use Rattle.geometry.specs.Multiplicity.{repeats_at, multiplicity_ok_at}
@@ -310,17 +310,6 @@ module _ (p : ℕ) (a b : Float) (ks : List Float) (rises : rising ks ≡ true) 
   runs_by false f g = let m = g refl in sym (runs-miss m.0 m.1 m.2)
 
 -- ---- what the code tests
-module _ (ks : List Float) (i k : ℕ) where
-  -- There is a knot k places on: the two are compared.
-  pub repeats_there : i + k < length ks → eq (get_or ks (i + k) nan) (get_or ks i nan) ≡ repeats_at ks i k
-  unfolding repeats_at
-  repeats_there h = and_yes (ltb (i + k) (length ks)) (eq (get_or ks (i + k) nan) (get_or ks i nan)) (lt-ltb (i + k) (length ks) h)
-
-  -- There is none.
-  pub repeats-past : length ks ≤ i + k → false ≡ repeats_at ks i k
-  unfolding repeats_at
-  repeats-past h = sym (le-ltb (i + k) (length ks) h) ∙ and_no (ltb (i + k) (length ks)) (eq (get_or ks (i + k) nan) (get_or ks i nan)) (le-ltb (i + k) (length ks) h)
-
 -- The test of knot number i, by the answers e and n of the tests whether it is an end and whether it lies inside.
 module _ (p : ℕ) (a b : Float) (ks : List Float) (i : ℕ) (e : Bool) (ee : e ≡ (eq (get_or ks i nan) a || eq (get_or ks i nan) b)) where
   -- At an end: it must not repeat degree + 1 places on.

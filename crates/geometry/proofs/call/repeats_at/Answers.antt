@@ -1,13 +1,13 @@
 -- `repeats_at` equals its definition, whether there is a knot k places on or not.
-use Rattle.geometry.proofs.call.Multiplicity.{repeats_there, repeats-past}
+use Rattle.std.proofs.Common.{rules}
+use borrow.Author.Tests.{tests}
+use Rattle.geometry.specs.Multiplicity.{repeats_at}
 use Rattle.geometry.proofs.call.repeats_at.Goals as goal
 
 pub returns-then-i-k : goal.returns-then-i-k
-returns-then-i-k c =
-    let g = c.args in
-    repeats_there g.knots.now g.i g.k c.if-i-k.true
+unfolding repeats_at
+returns-then-i-k c = search (rules, tests)
 
-pub returns : goal.returns
-returns c =
-    let g = c.args in
-    repeats-past g.knots.now g.i g.k c.if-i-k.false
+pub returns-else-i-k : goal.returns-else-i-k
+unfolding repeats_at
+returns-else-i-k c = search (rules, tests)
