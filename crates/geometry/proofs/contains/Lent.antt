@@ -96,6 +96,9 @@ module _ (c : Call) (acc : Accepted c) (area : List Float) (long : length area �
 
   -- ---- what is asked
 
+  pub points_long : length c.curve.points ≡ 2 * suc c.curve.dim * c.curve.count
+  points_long = z.points
+
   pub box_long : 2 * c.curve.dim ≤ length c.box
   box_long = omega (arith, z.box)
 

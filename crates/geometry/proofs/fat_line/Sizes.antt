@@ -1,6 +1,6 @@
 -- Sizes of a piece, over plain values: at most three coordinates one after the other, the path from point to point, and tests that leave early.
 use mathlib.Core.Path.{◌≡◌, refl, sym, ap, ◌∙◌}
-use mathlib.Core.Bool.{Bool, true, false, cond, ◌&&◌, false≢true}
+use mathlib.Core.Bool.{Bool, true, false, cond, ◌&&◌, ◌||◌, false≢true}
 use mathlib.Core.List.{List, [], ◌∷◌, map, zip_with}
 use Prim.Native.Nat.{ℕ, zero, suc, ◌+◌, ◌≤◌, ◌<◌}
 use native.Mathlib.Numerals.{add-one}
@@ -169,6 +169,13 @@ module _ (c r s : Float) (w : Bool) where
       by : (b : Bool) → lt (max_f c r) s ≡ b → b ≡ (b && lt c s && w)
       by false k = refl
       by true k = rw (is_true (lt c s) (le_lt c (max_f c r) s (max_left c r (no_nan c e)) (yes _ k)), f)
+
+-- ---- two tests, the second made where the first failed
+pub or_yes : (a b r : Bool) → r ≡ a → r ≡ true → r ≡ (a || b)
+or_yes a b r e f = rw (sym e ∙ f) f
+
+pub or_no : (a b r s : Bool) → r ≡ a → r ≡ false → s ≡ b → s ≡ (a || b)
+or_no a b r s e f g = rw (sym e ∙ f) g
 
 -- ---- the sizes of the points that are lent
 

@@ -9,7 +9,7 @@ use native.Mathlib.Omega.{arith}
 use lib.Dec.{T, le→leb}
 use lib.ListN.{length, take, drop, get_or, replicate, length-replicate}
 use lib.IntN.{pos}
-use lib.Ieee.{Float, nan, binary64, of_int}
+use lib.Ieee.{Float, nan, binary64, of_int, in_float}
 use Rattle.lists.specs.Lists.{put, tab, last_d}
 use Rattle.lists.proofs.Tab.{length-tab, tab-whole, get_or-tab, map-tab, zip_with-tab}
 use Rattle.lists.proofs.Put.{put_whole, length-put}
@@ -22,7 +22,7 @@ use Rattle.math.specs.declared.bounds.Divisor.{Divisor}
 use Rattle.math.specs.Scalars.{Arithmetic, sharp, absent, ZERO, ENTIRE, could_be_equal, union_s}
 use Rattle.math.proofs.Bools.{pick_yes, pick_no}
 use Rattle.model.specs.Aabb.{unions}
-use Rattle.model.specs.FatLine.{window, abscissa, greville, offset, zeros_by, fat_line_zeros}
+use Rattle.model.specs.FatLine.{window, abscissa, greville, offset, crossing, zeros_by, fat_line_zeros}
 use Rattle.geometry.specs.Abscissae.{summed, mean_over, held}
 use Rattle.geometry.specs.Zeros.{from_first, chord_at, off_run, level_zeros, sloped_zeros}
 use Rattle.model.specs.Hat.{Hat}

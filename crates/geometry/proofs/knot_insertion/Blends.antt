@@ -84,6 +84,13 @@ module _ (s : Shape) (base : ℕ) (F : List Float → ℕ → Vector) (made : Ma
       ∙ ap (put l P) (sym (makes-more m h))
       ∙ ap (λ (u : ℕ). put l (place_of s base (suc u)) (numbers (makes u))) (sym z)
 
+  -- after the last turn
+  pub makes_done : (p i : ℕ) → p ≤ k → i ≡ k - p → put l (place_of s base (suc i)) (numbers (makes i)) ≡ put l (place_of s base (suc (k - p))) (numbers (tab p (λ j. F l (k - p + j))))
+  makes_done p i h e =
+      let z : k - (k - p) ≡ p = omega arith in
+      ap (λ (u : ℕ). put l (place_of s base (suc u)) (numbers (makes u))) e
+      ∙ ap (λ (m : ℕ). put l (place_of s base (suc (k - p))) (numbers (tab m (λ j. F l (k - p + j))))) z
+
 -- ---- blends
 
 module _ (ar : Arithmetic) (s : Shape) (base n : ℕ) (t : Float) (r : n ≤ s.count + s.degree + 1) where

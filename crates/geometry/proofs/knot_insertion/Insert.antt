@@ -70,6 +70,9 @@ module _ (s : Shape) (l : List Float) (base n k : ℕ) (i : Inside s l base) (h 
     pub open_fits : b + (c - a) ≤ length l
     open_fits = omega (arith, next, place-next s base k, place-next s base n, place_le s base k n (omega arith), place-room s base (suc n) (omega arith), i.within)
 
+    pub open_done : (w : List Float) → w ≡ put l b (part l a (c - a)) → w ≡ put l (place_of s base (suc k)) (part l (place_of s base k) (place_of s base n - place_of s base k))
+    open_done w e = e ∙ (λ j. put l (next j) (part l (ea j) (ec j - ea j)))
+
 -- ---- the blend of two points of a slot
 
 -- the knots of n points lie in the memory

@@ -29,6 +29,13 @@ use Rattle.geometry.proofs.slots.Ring.{beside_inside, base_is, ring_inside, head
 
 -- ---- what was reported so far
 
+pub children-few : (o : Outcome) → children o ≤ 2
+children-few Dropped = omega arith
+children-few (Reported t) = omega arith
+children-few (Restricted n) = omega arith
+children-few Halved = omega arith
+children-few BadWeight = omega arith
+
 -- ---- what the n pieces from slot h on become, where the slots behind them were written to
 
 module _ (s : Shape) (l m : List Float) (slots h n : ℕ) (r : Ring s l slots h n) (room : n + 1 < slots) where
@@ -184,6 +191,9 @@ module _ (s : Shape) (l : List Float) (slots h n w : ℕ) (r : Ring s l slots h 
 
   ring'' : Ring s l slots h (suc (n - 1))
   ring'' = let e : n ≡ suc (n - 1) = omega arith in subst (λ (k : ℕ). Ring s l slots h k) e r
+
+  pub head_in : 0 + h * w ≤ length l
+  head_in = omega (arith, base_is s w W h (0 + h * w) refl, (head-waits s l slots h (n - 1) ring'').held.inside.within)
 
   -- the slots of the first and of what a visit hands on
   module _ (x y z : ℕ) (X : x ≡ base_of s h) (Y : y ≡ ring_base s slots h n) (Z : z ≡ ring_base s slots h (n + 1)) where
