@@ -19,7 +19,7 @@ use Rattle.math.specs.Divided.{Divided}
 use Rattle.std.specs.Prelude.{Some, None}
 use Rattle.math.specs.declared.bounds.Bounds.{Bounds}
 use Rattle.math.specs.declared.bounds.Divisor.{Divisor}
-use Rattle.math.specs.Scalars.{Arithmetic, sharp, absent, ZERO, ENTIRE, could_be_equal, union_s}
+use Rattle.math.specs.Scalars.{Arithmetic, sharp, absent, ZERO, could_be_equal, union_s}
 use Rattle.math.proofs.Bools.{pick_yes, pick_no}
 use Rattle.model.specs.Aabb.{unions}
 use Rattle.model.specs.FatLine.{window, abscissa, greville, offset, crossing, zeros_by, fat_line_zeros}
@@ -149,12 +149,6 @@ pub off_by_bounds : (Kind : Bounds → Type 0) (close : Bounds → Scalar) (ar :
 off_by_bounds Kind close ar slope y0 dx d i c b C B = record { kind = B.0; is = B.1 ∙ ap (ar.sub (get_or d i absent)) C }
 
 -- ---- the zeros
-
-pub level-yes : (u r : Scalar) (t : Bool) → t ≡ could_be_equal u ZERO → r ≡ ENTIRE → t ≡ true → Some r ≡ level_zeros u
-level-yes u r t T R e = ap (λ (v : Scalar). Some v) R ∙ pick_yes _ _ _ (sym T ∙ e)
-
-pub level-no : (u : Scalar) (t : Bool) → t ≡ could_be_equal u ZERO → t ≡ false → None ≡ level_zeros u
-level-no u t T e = pick_no _ _ _ (sym T ∙ e)
 
 -- the tests, with what they are made on
 module _ (ar : Arithmetic) (slope x0 y0 last band u b : Scalar) (t : Bool) (U : u ≡ union_s y0 last) (B : b ≡ ar.add u band) (E : t ≡ could_be_equal b ZERO) where

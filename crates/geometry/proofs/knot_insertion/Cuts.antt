@@ -8,7 +8,7 @@ use native.Mathlib.Omega.{arith}
 use lib.ListN.{length, drop, get_or, replicate, length-append, length-replicate}
 use lib.Dec.{eqb}
 use lib.Ieee.{Float, nan, eq}
-use borrow.Author.Tests.{eq-eqb, ne_eqb, eqb-true}
+use borrow.Author.Tests.{eq-eqb, eqb-true}
 use Rattle.lists.specs.Lists.{part, put, position}
 use Rattle.lists.proofs.Part.{get_or_part}
 use Rattle.lists.proofs.Put.{put-put}
@@ -16,7 +16,7 @@ use Rattle.math.specs.declared.scalars.Scalar.{Scalar}
 use Rattle.math.specs.Divided.{Divided}
 use Rattle.std.specs.Prelude.{Some, None}
 use Rattle.math.specs.Scalars.{Arithmetic, sharp}
-use Rattle.math.proofs.Bools.{and_yes, and_no}
+use Rattle.math.proofs.Bools.{and_yes}
 use Rattle.model.specs.Vector.{Vector}
 use Rattle.model.specs.NurbCurve.{Piece, knot}
 use Rattle.model.specs.KnotInsertion.{Cut, triangle, sides, insertion_span, insert_once, insert_times, bezier_knots, bezier_cut, multiplicity, is_bezier, boehm_cut, cut_by, full_cut}
@@ -140,13 +140,6 @@ fits-times ar s t (suc e) c f h g =
         → length (insert_once ar s.degree (insertion_span s.degree (length c.points) c.knots t) t c).points + e ≡ m + suc e
     nat m e q = omega arith
 
--- how often t is missing
-pub missing_some : (p m n : ℕ) → m ≡ n → p + 1 - m ≡ suc p - n
-missing_some p m n e = omega arith
-
-pub missing_none : (p m n : ℕ) → m ≡ n → p + 1 ≤ m → 0 ≡ suc p - n
-missing_none p m n e h = omega arith
-
 module _ (ar : Arithmetic) (s : Shape) (l w : List Float) (base : ℕ) (t : Float) (h : Held s l base) (d : s.degree < count_at l base) (r : count_at l base ≤ s.count) where
   pub fits_boehm : Fits s (boehm_cut ar s.degree t (piece_at s l base)).piece
   unfolding boehm_cut
@@ -184,9 +177,6 @@ module _ (s : Shape) (l ks : List Float) (base m n : ℕ) (t : Float) (h : Held 
   single-yes b en z eb =
       eb ∙ (λ j. is_bezier s.degree ((en ∙ sym (count-points s l base h)) j) (ek j))
       ∙ and_yes (eqb (multiplicity t (piece_at s l base).knots) 0) _ (eq-eqb _ 0 (sym same_times ∙ z))
-
-  pub single-no : (b : Bool) → (m ≡ 0 → ⊥) → b ≡ false → b ≡ (eqb (multiplicity t (piece_at s l base).knots) 0 && is_bezier s.degree (length (piece_at s l base).points) (piece_at s l base).knots)
-  single-no b z eb = eb ∙ sym (ne_eqb (multiplicity t (piece_at s l base).knots) 0 (λ q. z (same_times ∙ q))) ∙ and_no (eqb (multiplicity t (piece_at s l base).knots) 0) _ (ne_eqb (multiplicity t (piece_at s l base).knots) 0 (λ q. z (same_times ∙ q)))
 
 -- how far t lies along the span, as the code comes to it
 pub along_done : (ar : Arithmetic) (s : Shape) (l : List Float) (base f : ℕ) (t : Float) (fa fb ft x y : Scalar) (r : Divided) → s.degree < count_at l base → f ≡ knots_from base

@@ -3,7 +3,6 @@ use mathlib.Core.Path.{◌≡◌, refl, sym, ap, ◌∙◌}
 use mathlib.Core.Bool.{Bool, true, false}
 use mathlib.Core.List.{List, []}
 use Prim.Native.Nat.{ℕ, suc, ◌+◌, ◌*◌, ◌≤◌, ◌<◌}
-use native.Mathlib.Nat.{mul-le-mul_left}
 use native.Mathlib.Omega.{arith}
 use lib.ListN.{length, drop, get_or}
 use lib.Ieee.{Float, lt}
@@ -24,10 +23,6 @@ coordinate_is dim i k l h = get_or-tab (suc dim) (λ j. scalar_at l (suc dim * i
 -- as the code counts
 pub coordinate_at : (dim i k : ℕ) (l : List Float) → k ≤ dim → scalar_at l ((dim + 1) * i + k) ≡ coordinate (point_at (suc dim) l i) k
 coordinate_at dim i k l h = let e : (dim + 1) * i + k ≡ suc dim * i + k = omega arith in ap (scalar_at l) e ∙ sym (coordinate_is dim i k l h)
-
--- a point before the last lies within the list
-pub point_in : (dim i count n : ℕ) → i < count → 2 * (suc dim * count) ≤ n → 2 * (suc dim * suc i) ≤ n
-point_in dim i count n h g = let e : suc dim * suc i ≤ suc dim * count = mul-le-mul_left (suc dim) h in omega arith
 
 module _ (D : ℕ) (n : ℕ) (l : List Float) where
   pub length-points : length (points_of D n l) ≡ n

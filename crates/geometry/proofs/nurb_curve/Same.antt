@@ -42,8 +42,3 @@ module _ (a b : Scalar) where
   pub repeats-yes : (r p : Bool) → eq a.lo b.lo ≡ true → eq a.hi b.hi ≡ true → r ≡ p → r ≡ (is_same a b && p)
   repeats-yes r p e f R = rw (e, f) R
 
-  pub repeats_first : (p : Bool) → eq a.lo b.lo ≡ false → false ≡ (is_same a b && p)
-  repeats_first p e = rw e
-
-  pub repeats_second : (p : Bool) → eq a.lo b.lo ≡ true → eq a.hi b.hi ≡ false → false ≡ (is_same a b && p)
-  repeats_second p e f = rw (e, f)

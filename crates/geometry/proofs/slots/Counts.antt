@@ -2,7 +2,7 @@
 use mathlib.Core.Path.{◌≡◌, refl}
 use mathlib.Core.List.{List}
 use Prim.Native.Nat.{ℕ, suc, ◌+◌, ◌*◌, ◌^◌, ◌≤◌, ◌<◌}
-use native.Mathlib.Nat.{lt_of_le_of_lt, mul-le-mul_left, mul-le-mul, mul-add, mul-suc, mul-zero}
+use native.Mathlib.Nat.{lt_of_le_of_lt, mul-le-mul_left, mul-add, mul-suc, mul-zero}
 use native.Mathlib.Numerals.{add-one}
 use native.Mathlib.Omega.{arith}
 use lib.Dec.{T, le→leb, lit<}
@@ -34,10 +34,6 @@ unfolding count_at
 count_back l base n e h = rw e (back n h).1
 
 -- ---- the places
-
--- the words of a few points are few
-pub words-few : (s : Shape) (i : ℕ) → Sized s → i ≤ 64 → point_words s * i ≤ 512
-words-few s i z h = let a : point_words s ≤ 8 = omega (arith, z.dim) in mul-le-mul a h
 
 -- the place of a point in the code's words
 pub code-place : (s : Shape) (base i : ℕ) → base + (s.count + 2 * s.degree + 3) + 2 * (s.dim + 1) * i ≡ place_of s base i

@@ -82,9 +82,6 @@ module _ (see : Visit) (s : Shape) (a b d : ℕ) (l m : List Float) (A : Inside 
 -- ---- the depths are written by the code, in slots of w words
 
 module _ (s : Shape) (w a b d : ℕ) (W : w ≡ words_of s) (o : Outcome) (l : List Float) where
-  pub set_one : (n : ℕ) (k : List Float) → o ≡ Restricted n → k ≡ put l (a + (w - 1)) (word d ∷ []) → k ≡ with_depths s l a b d o
-  set_one n k O K = K ∙ ap (λ (v : ℕ). put l (a + (v - 1)) (word d ∷ [])) W ∙ sym (ap (with_depths s l a b d) O)
-
   pub set_two : (m k : List Float) → o ≡ Halved → m ≡ put l (a + (w - 1)) (word (d + 1) ∷ []) → k ≡ put m (b + (w - 1)) (word (d + 1) ∷ []) → k ≡ with_depths s l a b d o
   set_two m k O M K =
       K

@@ -29,13 +29,6 @@ use Rattle.geometry.proofs.slots.Ring.{beside_inside, base_is, ring_inside, head
 
 -- ---- what was reported so far
 
-pub children-few : (o : Outcome) → children o ≤ 2
-children-few Dropped = omega arith
-children-few (Reported t) = omega arith
-children-few (Restricted n) = omega arith
-children-few Halved = omega arith
-children-few BadWeight = omega arith
-
 -- ---- what the n pieces from slot h on become, where the slots behind them were written to
 
 module _ (s : Shape) (l m : List Float) (slots h n : ℕ) (r : Ring s l slots h n) (room : n + 1 < slots) where

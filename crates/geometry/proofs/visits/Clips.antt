@@ -61,9 +61,6 @@ pub narrowed_none : (hat : Scalar) (zeros : Hat) → zeros ≡ None → None ≡
 unfolding narrowed
 narrowed_none hat zeros Z = sym (ap (narrowed hat) Z)
 
-pub axis-leaves : (ar : Arithmetic) (ξ d v : List Scalar) (hat : Scalar) (zeros r : Hat) → d ≡ v → zeros ≡ fat_line_zeros ar ξ d → r ≡ narrowed hat zeros → r ≡ narrowed hat (fat_line_zeros ar ξ v)
-axis-leaves ar ξ d v hat zeros r D Z R = R ∙ ap (narrowed hat) (Z ∙ ap (fat_line_zeros ar ξ) D)
-
 -- ---- the axes, one after the other
 module _ (ar : Arithmetic) (dim : ℕ) (ps : List Vector) (ξ : List Scalar) (box : List Float) where
   -- What the axes from number k on leave of a hat.

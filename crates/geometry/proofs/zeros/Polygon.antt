@@ -1,5 +1,5 @@
 -- Laws of the zeros over two lists of intervals: what the loop keeps point by point, and what that gives at the end. Assumes nothing.
-use mathlib.Core.Path.{◌≡◌, refl, sym, ap, ◌∙◌, subst}
+use mathlib.Core.Path.{◌≡◌, refl, sym, ap, ◌∙◌}
 use mathlib.Core.Bool.{Bool, true, false, not, cond}
 use mathlib.Core.Option.{some}
 use mathlib.Core.List.{List, zip_with}
@@ -15,7 +15,6 @@ use Rattle.math.specs.Revision.{arithmetic}
 use Rattle.math.specs.Scalars.{Arithmetic, absent, ENTIRE}
 use Rattle.math.proofs.Bools.{and_l, and_r}
 use Rattle.model.specs.Aabb.{unions}
-use Rattle.model.specs.Call.{revision_fits}
 use Rattle.model.specs.FatLine.{offset, zeros_by, fat_line_zeros}
 use Rattle.model.specs.Paper.{hat_of}
 use Rattle.model.specs.Hat.{Hat}
@@ -43,13 +42,6 @@ zeros-found rev ξ d r e = record { result = e; paper = ap hat_of e ∙ on-paper
     on-paper : (t : Bool) (h : Hat) → hat_of (cond t h (Some ENTIRE)) ≡ cond t (hat_of h) (some ENTIRE)
     on-paper true h = refl
     on-paper false h = refl
-
-pub not-not : (t : Bool) → T (not (not t)) → T t
-not-not true h = tt
-not-not false h = h
-
-pub is_pair : (rev m n : ℕ) (t : Bool) → t ≡ answerable rev m n → T (not (not t)) → T (paired m n)
-is_pair rev m n t e h = and_r (revision_fits rev) (paired m n) (subst T e (not-not t h))
 
 pub as_many : (m n : ℕ) → T (paired m n) → m ≡ n
 as_many m n h = eqb→eq m n (and_l (eqb m n) (ltb 0 n) h)
