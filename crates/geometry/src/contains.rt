@@ -127,6 +127,7 @@ fn search_ring<R: Revision>(
         },
         found: None,
     };
+    // no index: until no piece waits
     while 0 < q.pending {
         let v = q.counts;
         if v.visited == nodes {

@@ -66,6 +66,7 @@ pub fn read_from<R: Read>(reader: &mut R, buf: &mut [u8]) -> Input
     ensures end { result.failed ≡ false → result.bytes < length buf.new → IsAtEnd (R.remaining reader.new) }
 {
     let mut done = 0;
+    // by as many bytes as a read gives
     while done < buf.len() {
         let input = read_more(reader, buf, done);
         if input.bytes == done {

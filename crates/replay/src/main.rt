@@ -33,6 +33,7 @@ fn one(rt: &impl Print, text: &[u8]) -> io::Result<()> {
 // The answers to the texts of one file.
 fn all(rt: &impl Print, texts: &[u8]) -> io::Result<()> {
     let mut at = 0;
+    // from text to text, each of its own length
     while at < texts.len() {
         let end = end_of(texts, at);
         one(rt, &texts[at..end])?;
