@@ -2,7 +2,7 @@
 use mathlib.Core.Path.{ap, ◌∙◌}
 use Rattle.math.specs.Revision.{arithmetic}
 use Rattle.math.specs.declared.scalars.Scalar.{Scalar}
-use Rattle.geometry.proofs.aabb.Box.{along_first, along_second, along-both}
+use Rattle.geometry.proofs.aabb.Box.{along_first, along-both}
 use Rattle.geometry.proofs.aabb.along.Goals as goal
 
 pub returns-in_err-s : goal.returns-in_err-s
@@ -11,14 +11,6 @@ returns-in_err-s ty c =
     let ar = arithmetic ty.R.Revision.second in
     c.from_residual.ensures
     ∙ along_first ar a.e a.a a.b _ _ _ c.sub-d.ensures (c.sub.ensures ∙ ap (λ (v : Scalar). ar.sub v a.a) c.lower.ensures) c.div.ensures.result c.in_err-s.was
-
-pub returns-in_err-t : goal.returns-in_err-t
-returns-in_err-t ty c =
-    let a = c.args in
-    let ar = arithmetic ty.R.Revision.second in
-    c.from_residual-in_err-t.ensures
-    ∙ along_second ar a.e a.a a.b _ _ _ c.sub-d.ensures (c.sub.ensures ∙ ap (λ (v : Scalar). ar.sub v a.a) c.lower.ensures) c.div.ensures.result
-    _ c.in_ok-s.was _ _ (c.sub-2.ensures ∙ ap (λ (v : Scalar). ar.sub v a.a) c.upper.ensures) c.div-2.ensures.result c.in_err-t.was
 
 pub returns : goal.returns
 returns ty c =

@@ -1,21 +1,11 @@
 -- `meets` equals its definition. The invariant: what is left of the walk, from the range that is left, gives what the whole walk gives.
-use mathlib.Core.Path.{ap}
 use Prim.Native.Nat.{suc}
 use native.Mathlib.Omega.{arith}
-use lib.Ieee.{of_bits}
 use Rattle.math.specs.Revision.{arithmetic}
-use Rattle.math.specs.declared.scalars.Scalar.{Scalar}
-use Rattle.model.specs.Layout.{scalars_of, point_at}
-use Rattle.model.specs.Aabb.{meets}
+use Rattle.model.specs.Layout.{point_at}
 use Rattle.geometry.proofs.aabb.Box.{segment_skip, segment_narrow, segment_stop, segment_end}
 use Rattle.geometry.proofs.aabb.meets.Goals as goal
 use Rattle.geometry.proofs.aabb.meets.Goals.{in-Some+else-not-could_be_equal, in_default}
-
-pub loop-k-init : goal.loop-k-init
-unfolding of_bits
-loop-k-init ty c =
-    let a = c.args in
-    ap (λ (r : Scalar). meets (arithmetic ty.R.Revision.second) a.p.dim (point_at (suc a.p.dim) a.p.words.now 0) (point_at (suc a.p.dim) a.p.words.now 1) r 0 (scalars_of a.p.dim a.point_box.now)) c.union-range.ensures
 
 pub returns-then-not-could_be_equal : goal.returns-then-not-could_be_equal
 returns-then-not-could_be_equal ty c =

@@ -17,20 +17,12 @@ returns-in-Err c =
     let call = lent g.rev g.dim g.degree g.count g.knots.now g.points.now g.point_box.now g.resolution g.nodes (length g.work.now) in
     refused call c.args.work.now _ (c.number.ensures ∙ c.in-Err.ensures) (λ z. some (sym c.number.ensures ∙ z))
 
-pub search_lent-requires : goal.search_lent-requires
-search_lent-requires c =
-    (sym c.in_default.ensures, record { knots = λ i _. c.type_inv.knots i; box = λ i _. c.type_inv.point_box i })
-
 pub returns-then-rev-eq2 : goal.returns-then-rev-eq2
 returns-then-rev-eq2 c =
     let g = c.args in
     let call = lent g.rev g.dim g.degree g.count g.knots.now g.points.now g.point_box.now g.resolution g.nodes (length g.work.now) in
     answered_by_lem call _ _ _ (record { knots = λ i _. c.type_inv.knots i; box = λ i _. c.type_inv.point_box i })
     (subst (λ (b : Bool). Searches (arithmetic b) call g.work.now c.search_lent.new.work c.search_lent.result) (sym (eq-eqb g.rev 2 c.if-rev-eq2.true)) c.search_lent.ensures)
-
-pub search_lent-requires-2 : goal.search_lent-requires-2
-search_lent-requires-2 c =
-    (sym c.in_default.ensures, record { knots = λ i _. c.type_inv.knots i; box = λ i _. c.type_inv.point_box i })
 
 pub returns : goal.returns
 returns c =

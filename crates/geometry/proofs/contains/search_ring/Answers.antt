@@ -4,10 +4,9 @@ use native.Mathlib.Omega.{arith}
 use lib.Ieee.{Float}
 use mathlib.Core.List.{List}
 use mathlib.Core.Bool.{Bool}
-use mathlib.Core.Path.{sym, ap, ◌∙◌}
+use mathlib.Core.Path.{sym, ◌∙◌}
 use Rattle.math.specs.Revision.{arithmetic}
 use Rattle.model.specs.NurbCurve.{Piece}
-use Rattle.model.specs.declared.subdivide.Counts.{Counts}
 use Rattle.geometry.specs.State.{asked_of, Begins, Going}
 use Rattle.geometry.specs.declared.slots.Shape.{Shape}
 use Rattle.geometry.specs.declared.subdivide.Search.{Search}
@@ -26,21 +25,12 @@ asks : (second : Bool) (s : Shape) (box : List Float) (resolution : Float) (node
 asks second s box resolution nodes work₀ work q b g waits more = ready (arithmetic second) s box resolution nodes work₀ b work q g waits more
 
 -- ---- before the loop
-pub slot_words-w-requires : goal.slot_words-w-requires
-slot_words-w-requires ty c = let z = c.requires.begins.ring.sized in (z.dim, (z.degree, z.count))
-
-pub overflow_add-slots : goal.overflow_add-slots
-overflow_add-slots ty c = omega (arith, c.requires.begins.few)
-
 pub loop-q-init : goal.loop-q-init
 loop-q-init ty c =
     let g = c.args in
     going_start (seeing ty.R.Revision.second g.s g.point_box.now g.resolution g.nodes) (few ty.R.Revision.second g.s g.point_box.now g.resolution g.nodes) g.nodes g.s g.work.now c.requires.begins.ring c.requires.begins.whole
 
 -- ---- no visit is left
-pub shape_of-work-then-v-nodes : goal.shape_of-work-then-v-nodes
-shape_of-work-then-v-nodes ty c = c.loop-q.invariant.long
-
 pub returns-then-v-nodes : goal.returns-then-v-nodes
 returns-then-v-nodes ty c =
     let g = c.args in
@@ -81,13 +71,6 @@ after_visit-q-requires ty c =
       visited_bound = (omega (arith, i.within, c.requires.begins.few), omega (arith, a.cuts), cuts-few (arithmetic ty.R.Revision.second) _ g.s _ _ _ _ _ _ _ c.visit_next-o.ensures);
     }
 
-pub has_bad_weight-requires : goal.has_bad_weight-requires
-has_bad_weight-requires ty c = tt
-
-pub shape_of-work-then-has_bad_weight : goal.shape_of-work-then-has_bad_weight
-shape_of-work-then-has_bad_weight ty c =
-    c.visit_next-o.auto.work ∙ c.loop-q.invariant.long
-
 pub returns-then-has_bad_weight : goal.returns-then-has_bad_weight
 returns-then-has_bad_weight ty c =
     let g = c.args in
@@ -98,10 +81,6 @@ returns-then-has_bad_weight ty c =
     _ _ _ _ c.visit_next-o.auto.work c.next_depth-d.ensures c.visit_next-o.ensures c.after_visit-q.ensures in
     record { found = r.bad (sym c.has_bad_weight.ensures ∙ c.if-has_bad_weight.true); rest = r.rest }
 
-pub loop-q-smaller : goal.loop-q-smaller
-loop-q-smaller ty c =
-    omega (arith, ap (λ (v : Counts). v.visited) c.after_visit-q.ensures.counts, c.if-v-nodes.false, c.loop-q.invariant.within)
-
 pub loop-q-preserved : goal.loop-q-preserved
 loop-q-preserved ty c =
     let g = c.args in
@@ -111,9 +90,6 @@ loop-q-preserved ty c =
     let r = comes (arithmetic ty.R.Revision.second) g.s g.point_box.now g.resolution g.nodes g.work.now c.requires.begins l.work l.q l.invariant waits more
     _ _ _ _ c.visit_next-o.auto.work c.next_depth-d.ensures c.visit_next-o.ensures c.after_visit-q.ensures in
     r.on (sym c.has_bad_weight.ensures ∙ c.if-has_bad_weight.false)
-
-pub shape_of-work : goal.shape_of-work
-shape_of-work ty c = c.loop-q.invariant.long
 
 pub returns : goal.returns
 returns ty c =

@@ -5,7 +5,7 @@ use Rattle.math.specs.Revision.{arithmetic}
 use Rattle.geometry.specs.State.{asked_of}
 use Rattle.model.specs.Contains.{visit}
 use Rattle.geometry.proofs.slots.Ring.{base_is}
-use Rattle.geometry.proofs.subdivide.State.{slot_is, slot_in, head_in, turn_asks, turn_inside, turn_gives}
+use Rattle.geometry.proofs.subdivide.State.{slot_is, slot_in, turn_asks, turn_inside, turn_gives}
 use Rattle.geometry.proofs.contains.visit_next.Goals as goal
 
 -- ---- the three slots are those of the ring
@@ -19,9 +19,6 @@ pub slot_base-b-requires : goal.slot_base-b-requires
 slot_base-b-requires ty c =
     let a = c.args in
     omega (arith, slot_in a.s a.work.now a.slots a.q.head a.q.pending a.w c.requires.ring.0 c.requires.ring.1 c.requires.ring.2 c.requires.slots_bound.1 (a.q.pending + 1) _ (omega (arith, c.requires.ring.2)) c.wrap-2.ensures)
-
-pub slot_base-requires : goal.slot_base-requires
-slot_base-requires ty c = let a = c.args in omega (arith, head_in a.s a.work.now a.slots a.q.head a.q.pending a.w c.requires.ring.0 c.requires.ring.1 c.requires.ring.2 c.requires.slots_bound.1)
 
 pub visit-o-requires : goal.visit-o-requires
 visit-o-requires ty c =

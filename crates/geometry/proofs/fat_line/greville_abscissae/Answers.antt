@@ -10,14 +10,11 @@ use Rattle.math.specs.Revision.{arithmetic}
 use Rattle.math.specs.Scalars.{ZERO}
 use Rattle.math.specs.declared.scalars.Scalar.{Scalar}
 use Rattle.model.specs.FatLine.{window, abscissa}
-use Rattle.geometry.proofs.fat_line.Zeros.{in_float_degree, mean_is, held_none, held_some}
+use Rattle.geometry.proofs.fat_line.Zeros.{mean_is, held_none, held_some}
 use Rattle.geometry.proofs.fat_line.greville_abscissae.Goals as goal
 
 pub returns-then-degree-eq0 : goal.returns-then-degree-eq0
 returns-then-degree-eq0 ty c = held_none (arithmetic ty.R.Revision.second) c.args.degree _ _ c.if-degree-eq0.true
-
-pub int_to_float-degree : goal.int_to_float-degree
-int_to_float-degree ty c = in_float_degree _ c.requires.0
 
 pub loop-i-init : goal.loop-i-init
 loop-i-init ty c = (refl, sym (put-nil _ 0))

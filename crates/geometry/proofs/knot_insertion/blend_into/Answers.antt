@@ -1,6 +1,5 @@
 -- `blend_into` equals its definition: a copy where alpha is 0, nothing where it is 1, and else the point between, in either revision.
 use mathlib.Core.Path.{sym, ◌∙◌}
-use mathlib.Core.Logic.{inl, inr}
 use lib.Ieee.{of_bits}
 use Rattle.math.specs.Revision.{arithmetic}
 use Rattle.geometry.proofs.knot_insertion.Insert.{blend_zero, blend_one, blend-mid}
@@ -18,9 +17,6 @@ unfolding of_bits
 returns-then-eq-2 ty c =
     let g = c.args in
     blend_one (arithmetic ty.R.Revision.second) g.work.now g.a g.b g.d g.alpha (sym c.eq.ensures ∙ c.if-eq.false) (sym c.eq-2.ensures ∙ c.if-eq-2.true) (omega arith)
-
-pub interpolate-requires : goal.interpolate-requires
-interpolate-requires ty c = record { d_in_bounds = (omega arith, omega arith, omega arith); fact = (inl (omega arith), inr (omega arith)) }
 
 pub returns : goal.returns
 unfolding of_bits

@@ -3,8 +3,8 @@ use mathlib.Core.Path.{refl, ◌∙◌}
 use Prim.Native.Nat.{suc}
 use Rattle.math.specs.Revision.{arithmetic}
 use Rattle.geometry.specs.Slots.{blend_at}
-use Rattle.geometry.proofs.slots.Counts.{place-within, inside_of}
-use Rattle.geometry.proofs.knot_insertion.Blends.{makes_none, makes_turn, makes_done, blend-made}
+use Rattle.geometry.proofs.slots.Counts.{place-within}
+use Rattle.geometry.proofs.knot_insertion.Blends.{makes_none, makes_turn, blend-made}
 use native.Mathlib.Omega.{arith}
 use Rattle.geometry.proofs.knot_insertion.blend_points.Goals as goal
 
@@ -12,10 +12,6 @@ pub loop-i-init : goal.loop-i-init
 loop-i-init ty c =
     let g = c.args in
     (omega arith, refl, makes_none g.s g.base (λ l j. blend_at (arithmetic ty.R.Revision.second) g.s l g.base g.n g.t j) (blend-made (arithmetic ty.R.Revision.second) g.s g.base g.n g.t c.requires.3) g.work.now g.k)
-
-pub blend_point-requires : goal.blend_point-requires
-blend_point-requires ty c =
-    (inside_of c.args.s c.args.work.now c.loop-i.work c.args.base c.loop-i.invariant.1 c.requires.0, omega arith, omega arith)
 
 pub loop-i-preserved : goal.loop-i-preserved
 loop-i-preserved ty c =
@@ -26,9 +22,3 @@ loop-i-preserved ty c =
       makes_turn g.s g.base (λ l j. blend_at (arithmetic ty.R.Revision.second) g.s l g.base g.n g.t j) (blend-made (arithmetic ty.R.Revision.second) g.s g.base g.n g.t c.requires.3) g.work.now g.k l.i l.work _ (omega arith) (omega arith)
           (place-within g.s g.work.now g.base (suc g.k) c.requires.0 (omega arith)) l.invariant.2 c.blend_point.ensures,
     )
-
-pub returns : goal.returns
-returns ty c =
-    let l = c.loop-i in
-    let g = c.args in
-    l.invariant.2 ∙ makes_done g.s g.base (λ l j. blend_at (arithmetic ty.R.Revision.second) g.s l g.base g.n g.t j) (blend-made (arithmetic ty.R.Revision.second) g.s g.base g.n g.t c.requires.3) g.work.now g.k g.s.degree l.i (omega arith) (omega arith)

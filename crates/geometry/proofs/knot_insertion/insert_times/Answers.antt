@@ -7,9 +7,6 @@ use Rattle.geometry.proofs.knot_insertion.insert_times.Goals as goal
 pub loop-init : goal.loop-init
 loop-init ty c = after_none (arithmetic ty.R.Revision.second) c.args.s c.args.work.now c.args.base c.args.t c.args.times c.requires.0
 
-pub span_in-k-requires : goal.span_in-k-requires
-span_in-k-requires ty c = (c.loop.invariant.held, omega (arith, c.loop.invariant.count, c.requires.1))
-
 pub insert_once-requires : goal.insert_once-requires
 insert_once-requires ty c =
     let a = c.loop.invariant in

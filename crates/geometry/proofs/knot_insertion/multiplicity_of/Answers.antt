@@ -3,18 +3,12 @@ use mathlib.Core.Path.{◌≡◌, refl, ◌∙◌}
 use mir.Val.{bool_byte}
 use mathlib.Core.Bool.{Bool, true, false, cond}
 use Prim.Native.Nat.{ℕ, ◌≤◌}
-use native.Mathlib.Nat.{zero-add}
 use lib.Ieee.{nan, eq}
 use lib.ListN.{get_or}
-use Rattle.lists.specs.Lists.{count}
 use Rattle.lists.proofs.Fold.{count_turn, count_done}
 use native.Mathlib.Omega.{arith}
 use Rattle.geometry.proofs.knot_insertion.multiplicity_of.Goals as goal
 
-pub loop-u-init : goal.loop-u-init
-loop-u-init c = (omega arith, zero-add (count (λ u. eq u c.args.t) c.args.knots.now))
-
--- a test as a number
 as_number : (b : Bool) → (bool_byte b ≡ cond {A = ℕ} b 1 0) × (bool_byte b ≤ 1)
 as_number true = (refl, omega arith)
 as_number false = (refl, omega arith)

@@ -1,9 +1,9 @@
 -- `next_row` equals its definition. Invariant: the points behind number i are points between.
-use mathlib.Core.Path.{◌≡◌, refl, ◌∙◌}
+use mathlib.Core.Path.{refl, ◌∙◌}
 use Prim.Native.Nat.{suc}
 use Rattle.math.specs.Revision.{arithmetic}
 use Rattle.geometry.specs.Slots.{between_at}
-use Rattle.geometry.proofs.slots.Counts.{place-within, inside_of}
+use Rattle.geometry.proofs.slots.Counts.{place-within}
 use Rattle.geometry.proofs.knot_insertion.Blends.{makes_none, makes_turn, between-made}
 use native.Mathlib.Omega.{arith}
 use Rattle.geometry.proofs.knot_insertion.next_row.Goals as goal
@@ -12,10 +12,6 @@ pub loop-i-init : goal.loop-i-init
 loop-i-init ty c =
     let g = c.args in
     (omega arith, refl, makes_none g.s g.base (λ l j. between_at (arithmetic ty.R.Revision.second) g.s l g.base g.alpha j) (between-made (arithmetic ty.R.Revision.second) g.s g.base g.alpha) g.work.now g.s.degree)
-
-pub between_point-requires : goal.between_point-requires
-between_point-requires ty c =
-    (inside_of c.args.s c.args.work.now c.loop-i.work c.args.base c.loop-i.invariant.1 c.requires.0, omega arith)
 
 pub loop-i-preserved : goal.loop-i-preserved
 loop-i-preserved ty c =
@@ -26,10 +22,3 @@ loop-i-preserved ty c =
       makes_turn g.s g.base (λ l j. between_at (arithmetic ty.R.Revision.second) g.s l g.base g.alpha j) (between-made (arithmetic ty.R.Revision.second) g.s g.base g.alpha) g.work.now g.s.degree l.i l.work _ (omega arith) (omega arith)
           (place-within g.s g.work.now g.base (suc g.s.degree) c.requires.0 (omega arith)) l.invariant.2 c.between_point.ensures,
     )
-
-pub returns : goal.returns
-returns ty c =
-    let l = c.loop-i in
-    let g = c.args in
-    let e : l.i ≡ g.r = omega arith in
-    rw e at l.invariant.2

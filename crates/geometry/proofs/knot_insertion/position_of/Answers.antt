@@ -1,13 +1,8 @@
 -- `position_of` equals its definition. Invariant: none of the first i knots is t.
-use native.Mathlib.Nat.{zero-add}
 use lib.Ieee.{nan, eq}
-use Rattle.lists.specs.Lists.{position}
 use Rattle.lists.proofs.Fold.{position_turn, position-found, position_done}
 use native.Mathlib.Omega.{arith}
 use Rattle.geometry.proofs.knot_insertion.position_of.Goals as goal
-
-pub loop-i-init : goal.loop-i-init
-loop-i-init c = zero-add (position (λ u. eq u c.args.t) c.args.knots.now)
 
 pub returns-then-knots-i : goal.returns-then-knots-i
 returns-then-knots-i c =

@@ -8,21 +8,12 @@ use Rattle.model.specs.Layout.{flat}
 use Rattle.geometry.specs.declared.slots.Shape.{Shape}
 use Rattle.geometry.specs.Slots.{place_of, vector_at}
 use Rattle.math.specs.Revision.{arithmetic}
-use Rattle.geometry.proofs.slots.Counts.{inside_of}
 use Rattle.geometry.proofs.knot_insertion.Triangle.{triangle-start, triangle-copy, triangle-row, triangle_done}
 use native.Mathlib.Omega.{arith}
 use Rattle.geometry.proofs.knot_insertion.triangle_in.Goals as goal
 
 pub loop-r-init : goal.loop-r-init
 loop-r-init ty c = (refl, triangle-start (arithmetic ty.R.Revision.second) c.args.s c.args.work.now c.args.base c.args.alpha c.requires.0 c.requires.1)
-
-pub copy_point-requires : goal.copy_point-requires
-copy_point-requires ty c =
-    (inside_of c.args.s c.args.work.now c.loop-r.work c.args.base c.loop-r.invariant.0 c.requires.0, omega arith, omega arith)
-
-pub next_row-requires : goal.next_row-requires
-next_row-requires ty c =
-    (inside_of c.args.s c.args.work.now _ c.args.base (c.copy_point.auto.work ∙ c.loop-r.invariant.0) c.requires.0, omega arith, omega arith)
 
 pub loop-r-preserved : goal.loop-r-preserved
 loop-r-preserved ty c =
@@ -31,10 +22,6 @@ loop-r-preserved ty c =
       c.next_row.auto.work ∙ c.copy_point.auto.work ∙ l.invariant.0,
       triangle-row (arithmetic ty.R.Revision.second) g.s g.work.now g.base g.alpha c.requires.0 c.requires.1 l.r _ _ (omega arith) (triangle-copy (arithmetic ty.R.Revision.second) g.s g.work.now g.base g.alpha c.requires.0 c.requires.1 l.r _ _ (omega arith) l.invariant.1 c.copy_point.ensures) c.next_row.ensures,
     )
-
-pub copy_point-requires-2 : goal.copy_point-requires-2
-copy_point-requires-2 ty c =
-    (inside_of c.args.s c.args.work.now c.loop-r.work c.args.base c.loop-r.invariant.0 c.requires.0, omega arith, omega arith)
 
 pub returns : goal.returns
 returns ty c =

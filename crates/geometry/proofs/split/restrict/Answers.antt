@@ -1,7 +1,6 @@
 -- `restrict` equals its definition: a copy, cut at lo and then at hi.
 use Prim.Native.Nat.{ℕ, ◌≤◌}
 use mathlib.Core.Path.{sym, subst}
-use mathlib.Core.Logic.{inl}
 use lib.Dec.{T}
 use Rattle.math.specs.Revision.{arithmetic}
 use Rattle.model.specs.Split.{from_by}
@@ -10,9 +9,6 @@ use Rattle.geometry.specs.Slots.{piece_at, Whole, within}
 use Rattle.geometry.proofs.split.Splits.{copied, copied-whole, cut_down, cut-down-whole, restricted}
 use native.Mathlib.Omega.{arith}
 use Rattle.geometry.proofs.split.restrict.Goals as goal
-
-pub copy_right-requires : goal.copy_right-requires
-copy_right-requires ty c = record { held = (c.requires.0, c.requires.2, omega arith); apart = inl c.requires.3 }
 
 pub cut_from-from-requires : goal.cut_from-from-requires
 cut_from-from-requires ty c =

@@ -3,16 +3,12 @@ use mathlib.Core.Path.{sym, ◌∙◌}
 use mathlib.Core.Logic.{inl}
 use Rattle.math.specs.Revision.{arithmetic}
 use Rattle.geometry.proofs.split.Splits.{split_none, split_done, whole-count, held₁, whole₁, held₂, upto₂, inside₂, held₃, upto₃}
-use native.Mathlib.Omega.{arith}
 use Rattle.geometry.proofs.split.split.Goals as goal
 
 pub returns-then-not-is_inside : goal.returns-then-not-is_inside
 returns-then-not-is_inside ty c =
     let g = c.args in
     split_none (arithmetic ty.R.Revision.second) g.s g.work.now g.src g.left g.right g.t c.requires.held.0 c.requires.held.1 c.requires.held.2 c.requires.held.3 c.requires.apart.0 c.requires.apart.1 c.requires.apart.2 (sym c.is_inside.ensures ∙ c.if-not-is_inside.true)
-
-pub copy_right-requires : goal.copy_right-requires
-copy_right-requires ty c = record { held = (c.requires.held.0, c.requires.held.2, omega arith); apart = inl c.requires.apart.0 }
 
 pub insert_to_full_multiplicity-at-requires : goal.insert_to_full_multiplicity-at-requires
 insert_to_full_multiplicity-at-requires ty c =

@@ -9,10 +9,6 @@ hand_on-requires ty c =
     let g = c.args in
     (c.requires.held.0, c.requires.held.1, c.requires.inside.0, c.requires.inside.2, steep (arithmetic ty.R.Revision.second) g.s.dim g.s.degree (scalars_of g.s.dim g.point_box.now) g.resolution _ _ _ c.plan_in.ensures c.in-Restrict.is)
 
-pub hand_both-requires : goal.hand_both-requires
-hand_both-requires ty c =
-    record { held = (c.requires.held.0, c.requires.held.1.whole, c.requires.inside.0, c.requires.inside.1); apart = (c.requires.inside.2, c.requires.inside.3, c.requires.inside.4) }
-
 pub returns-in-Skip : goal.returns-in-Skip
 returns-in-Skip ty c =
     let g = c.args in
