@@ -7,19 +7,19 @@ ghost use Rattle.text.specs.Numerals.{is_digit, digits, decimal_of, is_small, sm
 ghost use Rattle.text.specs.Numerals.{nibble, is_hex, hex_of, double_of, double};
 ghost use Rattle.text.specs.Cursor.{SmallRead, read_of};
 
-// How many digits the text begins with.
-fn digits(rest: &[u8]) -> usize
-    ensures { let t = rest.now in
-        (result ≡ digits t) × (result ≤ length t) × (all is_digit (take result t) ≡ true) }
-{
-    leading(rest)
-}
-
 // How many digits these bytes begin with.
 fn leading(s: &[u8]) -> usize
     ensures { result ≡ prefix_len is_ascii_digit s.now }
 {
     s.iter().take_while(|b| b.is_ascii_digit()).count()
+}
+
+// How many digits the text begins with: these are digits.
+fn digits(rest: &[u8]) -> usize
+    ensures { let t = rest.now in
+        (result ≡ digits t) × (result ≤ length t) × (all is_digit (take result t) ≡ true) }
+{
+    leading(rest)
 }
 
 // The number that at most nine digits are.

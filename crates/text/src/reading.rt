@@ -15,8 +15,8 @@ pub(crate) fn room() -> [f64; 303]
     [0.0; 303]
 }
 
-// What a text of n bytes and these sizes comes to, of which the other lines are left. As of all that read here, the doubles
-// of its question are written to the front of `lines`: the resolution, the knots, the points, the box.
+// What a text of n bytes and these sizes comes to, of which the other lines are left. As of all that read here, the
+// doubles of its question are written to the front of `lines`: the resolution, the knots, the points, the box.
 fn read_numbers(
     rest: &[u8],
     n: usize,

@@ -13,7 +13,8 @@ use Rattle.std.specs.Prelude.{Option, Some, None}
 use Rattle.text.specs.Bytes.{bytes, Read, bad, got, then}
 use Rattle.text.specs.Question.{small_line, line, lines, Sizes, knot_doubles, point_doubles, box_doubles}
 use Rattle.text.specs.Question.{Numbers, numbers}
-use Rattle.text.specs.Cursor.{SmallRead, ValuesAt, ValuesRead, limits, LimitsAt, LimitsRead, shape, ShapeRead, NumbersAt}
+use Rattle.text.specs.Cursor.{SmallRead, ValuesAt, ValuesRead, limits, LimitsAt, LimitsRead}
+use Rattle.text.specs.Cursor.{shape, ShapeRead, NumbersAt}
 use Rattle.text.proofs.question.Words.{then-bad, then-got}
 
 -- a write behind another

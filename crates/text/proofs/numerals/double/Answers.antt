@@ -15,7 +15,8 @@ returns-then-not-all_hex c =
 pub hex_of-requires : goal.hex_of-requires
 hex_of-requires c =
     let s = c.in_ok-digits.ensures.cases in
-    (s.3, double_digits c.args.rest.now _ c.in_ok-digits.left.now s.0 s.1 s.2 _ c.all_hex.ensures c.if-not-all_hex.false)
+    let left = c.in_ok-digits.left.now in
+    (s.3, double_digits c.args.rest.now _ left s.0 s.1 s.2 _ c.all_hex.ensures c.if-not-all_hex.false)
 
 pub returns : goal.returns
 returns c =

@@ -14,7 +14,8 @@ loop-b-init c = known_none
 -- before the last digit
 pub overflow_mul-v : goal.overflow_mul-v
 overflow_mul-v c =
-    let few : c.loop-b.v < 1152921504606846976 = known_most c.loop-b.invariant 15 (omega arith) (omega (arith, c.requires)) in
+    let few : c.loop-b.v < 1152921504606846976 =
+    known_most c.loop-b.invariant 15 (omega arith) (omega (arith, c.requires)) in
     omega (arith, few)
 
 -- the digit, which is below 16
@@ -26,7 +27,8 @@ digit c =
 pub overflow_add-v : goal.overflow_add-v
 overflow_add-v c =
     let d = digit c in
-    let few : c.loop-b.v < 1152921504606846976 = known_most c.loop-b.invariant 15 (omega arith) (omega (arith, c.requires)) in
+    let few : c.loop-b.v < 1152921504606846976 =
+    known_most c.loop-b.invariant 15 (omega arith) (omega (arith, c.requires)) in
     omega (arith, d, few)
 
 pub loop-b-preserved : goal.loop-b-preserved

@@ -1,5 +1,5 @@
--- `read_numbers` equals its definition: the other lines are bad, the text is too long, something is left behind the last
--- line, or a question is asked.
+-- `read_numbers` equals its definition: the other lines are bad, the text is too long, something is left behind the
+-- last line, or a question is asked.
 use mathlib.Core.Path.{sym, ◌∙◌}
 use Rattle.text.specs.Bytes.{Read}
 use Rattle.text.specs.Question.{Numbers, numbers}
