@@ -1,6 +1,7 @@
--- How the code says what it read: by the place at which the rest of the text begins. Definitions only.
-use Rattle.std.specs.Prelude.{ℕ, ◌+◌, ◌*◌, ◌≤◌, ◌≡◌, List, [], ◌∷◌, ◌++◌, length, drop, get_or, Float}
+-- How the code says what it read: by the value, and by the rest of the text. Definitions only.
+use Rattle.std.specs.Prelude.{ℕ, ◌+◌, ◌*◌, ◌≤◌, ◌≡◌, List, [], ◌∷◌, ◌++◌, length, get_or, Float}
 use Rattle.std.specs.Prelude.{Option, Some, None, Result, Ok, Err}
+use Rattle.std.specs.Borrow.{Bor}
 use Rattle.std.specs.Float.{nan}
 use Rattle.lists.specs.Lists.{part, put}
 use Rattle.model.specs.Numbers.{number_of}
@@ -16,69 +17,58 @@ use Rattle.text.specs.declared.cursor.Asked.{Asked}
 abbrev pub Small : Sizes → Type 0
 Small s = (s.dim ≤ 3) × (s.degree ≤ 7) × (s.count ≤ 32)
 
--- A word was read.
-abbrev pub WordRead : List ℕ → Read (Unit {0}) → Option ℕ → Type 0
-WordRead text spec None = spec ≡ bad
-WordRead text spec (Some i) = (i ≤ length text) × (spec ≡ got tt (drop i text))
+-- What was read, in the words of the definitions: nothing, or a value and the rest behind it.
+abbrev pub read_of : {A : Type 0} → Option (A × Bor (List ℕ)) → Read A
+read_of None = bad
+read_of (Some (x, rest)) = got x rest.now
+
+-- The same of a word, which has no value.
+abbrev pub word_of : Option (Bor (List ℕ)) → Read (Unit {0})
+word_of None = bad
+word_of (Some rest) = got tt rest.now
 
 -- A small number was read. It has at most nine digits.
-abbrev pub SmallRead : List ℕ → Read ℕ → Option (ℕ × ℕ) → Type 0
-SmallRead text spec None = spec ≡ bad
-SmallRead text spec (Some (n, i)) = (n ≤ 999999999) × (i ≤ length text) × (spec ≡ got n (drop i text))
-
--- The three lines of the sizes were read.
-abbrev pub HeadRead : List ℕ → Read Sizes → Option (Sizes × ℕ) → Type 0
-HeadRead text spec None = spec ≡ bad
-HeadRead text spec (Some (s, i)) = (i ≤ length text) × (spec ≡ got s (drop i text))
+abbrev pub SmallRead : Read ℕ → Option (ℕ × Bor (List ℕ)) → Type 0
+SmallRead spec None = spec ≡ bad
+SmallRead spec (Some (n, rest)) = (n ≤ 999999999) × (spec ≡ got n rest.now)
 
 -- ---- doubles
 
--- A double was read. It has sixteen digits.
-abbrev pub DoubleRead : List ℕ → ℕ → Option Float → Type 0
-DoubleRead text at None = double (drop at text) ≡ bad
-DoubleRead text at (Some x) = (at + 16 ≤ length text) × (double (drop at text) ≡ got x (drop (at + 16) text))
+-- A double and the byte b behind it.
+unfoldable pub value : ℕ → List ℕ → Read Float
+value b t = then (double t) (λ x a. then (word (b ∷ []) a) (λ _ rest. got x rest))
 
--- The double x stands at `at`, with the byte b behind it, and the rest begins at i.
-pub record ValueAt (text : List ℕ) (at b : ℕ) (x : Float) (i : ℕ) : Type 0 where
-  pub inside : i ≤ length text
-  pub reads : double (drop at text) ≡ got x (drop (at + 16) text)
-  pub goes_on : word (b ∷ []) (drop (at + 16) text) ≡ got tt (drop i text)
-
--- A double and the byte b behind it were read.
-abbrev pub ValueRead : List ℕ → ℕ → ℕ → Option (Float × ℕ) → Type 0
-ValueRead text at b None = then (double (drop at text)) (λ x rest. word (b ∷ []) rest) ≡ bad
-ValueRead text at b (Some (x, i)) = ValueAt text at b x i
-
--- n doubles were read up to i, and written to the memory l from `to` on, which became m.
-pub record ValuesAt (text : List ℕ) (spec : Read (List Float)) (n to : ℕ) (l m : List Float) (i : ℕ) : Type 0 where
-  pub inside : i ≤ length text
+-- n doubles were read, and written to the memory l from `to` on, which became m.
+pub record ValuesAt (spec : Read (List Float)) (n to : ℕ) (l m : List Float) (rest : List ℕ) : Type 0 where
   pub xs : List Float
-  pub reads : spec ≡ got xs (drop i text)
+  pub reads : spec ≡ got xs rest
   pub long : length xs ≡ n
   pub wrote : m ≡ put l to xs
 
--- n doubles were read and written.
-abbrev pub ValuesRead : List ℕ → Read (List Float) → ℕ → ℕ → List Float → List Float → Option ℕ → Type 0
-ValuesRead text spec n to l m None = spec ≡ bad
-ValuesRead text spec n to l m (Some i) = ValuesAt text spec n to l m i
+-- So they were, or they are not there.
+abbrev pub ValuesRead : Read (List Float) → ℕ → ℕ → List Float → List Float → Option (Bor (List ℕ)) → Type 0
+ValuesRead spec n to l m None = spec ≡ bad
+ValuesRead spec n to l m (Some rest) = ValuesAt spec n to l m rest.now
 
 -- ---- the other lines
 
--- The lines of the nodes and the resolution were read up to i; the resolution was written to the front of the memory l,
--- which became m.
-pub record LimitsAt (text t : List ℕ) (l m : List Float) (nodes i : ℕ) : Type 0 where
-  pub inside : i ≤ length text
+-- The lines of the nodes and the resolution.
+unfoldable pub limits : List ℕ → Read (List Float)
+limits t = then (small_line (bytes "nodes=") t) (λ _ a. line (bytes "resolution=") 1 a)
+
+-- They were read from t on; the resolution was written to the front of the memory l, which became m.
+pub record LimitsAt (t : List ℕ) (l m : List Float) (nodes : ℕ) (rest : List ℕ) : Type 0 where
   pub few : nodes ≤ 999999999
-  pub rest : List ℕ
+  pub behind_nodes : List ℕ
   pub resolution : Float
-  pub nodes_read : small_line (bytes "nodes=") t ≡ got nodes rest
-  pub resolution_read : line (bytes "resolution=") 1 rest ≡ got (resolution ∷ []) (drop i text)
+  pub nodes_read : small_line (bytes "nodes=") t ≡ got nodes behind_nodes
+  pub resolution_read : line (bytes "resolution=") 1 behind_nodes ≡ got (resolution ∷ []) rest
   pub wrote : m ≡ put l 0 (resolution ∷ [])
 
--- They were read.
-abbrev pub LimitsRead : List ℕ → List ℕ → List Float → List Float → Option (ℕ × ℕ) → Type 0
-LimitsRead text t l m None = then (small_line (bytes "nodes=") t) (λ _ a. line (bytes "resolution=") 1 a) ≡ bad
-LimitsRead text t l m (Some (nodes, i)) = LimitsAt text t l m nodes i
+-- So they were, or they are not there.
+abbrev pub LimitsRead : List ℕ → List Float → List Float → Option (ℕ × Bor (List ℕ)) → Type 0
+LimitsRead t l m None = limits t ≡ bad
+LimitsRead t l m (Some (nodes, rest)) = LimitsAt t l m nodes rest.now
 
 -- The lines of the knots, the points and the box from t on.
 unfoldable pub shape : Sizes → List ℕ → Read (List Float)
@@ -94,9 +84,8 @@ pub record Long (s : Sizes) (knots points box : List Float) : Type 0 where
   pub points_long : length points ≡ point_doubles s * s.count
   pub box_long : length box ≡ box_doubles s
 
--- These lines were read up to i, and written to the memory l from its second place on, which became m.
-pub record ShapeAt (text t : List ℕ) (s : Sizes) (l m : List Float) (i : ℕ) : Type 0 where
-  pub inside : i ≤ length text
+-- These lines were read, and written to the memory l from its second place on, which became m.
+pub record ShapeAt (t : List ℕ) (s : Sizes) (l m : List Float) (rest : List ℕ) : Type 0 where
   pub knots : List Float
   pub points : List Float
   pub box : List Float
@@ -104,14 +93,14 @@ pub record ShapeAt (text t : List ℕ) (s : Sizes) (l m : List Float) (i : ℕ) 
   pub behind_points : List ℕ
   pub knots_read : line (bytes "knots=") (knot_doubles s) t ≡ got knots behind_knots
   pub points_read : lines (bytes "point=") (point_doubles s) s.count behind_knots ≡ got points behind_points
-  pub box_read : line (bytes "box=") (box_doubles s) behind_points ≡ got box (drop i text)
+  pub box_read : line (bytes "box=") (box_doubles s) behind_points ≡ got box rest
   pub long : Long s knots points box
   pub wrote : m ≡ put l 1 (knots ++ points ++ box)
 
--- They were read.
-abbrev pub ShapeRead : List ℕ → List ℕ → Sizes → List Float → List Float → Option ℕ → Type 0
-ShapeRead text t s l m None = shape s t ≡ bad
-ShapeRead text t s l m (Some i) = ShapeAt text t s l m i
+-- So they were, or they are not there.
+abbrev pub ShapeRead : List ℕ → Sizes → List Float → List Float → Option (Bor (List ℕ)) → Type 0
+ShapeRead t s l m None = shape s t ≡ bad
+ShapeRead t s l m (Some rest) = ShapeAt t s l m rest.now
 
 -- The doubles of a question as the code lays them down: the resolution, the knots, the points, the box.
 abbrev pub laid : Numbers → List Float
@@ -130,20 +119,19 @@ numbers_in s nodes l =
       box = part l p (box_doubles s);
     }
 
--- All the other lines were read up to i, and their doubles were written to the front of the memory l, which became m.
-pub record NumbersAt (text : List ℕ) (spec : Read Numbers) (s : Sizes) (l m : List Float) (nodes i : ℕ) : Type 0 where
-  pub inside : i ≤ length text
+-- All the other lines were read, and their doubles were written to the front of the memory l, which became m.
+pub record NumbersAt (spec : Read Numbers) (s : Sizes) (l m : List Float) (nodes : ℕ) (rest : List ℕ) : Type 0 where
   pub says : Numbers
-  pub reads : spec ≡ got says (drop i text)
+  pub reads : spec ≡ got says rest
   pub nodes_same : says.nodes ≡ nodes
   pub few : nodes ≤ 999999999
   pub long : Long s says.knots says.points says.box
   pub wrote : m ≡ put l 0 (laid says)
 
--- They were read.
-abbrev pub NumbersRead : List ℕ → Read Numbers → Sizes → List Float → List Float → Option (ℕ × ℕ) → Type 0
-NumbersRead text spec s l m None = spec ≡ bad
-NumbersRead text spec s l m (Some (nodes, i)) = NumbersAt text spec s l m nodes i
+-- So they were, or they are not there.
+abbrev pub NumbersRead : Read Numbers → Sizes → List Float → List Float → Option (ℕ × Bor (List ℕ)) → Type 0
+NumbersRead spec s l m None = spec ≡ bad
+NumbersRead spec s l m (Some (nodes, rest)) = NumbersAt spec s l m nodes rest.now
 
 -- ---- the whole text
 

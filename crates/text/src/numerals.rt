@@ -1,11 +1,11 @@
 // Numbers in a text: small ones in decimal, doubles as the hexadecimal digits of their bits.
-ghost use Rattle.std.specs.Prelude.{◌≡◌, true, ◌+◌, ◌≤◌, length, drop};
+ghost use Rattle.std.specs.Prelude.{◌≡◌, true, ◌≤◌, length, take};
 ghost use Rattle.std.specs.List.{list_all, prefix_len};
 ghost use Rattle.std.specs.Char.{is_ascii_digit};
-ghost use Rattle.lists.specs.Lists.{part, all};
+ghost use Rattle.lists.specs.Lists.{all};
 ghost use Rattle.text.specs.Numerals.{is_digit, digits, decimal_of, is_small, small};
-ghost use Rattle.text.specs.Numerals.{nibble, is_hex, hex_of, is_double, double_of};
-ghost use Rattle.text.specs.Cursor.{SmallRead, DoubleRead};
+ghost use Rattle.text.specs.Numerals.{nibble, is_hex, hex_of, double_of, double};
+ghost use Rattle.text.specs.Cursor.{SmallRead, read_of};
 
 // How many digits these bytes begin with.
 fn leading(s: &[u8]) -> usize
@@ -14,31 +14,30 @@ fn leading(s: &[u8]) -> usize
     s.iter().take_while(|b| b.is_ascii_digit()).count()
 }
 
-// How many digits stand from `at` on.
-fn digits(text: &[u8], at: usize) -> usize
-    requires { at ≤ length text.now }
-    ensures { let t = text.now in
-        (result ≡ digits (drop at t)) × (at + result ≤ length t) × (all is_digit (part t at result) ≡ true) }
+// How many digits the text begins with: these are digits.
+fn digits(rest: &[u8]) -> usize
+    ensures { let t = rest.now in
+        (result ≡ digits t) × (result ≤ length t) × (all is_digit (take result t) ≡ true) }
 {
-    leading(&text[at..])
+    leading(rest)
 }
 
-// The number that the n digits from `at` on are.
-fn decimal_of(text: &[u8], at: usize, n: usize) -> usize
-    requires { (n ≤ 9) × (at + n ≤ length text.now) × (all is_digit (part text.now at n) ≡ true) }
-    ensures { (result ≡ decimal_of (part text.now at n)) × (result ≤ 999999999) }
+// The number that at most nine digits are.
+fn decimal_of(digits: &[u8]) -> usize
+    requires { (length digits.now ≤ 9) × (all is_digit digits.now ≡ true) }
+    ensures { (result ≡ decimal_of digits.now) × (result ≤ 999999999) }
 {
     let mut v = 0;
-    for b in &text[at..at + n] {
+    for b in digits {
         v = 10 * v + usize::from(*b - 48);
     }
     v
 }
 
-// The n digits from `at` on are a small number: one to nine, and no leading zero.
-fn is_small(text: &[u8], at: usize, n: usize) -> bool
-    requires { at + n ≤ length text.now }
-    ensures { result ≡ is_small n (drop at text.now) }
+// The first n bytes, which are digits, are a small number: one to nine, and no leading zero.
+fn is_small(rest: &[u8], n: usize) -> bool
+    requires { n ≤ length rest.now }
+    ensures { result ≡ is_small n rest.now }
 {
     if n < 1 {
         return false;
@@ -49,19 +48,19 @@ fn is_small(text: &[u8], at: usize, n: usize) -> bool
     if n == 1 {
         return true;
     }
-    text[at] != 48
+    rest[0] != 48
 }
 
-// A small number from `at` on, and where the rest begins. It is so of all that read here and in question.rt.
-pub(crate) fn small(text: &[u8], at: usize) -> Option<(usize, usize)>
-    requires { at ≤ length text.now }
-    ensures { SmallRead text.now (small (drop at text.now)) result }
+// A small number at the front, and what is left behind it. It is so of all that read here and in question.rt.
+pub(crate) fn small(rest: &[u8]) -> Option<(usize, &[u8])>
+    ensures { SmallRead (small rest.now) result }
 {
-    let n = digits(text, at);
-    if !is_small(text, at, n) {
+    let n = digits(rest);
+    if !is_small(rest, n) {
         return None;
     }
-    Some((decimal_of(text, at, n), at + n))
+    let (front, left) = rest.split_at(n);
+    Some((decimal_of(front), left))
 }
 
 // The value of a hexadecimal digit of either case, and 16 for any other byte.
@@ -84,22 +83,13 @@ fn all_hex(s: &[u8]) -> bool
     s.iter().all(|b| nibble(*b) <= 15)
 }
 
-// Sixteen hexadecimal digits stand from `at` on.
-fn is_double(text: &[u8], at: usize) -> bool
-    requires { at ≤ length text.now }
-    ensures { let t = text.now in
-        (result ≡ is_double (drop at t)) × (result ≡ true → at + 16 ≤ length t) }
-{
-    16 <= text.len() - at && all_hex(&text[at..at + 16])
-}
-
-// The number that the sixteen hexadecimal digits from `at` on are.
-fn hex_of(text: &[u8], at: usize) -> u64
-    requires { (at + 16 ≤ length text.now) × (all is_hex (part text.now at 16) ≡ true) }
-    ensures { result ≡ hex_of (part text.now at 16) }
+// The number that sixteen hexadecimal digits are.
+fn hex_of(digits: &[u8]) -> u64
+    requires { (length digits.now ≡ 16) × (all is_hex digits.now ≡ true) }
+    ensures { result ≡ hex_of digits.now }
 {
     let mut v = 0;
-    for b in &text[at..at + 16] {
+    for b in digits {
         v = 16 * v + u64::from(nibble(*b));
     }
     v
@@ -115,13 +105,13 @@ fn double_of(bits: u64) -> f64
     f64::from_bits(bits)
 }
 
-// The double from `at` on.
-pub(crate) fn double(text: &[u8], at: usize) -> Option<f64>
-    requires { at ≤ length text.now }
-    ensures { DoubleRead text.now at result }
+// A double at the front, and what is left behind it.
+pub(crate) fn double(rest: &[u8]) -> Option<(f64, &[u8])>
+    ensures { read_of result ≡ double rest.now }
 {
-    if !is_double(text, at) {
+    let (digits, left) = rest.split_at_checked(16)?;
+    if !all_hex(digits) {
         return None;
     }
-    Some(double_of(hex_of(text, at)))
+    Some((double_of(hex_of(digits)), left))
 }

@@ -1,48 +1,40 @@
 // The lines of a question.
-ghost use Rattle.std.specs.Prelude.{◌≡◌, [], ◌∷◌, ◌+◌, ◌*◌, ◌≤◌, length, drop};
+ghost use Rattle.std.specs.Prelude.{◌≡◌, [], ◌∷◌, ◌+◌, ◌*◌, ◌≤◌, length};
 ghost use Rattle.text.specs.Bytes.{word};
 ghost use Rattle.text.specs.Question.{behind, small_line, values, line, lines, revision};
 ghost use Rattle.text.specs.Question.{sizes, numbers};
-ghost use Rattle.text.specs.Cursor.{WordRead, SmallRead, HeadRead, ValueRead, ValuesRead};
+ghost use Rattle.text.specs.Cursor.{read_of, word_of, SmallRead, value, ValuesRead};
 ghost use Rattle.text.specs.Cursor.{Small, LimitsRead, ShapeRead, NumbersRead};
 
 use crate::cursor::Sizes;
 use crate::numerals::{double, small};
 
-// The word w from `at` on.
-fn word(text: &[u8], at: usize, w: &[u8]) -> Option<usize>
-    requires { at ≤ length text.now }
-    ensures { let t = text.now in WordRead t (word w.now (drop at t)) result }
+// The word w at the front, and what is left behind it.
+fn word<'a>(rest: &'a [u8], w: &[u8]) -> Option<&'a [u8]>
+    ensures { word_of result ≡ word w.now rest.now }
 {
-    if !text[at..].starts_with(w) {
-        return None;
-    }
-    Some(at + w.len())
+    rest.strip_prefix(w)
 }
 
-// The byte b from `at` on.
-fn byte(text: &[u8], at: usize, b: u8) -> Option<usize>
-    requires { at ≤ length text.now }
-    ensures { let t = text.now in WordRead t (word (b ∷ []) (drop at t)) result }
+// The byte b at the front.
+fn byte(rest: &[u8], b: u8) -> Option<&[u8]>
+    ensures { word_of result ≡ word (b ∷ []) rest.now }
 {
-    if text.len() <= at {
+    let (first, left) = rest.split_first()?;
+    if *first != b {
         return None;
     }
-    if text[at] != b {
-        return None;
-    }
-    Some(at + 1)
+    Some(left)
 }
 
 // A line of a key and a small number.
-fn small_line(text: &[u8], at: usize, key: &[u8]) -> Option<(usize, usize)>
-    requires { at ≤ length text.now }
-    ensures { let t = text.now in SmallRead t (small_line key.now (drop at t)) result }
+fn small_line<'a>(rest: &'a [u8], key: &[u8]) -> Option<(usize, &'a [u8])>
+    ensures { SmallRead (small_line key.now rest.now) result }
 {
-    let i = word(text, at, key)?;
-    let (n, j) = small(text, i)?;
-    let k = byte(text, j, 10)?;
-    Some((n, k))
+    let number = word(rest, key)?;
+    let (n, end) = small(number)?;
+    let left = byte(end, 10)?;
+    Some((n, left))
 }
 
 // What stands behind a value, where so many follow it.
@@ -52,114 +44,105 @@ pub(crate) fn behind(n: usize) -> u8
     if n == 0 { 10 } else { 32 }
 }
 
-// One double from `at` on, with the byte b behind it, and where the rest begins.
-fn value(text: &[u8], at: usize, b: u8) -> Option<(f64, usize)>
-    requires { at ≤ length text.now }
-    ensures { ValueRead text.now at b result }
+// A double and the byte b behind it.
+fn value(rest: &[u8], b: u8) -> Option<(f64, &[u8])>
+    ensures { read_of result ≡ value b rest.now }
 {
-    let x = double(text, at)?;
-    let end = byte(text, at + 16, b)?;
-    Some((x, end))
+    let (x, end) = double(rest)?;
+    let left = byte(end, b)?;
+    Some((x, left))
 }
 
-// n doubles from `at` on, written to `out` from `to` on.
-fn values(text: &[u8], at: usize, n: usize, out: &mut [f64], to: usize) -> Option<usize>
-    requires { (at ≤ length text.now) × (to + n ≤ length out.old) }
-    ensures { let t = text.now in
-        ValuesRead t (values n (drop at t)) n to out.old out.new result }
+// n doubles, written to `out` from `to` on.
+fn values<'a>(text: &'a [u8], n: usize, out: &mut [f64], to: usize) -> Option<&'a [u8]>
+    requires { to + n ≤ length out.old }
+    ensures { ValuesRead (values n text.now) n to out.old out.new result }
 {
-    let mut k = at;
+    let mut rest = text;
     for i in 0..n {
-        let (x, j) = value(text, k, behind(n - i - 1))?;
+        let (x, left) = value(rest, behind(n - i - 1))?;
         out[to + i] = x;
-        k = j;
+        rest = left;
     }
-    Some(k)
+    Some(rest)
 }
 
 // A line of a key and n doubles.
-fn line(text: &[u8], at: usize, key: &[u8], n: usize, out: &mut [f64], to: usize) -> Option<usize>
-    requires { (at ≤ length text.now) × (to + n ≤ length out.old) }
-    ensures { let t = text.now in let k = key.now in
-        ValuesRead t (line k n (drop at t)) n to out.old out.new result }
+fn line<'a>(rest: &'a [u8], key: &[u8], n: usize, out: &mut [f64], to: usize) -> Option<&'a [u8]>
+    requires { to + n ≤ length out.old }
+    ensures { ValuesRead (line key.now n rest.now) n to out.old out.new result }
 {
-    let i = word(text, at, key)?;
-    values(text, i, n, out, to)
+    let left = word(rest, key)?;
+    values(left, n, out, to)
 }
 
 // k lines of a key and n doubles.
-fn lines(
-    text: &[u8],
-    at: usize,
+fn lines<'a>(
+    text: &'a [u8],
     key: &[u8],
     n: usize,
     k: usize,
     out: &mut [f64],
     to: usize,
-) -> Option<usize>
-    requires { (at ≤ length text.now) × (to + n * k ≤ length out.old) }
-    ensures { let t = text.now in let w = key.now in
-        ValuesRead t (lines w n k (drop at t)) (n * k) to out.old out.new result }
+) -> Option<&'a [u8]>
+    requires { to + n * k ≤ length out.old }
+    ensures { ValuesRead (lines key.now n k text.now) (n * k) to out.old out.new result }
 {
-    let mut p = at;
+    let mut rest = text;
     for i in 0..k {
-        p = line(text, p, key, n, out, to + n * i)?;
+        rest = line(rest, key, n, out, to + n * i)?;
     }
-    Some(p)
+    Some(rest)
 }
 
-// The line of the revision, which is 1 where the text does not begin with its key: then the rest begins at the front.
-pub(crate) fn revision(text: &[u8]) -> Option<(usize, usize)>
-    ensures { SmallRead text.now (revision text.now) result }
+// The line of the revision, which is 1 where the text does not begin with its key: then the whole text is left.
+pub(crate) fn revision(text: &[u8]) -> Option<(usize, &[u8])>
+    ensures { SmallRead (revision text.now) result }
 {
-    if word(text, 0, b"rev=").is_none() {
-        return Some((1, 0));
+    if word(text, b"rev=").is_none() {
+        return Some((1, text));
     }
-    small_line(text, 0, b"rev=")
+    small_line(text, b"rev=")
 }
 
-// The three lines of the sizes from `at` on.
-pub(crate) fn sizes(text: &[u8], at: usize) -> Option<(Sizes, usize)>
-    requires { at ≤ length text.now }
-    ensures { let t = text.now in HeadRead t (sizes (drop at t)) result }
+// The three lines of the sizes.
+pub(crate) fn sizes(rest: &[u8]) -> Option<(Sizes, &[u8])>
+    ensures { read_of result ≡ sizes rest.now }
 {
-    let (dim, i) = small_line(text, at, b"dim=")?;
-    let (degree, j) = small_line(text, i, b"degree=")?;
-    let (count, k) = small_line(text, j, b"count=")?;
-    Some((Sizes { dim, degree, count }, k))
+    let (dim, a) = small_line(rest, b"dim=")?;
+    let (degree, b) = small_line(a, b"degree=")?;
+    let (count, left) = small_line(b, b"count=")?;
+    Some((Sizes { dim, degree, count }, left))
 }
 
 // The line of the nodes and that of the resolution, which is written to the front of `out`.
-fn limits(text: &[u8], at: usize, out: &mut [f64]) -> Option<(usize, usize)>
-    requires { (at ≤ length text.now) × (1 ≤ length out.old) }
-    ensures { let t = text.now in
-        LimitsRead t (drop at t) out.old out.new result }
+fn limits<'a>(rest: &'a [u8], out: &mut [f64]) -> Option<(usize, &'a [u8])>
+    requires { 1 ≤ length out.old }
+    ensures { LimitsRead rest.now out.old out.new result }
 {
-    let (n, i) = small_line(text, at, b"nodes=")?;
-    let j = line(text, i, b"resolution=", 1, out, 0)?;
-    Some((n, j))
+    let (n, a) = small_line(rest, b"nodes=")?;
+    let left = line(a, b"resolution=", 1, out, 0)?;
+    Some((n, left))
 }
 
 // The lines of the knots, the points and the box, written to `out` from its second place on.
-fn shape(text: &[u8], at: usize, s: Sizes, out: &mut [f64]) -> Option<usize>
-    requires { (at ≤ length text.now) × Small s × (303 ≤ length out.old) }
-    ensures { let t = text.now in
-        ShapeRead t (drop at t) s out.old out.new result }
+fn shape<'a>(rest: &'a [u8], s: Sizes, out: &mut [f64]) -> Option<&'a [u8]>
+    requires { Small s × (303 ≤ length out.old) }
+    ensures { ShapeRead rest.now s out.old out.new result }
 {
     let k = s.count + s.degree + 1;
-    let i = line(text, at, b"knots=", k, out, 1)?;
+    let a = line(rest, b"knots=", k, out, 1)?;
     let w = 2 * (s.dim + 1);
-    let j = lines(text, i, b"point=", w, s.count, out, 1 + k)?;
-    line(text, j, b"box=", 2 * s.dim, out, 1 + k + w * s.count)
+    let b = lines(a, b"point=", w, s.count, out, 1 + k)?;
+    line(b, b"box=", 2 * s.dim, out, 1 + k + w * s.count)
 }
 
 // All the other lines.
-pub(crate) fn numbers(text: &[u8], at: usize, s: Sizes, out: &mut [f64]) -> Option<(usize, usize)>
-    requires { (at ≤ length text.now) × Small s × (303 ≤ length out.old) }
-    ensures { let t = text.now in
-        NumbersRead t (numbers s (drop at t)) s out.old out.new result }
+pub(crate) fn numbers<'a>(rest: &'a [u8], s: Sizes, out: &mut [f64]) -> Option<(usize, &'a [u8])>
+    requires { Small s × (303 ≤ length out.old) }
+    ensures { NumbersRead (numbers s rest.now) s out.old out.new result }
 {
-    let (n, i) = limits(text, at, out)?;
-    let j = shape(text, i, s, out)?;
-    Some((n, j))
+    let (n, a) = limits(rest, out)?;
+    let left = shape(a, s, out)?;
+    Some((n, left))
 }

@@ -1,5 +1,5 @@
 // The reading of a whole text: its question, or by what it is refused.
-ghost use Rattle.std.specs.Prelude.{◌≡◌, ◌≤◌, length, drop};
+ghost use Rattle.std.specs.Prelude.{◌≡◌, ◌≤◌, length};
 ghost use Rattle.text.specs.Question.{sizes, numbers, complete_by, read_by, reading};
 ghost use Rattle.text.specs.Cursor.{Small, TextRead};
 
@@ -15,26 +15,25 @@ pub(crate) fn room() -> [f64; 303]
     [0.0; 303]
 }
 
-// What a text of these sizes comes to, whose other lines begin at `at`. As of all that read here, the doubles of its
-// question are written to the front of `lines`: the resolution, the knots, the points, the box.
+// What a text of n bytes and these sizes comes to, of which the other lines are left. As of all that read here, the
+// doubles of its question are written to the front of `lines`: the resolution, the knots, the points, the box.
 fn read_numbers(
-    text: &[u8],
-    at: usize,
+    rest: &[u8],
+    n: usize,
     rev: usize,
     s: Sizes,
     lines: &mut [f64],
 ) -> Result<Asked, Refusal>
-    requires { (at ≤ length text.now) × Small s × (303 ≤ length lines.old) }
-    ensures { let t = text.now in
-        TextRead (complete_by rev s (length t) (numbers s (drop at t))) lines.new result }
+    requires { Small s × (303 ≤ length lines.old) }
+    ensures { TextRead (complete_by rev s n (numbers s rest.now)) lines.new result }
 {
-    let Some((nodes, end)) = numbers(text, at, s, lines) else {
+    let Some((nodes, left)) = numbers(rest, s, lines) else {
         return Err(Refusal::Text);
     };
-    if 65536 < text.len() {
+    if 65536 < n {
         return Err(Refusal::Text);
     }
-    if end < text.len() {
+    if !left.is_empty() {
         return Err(Refusal::Text);
     }
     Ok(Asked {
@@ -44,17 +43,16 @@ fn read_numbers(
     })
 }
 
-// What a text in this revision comes to, whose lines behind that of the revision begin at `at`.
-fn read_sizes(text: &[u8], at: usize, rev: usize, lines: &mut [f64]) -> Result<Asked, Refusal>
-    requires { (at ≤ length text.now) × (303 ≤ length lines.old) }
-    ensures { let t = text.now in
-        TextRead (read_by rev (length t) (sizes (drop at t))) lines.new result }
+// What a text of n bytes in this revision comes to, of which the lines behind that of the revision are left.
+fn read_sizes(rest: &[u8], n: usize, rev: usize, lines: &mut [f64]) -> Result<Asked, Refusal>
+    requires { 303 ≤ length lines.old }
+    ensures { TextRead (read_by rev n (sizes rest.now)) lines.new result }
 {
-    let Some((s, rest)) = sizes(text, at) else {
+    let Some((s, left)) = sizes(rest) else {
         return Err(Refusal::Text);
     };
     sizes_refusal(s.dim, s.degree, s.count)?;
-    read_numbers(text, rest, rev, s, lines)
+    read_numbers(left, n, rev, s, lines)
 }
 
 // What a text comes to.
@@ -62,9 +60,9 @@ pub(crate) fn read(text: &[u8], lines: &mut [f64]) -> Result<Asked, Refusal>
     requires { 303 ≤ length lines.old }
     ensures { TextRead (reading text.now) lines.new result }
 {
-    let Some((rev, at)) = revision(text) else {
+    let Some((rev, rest)) = revision(text) else {
         return Err(Refusal::Text);
     };
     revision_refusal(rev)?;
-    read_sizes(text, at, rev, lines)
+    read_sizes(rest, text.len(), rev, lines)
 }

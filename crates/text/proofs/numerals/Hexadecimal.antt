@@ -1,19 +1,18 @@
 -- Laws of doubles in a text: of hexadecimal digits, and of the double that sixteen of them are. Assumes nothing.
 use mathlib.Core.Path.{◌≡◌, refl, sym, ap, ◌∙◌}
-use mathlib.Core.Bool.{Bool, true, false, not, ◌&&◌}
+use mathlib.Core.Bool.{Bool, true, false, cond, not, ◌&&◌}
 use mathlib.Core.List.{List, [], ◌∷◌}
-use Prim.Native.Nat.{ℕ, ◌+◌, ◌-◌, ◌/◌, ◌%◌, ◌≤◌, ◌<◌}
+use Prim.Native.Nat.{ℕ, ◌-◌, ◌/◌, ◌%◌, ◌≤◌, ◌<◌}
 use native.Mathlib.Omega.{arith}
-use lib.ListN.{length, take, drop, get_or, length-drop}
+use lib.ListN.{length, take, drop, get_or}
 use lib.Dec.{leb}
 use lib.Ieee.{Float, nan, binary64, nan_bits, of_bits}
-use borrow.Author.Tests.{leb-true, le-leb, eqb-true, eq-eqb, ne_eqb}
+use borrow.Author.Tests.{leb-true, le-leb, lt-leb, eqb-true, eq-eqb, ne_eqb}
 use Rattle.std.specs.List.{list_all}
-use Rattle.lists.specs.Lists.{part, all}
-use lib.Seq.{drop-drop}
+use Rattle.lists.specs.Lists.{all}
+use Rattle.lists.proofs.Fold.{all_get_or}
 use Rattle.text.specs.Bytes.{bad, got}
-use Rattle.text.specs.Numerals.{is_digit, is_hex, is_double, hex_of, nibble, double_of, double}
-use Rattle.text.proofs.numerals.Decimal.{both, part_all}
+use Rattle.text.specs.Numerals.{is_digit, is_hex, hex_of, nibble, double_of, double}
 
 -- ---- hexadecimal digits
 
@@ -25,28 +24,14 @@ pub nibble-lower : (b : ℕ) → is_digit b ≡ false → leb 97 b && leb b 102 
 unfolding nibble
 nibble-lower b e f = rw (e, f)
 
-pub hex_known : (l : List ℕ) (at i : ℕ) → at + 16 ≤ length l → all is_hex (part l at 16) ≡ true → i < 16
-    → nibble (get_or l (at + i) 0) ≤ 15
-hex_known l at i h e g = leb-true _ 15 (part_all is_hex l at 16 i h e g)
+pub hex_known : (l : List ℕ) (i : ℕ) → all is_hex l ≡ true → i < length l → nibble (get_or l i 0) ≤ 15
+hex_known l i e g = leb-true _ 15 (all_get_or is_hex l i 0 e g)
 
--- ---- sixteen of them
-
-all_hex : (l : List ℕ) → list_all is_hex l ≡ all is_hex l
+-- what the code asks of all of them is what the definition asks
+pub all_hex : (l : List ℕ) → list_all is_hex l ≡ all is_hex l
 unfolding all
 all_hex [] = refl
 all_hex (b ∷ l) = ap (λ (s : Bool). is_hex b && s) (all_hex l)
-
-double_long : (l : List ℕ) (at : ℕ) → at + 16 ≤ length l → all is_hex (part l at 16) ≡ is_double (drop at l)
-double_long l at h =
-    let e : leb 16 (length (drop at l)) ≡ true = le-leb 16 (length (drop at l)) (simp length-drop (omega arith)) in
-    rw e
-
--- the code looks at them, where there are so many bytes
-pub double_there : (l : List ℕ) (at : ℕ) (r : Bool) → at + 16 ≤ length l
-    → r ≡ list_all is_hex (take (at + 16 - at) (drop at l)) → r ≡ is_double (drop at l)
-double_there l at r h R =
-    let s : at + 16 - at ≡ 16 = omega arith in
-    R ∙ ap (λ (n : ℕ). list_all is_hex (part l at n)) s ∙ all_hex (part l at 16) ∙ double_long l at h
 
 -- ---- the double of some bits
 
@@ -80,17 +65,29 @@ double_number b e = rw e
 
 -- ---- a double in a text
 
-module _ (l : List ℕ) (at : ℕ) (r : Bool) (R : r ≡ is_double (drop at l)) where
-  -- there is none
-  pub double_none : r ≡ false → double (drop at l) ≡ bad
-  unfolding double
-  double_none e = rw (sym R ∙ e)
+-- the text is too short
+pub double_short : (t : List ℕ) → length t < 16 → double t ≡ bad
+unfolding double
+double_short t h = rw (lt-leb 16 (length t) h)
 
-  -- there is one
-  pub double_digits : r ≡ true → all is_hex (part l at 16) ≡ true
-  double_digits e = (both (leb 16 (length (drop at l))) (all is_hex (part l at 16)) (sym R ∙ e)).1
+module _ (t digits left : List ℕ) (h : 16 ≤ length t) (F : digits ≡ take 16 t) (B : left ≡ drop 16 t) (r : Bool)
+    (R : r ≡ list_all is_hex digits) where
+  same : r ≡ all is_hex digits
+  same = R ∙ all_hex digits
 
-  pub double_got : r ≡ true → (x : Float) → x ≡ double_of (hex_of (part l at 16))
-      → double (drop at l) ≡ got x (drop (at + 16) l)
+  split : double t ≡ cond r (got (double_of (hex_of digits)) left) bad
   unfolding double
-  double_got e x f = rw (sym R ∙ e, drop-drop 16 at l, f)
+  split = rw (le-leb 16 (length t) h, ← F, ← B, ← same)
+
+  -- these are no sixteen digits
+  pub double_none : r ≡ false → bad ≡ double t
+  double_none e = sym (split ∙ ap (λ (q : Bool). cond q (got (double_of (hex_of digits)) left) bad) e)
+
+  -- they are
+  pub double_digits : r ≡ true → all is_hex digits ≡ true
+  double_digits e = sym same ∙ e
+
+  pub double_got : r ≡ true → (x : Float) → x ≡ double_of (hex_of digits) → got x left ≡ double t
+  double_got e x f =
+      ap (λ (y : Float). got y left) f
+      ∙ sym (split ∙ ap (λ (q : Bool). cond q (got (double_of (hex_of digits)) left) bad) e)

@@ -5,36 +5,38 @@ use Prim.Native.Nat.{ℕ, suc, ◌+◌, ◌-◌, ◌*◌, ◌≤◌, ◌<◌}
 use native.Mathlib.Nat.{mul-zero, mul-suc, mul-le-mul_left}
 use native.Mathlib.Numerals.{add-one}
 use native.Mathlib.Omega.{arith}
-use lib.ListN.{length, drop, set, length-append}
+use lib.ListN.{length, set, length-append}
 use lib.Ieee.{Float}
 use Rattle.lists.specs.Lists.{put}
 use Rattle.lists.proofs.Put.{put-nil, put-put, put_one, length-put}
+use Rattle.std.specs.Borrow.{Bor}
 use Rattle.std.specs.Prelude.{Option, Some, None}
 use Rattle.text.specs.Bytes.{Read, bad, got, then, word}
 use Rattle.text.specs.Numerals.{double}
 use Rattle.text.specs.Question.{behind, values, line, lines}
-use Rattle.text.specs.Cursor.{WordRead, DoubleRead, ValueAt, ValueRead, ValuesAt, ValuesRead}
-use Rattle.text.proofs.question.Words.{then-bad, then-got}
+use Rattle.text.specs.Cursor.{read_of, word_of, value, ValuesAt, ValuesRead}
+use Rattle.text.proofs.question.Words.{then-bad, then-got, nothing_read, was_read, no_word, was_word}
 
 -- ---- doubles
 
-module _ (text : List ℕ) (at b : ℕ) (r : Option Float) (d : DoubleRead text at r) where
+module _ (b : ℕ) (t : List ℕ) (r : Option (Float × Bor (List ℕ))) (d : read_of r ≡ double t) where
   -- there is no double
-  pub value_none : r ≡ None → then (double (drop at text)) (λ x rest. word (b ∷ []) rest) ≡ bad
-  value_none e = then-bad _ _ (subst (DoubleRead text at) e d)
+  pub value_none : r ≡ None → value b t ≡ bad
+  unfolding value
+  value_none e = then-bad (double t) _ (nothing_read r d e)
 
   -- there is one, and the byte b behind it or not
-  module _ (x : Float) (e : r ≡ Some x) (q : Option ℕ) (w : WordRead text (word (b ∷ []) (drop (at + 16) text)) q) where
-    there : DoubleRead text at (Some x)
-    there = subst (DoubleRead text at) e d
+  module _ (x : Float) (a : Bor (List ℕ)) (e : r ≡ Some (x, a)) (q : Option (Bor (List ℕ)))
+      (w : word_of q ≡ word (b ∷ []) a.now) where
+    behind_double : value b t ≡ then (word (b ∷ []) a.now) (λ _ rest. got x rest)
+    unfolding value
+    behind_double = then-got (double t) _ x a.now (was_read r d x a e)
 
-    pub value-endless : q ≡ None → then (double (drop at text)) (λ x rest. word (b ∷ []) rest) ≡ bad
-    value-endless f = then-got (double (drop at text)) _ _ _ there.1 ∙ subst (WordRead text _) f w
+    pub value-endless : q ≡ None → value b t ≡ bad
+    value-endless f = behind_double ∙ then-bad (word (b ∷ []) a.now) _ (no_word q w f)
 
-    pub value_is : (i : ℕ) → q ≡ Some i → ValueAt text at b x i
-    value_is i f =
-        let v = subst (WordRead text _) f w in
-        record { inside = v.0; reads = there.1; goes_on = v.1 }
+    pub value_is : (c : Bor (List ℕ)) → q ≡ Some c → value b t ≡ got x c.now
+    value_is c f = behind_double ∙ then-got (word (b ∷ []) a.now) _ tt c.now (was_word q w c f)
 
 -- Some doubles, and what is read behind them.
 pub prepend : List Float → Read (List Float) → Read (List Float)
@@ -77,12 +79,10 @@ module _ {whole left : Read (List Float)} {i to : ℕ} {l m : List Float} (k : T
   taken-bad e = k.told ∙ ap (prepend k.xs) e ∙ prepend_bad k.xs
 
   -- nothing is left
-  taken_all : {n : ℕ} (text : List ℕ) (p : ℕ) → left ≡ got [] (drop p text) → i ≡ n → p ≤ length text
-      → ValuesAt text whole n to l m p
-  taken_all text p e f h = record {
-    inside = h;
+  taken_all : {n : ℕ} {rest : List ℕ} → left ≡ got [] rest → i ≡ n → ValuesAt whole n to l m rest
+  taken_all {rest} e f = record {
     xs = k.xs;
-    reads = k.told ∙ ap (prepend k.xs) e ∙ prepend_end k.xs (drop p text);
+    reads = k.told ∙ ap (prepend k.xs) e ∙ prepend_end k.xs rest;
     long = k.long ∙ f;
     wrote = k.wrote;
   }
@@ -102,77 +102,85 @@ module _ {whole left : Read (List Float)} {i to : ℕ} {l m : List Float} (k : T
 
 -- ---- several doubles
 
--- where a value cannot be read, neither can the values
-stuck : (d : Read Float) (b : ℕ) (f : Float → Unit {0} → List ℕ → Read (List Float))
-    → then d (λ x rest. word (b ∷ []) rest) ≡ bad → then d (λ x a. then (word (b ∷ []) a) (f x)) ≡ bad
+-- a value, and then the others
+by_word : {A B : Type 0} (x : A) (w : Read (Unit {0})) (g : A → List ℕ → Read B)
+    → then w (λ _ c. g x c) ≡ then (then w (λ _ c. got x c)) g
 unfolding then
-stuck bad b f e = refl
-stuck (got x t) b f e = ap (λ (q : Read (Unit {0})). then q (f x)) e
+by_word x bad g = refl
+by_word x (got u c) g = refl
 
-values-stuck : (n m : ℕ) (t : List ℕ) (b : ℕ) → n ≡ suc m → b ≡ behind m
-    → then (double t) (λ x rest. word (b ∷ []) rest) ≡ bad → values n t ≡ bad
-unfolding values
-values-stuck n m t b e f h = rw (e, ← f) (stuck (double t) b _ h)
+by_value : (d : Read Float) (b : ℕ) (g : Float → List ℕ → Read (List Float))
+    → then d (λ x a. then (word (b ∷ []) a) (λ _ c. g x c))
+    ≡ then (then d (λ x a. then (word (b ∷ []) a) (λ _ c. got x c))) g
+unfolding then
+by_value bad b g = refl
+by_value (got x a) b g = by_word x (word (b ∷ []) a) g
 
-values_one : (n m : ℕ) (t a c : List ℕ) (b : ℕ) (x : Float) → n ≡ suc m → b ≡ behind m → double t ≡ got x a
-    → word (b ∷ []) a ≡ got tt c → values n t ≡ prepend (x ∷ []) (values m c)
-unfolding values prepend
-values_one n m t a c b x e f d w = rw (e, ← f) (then-got (double t) _ x a d ∙ then-got (word (b ∷ []) a) _ tt c w)
+values_by : (n m : ℕ) (t : List ℕ) (b : ℕ) → n ≡ suc m → b ≡ behind m
+    → values n t ≡ then (value b t) (λ x c. prepend (x ∷ []) (values m c))
+unfolding values value prepend
+values_by n m t b e f = rw (e, f) (by_value (double t) (behind m) _)
 
-module _ (text : List ℕ) (n at to : ℕ) (l : List Float) where
-  -- The first i values are taken, the others are read from k on.
-  abbrev pub Values : ℕ → ℕ → List Float → Type 0
-  Values i k m = Taken (values n (drop at text)) (values (n - i) (drop k text)) i to l m
+-- where a value cannot be read, neither can the values
+values-stuck : (n m : ℕ) (t : List ℕ) (b : ℕ) → n ≡ suc m → b ≡ behind m → value b t ≡ bad → values n t ≡ bad
+values-stuck n m t b e f h = values_by n m t b e f ∙ then-bad (value b t) _ h
+
+values_one : (n m : ℕ) (t c : List ℕ) (b : ℕ) (x : Float) → n ≡ suc m → b ≡ behind m → value b t ≡ got x c
+    → values n t ≡ prepend (x ∷ []) (values m c)
+values_one n m t c b x e f h = values_by n m t b e f ∙ then-got (value b t) _ x c h
+
+module _ (n : ℕ) (t : List ℕ) (to : ℕ) (l : List Float) where
+  -- The first i values are taken, the others are read from `rest`.
+  abbrev pub Values : ℕ → List ℕ → List Float → Type 0
+  Values i rest m = Taken (values n t) (values (n - i) rest) i to l m
 
   -- before the first value
-  pub values_begin : Values 0 at l
-  values_begin = let z : n ≡ n - 0 = omega arith in taken_none to l (ap (λ (q : ℕ). values q (drop at text)) z)
+  pub values_begin : Values 0 t l
+  values_begin = let z : n ≡ n - 0 = omega arith in taken_none to l (ap (λ (q : ℕ). values q t) z)
 
-  module _ (i k b : ℕ) (m : List Float) (r : Option (Float × ℕ)) (less : i < n) (sep : b ≡ behind (n - i - 1))
-      (read : ValueRead text k b r) (so : Values i k m) where
+  module _ (i b : ℕ) (rest : List ℕ) (m : List Float) (r : Option (Float × Bor (List ℕ))) (less : i < n)
+      (sep : b ≡ behind (n - i - 1)) (read : read_of r ≡ value b rest) (so : Values i rest m) where
     next : n - i ≡ suc (n - i - 1)
     next = omega arith
 
     -- a value that cannot be read
-    pub values-stop : r ≡ None → values n (drop at text) ≡ bad
-    values-stop e =
-        taken-bad so (values-stuck (n - i) (n - i - 1) (drop k text) b next sep (subst (ValueRead text k b) e read))
+    pub values-stop : r ≡ None → values n t ≡ bad
+    values-stop e = taken-bad so (values-stuck (n - i) (n - i - 1) rest b next sep (nothing_read r read e))
 
     -- one value
-    pub values_turn : (x : Float) (j : ℕ) → r ≡ Some (x, j) → to + n ≤ length l
-        → Values (i + 1) j (set m (to + i) x)
-    values_turn x j e h =
-        let v = subst (ValueRead text k b) e read in
+    pub values_turn : (x : Float) (c : Bor (List ℕ)) → r ≡ Some (x, c) → to + n ≤ length l
+        → Values (i + 1) c.now (set m (to + i) x)
+    values_turn x c e h =
         let s : n - i - 1 ≡ n - (i + 1) = omega arith in
         let w : length m ≡ length l = rw so.wrote (length-put l to so.xs (omega (arith, so.long))) in
-        let o : values (n - i) (drop k text) ≡ prepend (x ∷ []) (values (n - (i + 1)) (drop j text)) =
-        rw (← s) (values_one (n - i) (n - i - 1) _ _ (drop j text) b _ next sep v.reads v.goes_on) in
+        let o : values (n - i) rest ≡ prepend (x ∷ []) (values (n - (i + 1)) c.now) =
+        rw (← s) (values_one (n - i) (n - i - 1) rest c.now b x next sep (was_read r read x c e)) in
         rw (put_one m (to + i) x (omega arith)) (taken_more so (x ∷ []) o refl (omega arith))
 
   -- behind the last value
-  pub values_end : (i k : ℕ) (m : List Float) → n ≤ i → i ≤ n → k ≤ length text → Values i k m
-      → ValuesAt text (values n (drop at text)) n to l m k
+  pub values_end : (i : ℕ) (rest : List ℕ) (m : List Float) → n ≤ i → i ≤ n → Values i rest m
+      → ValuesAt (values n t) n to l m rest
   unfolding values
-  values_end i k m g h p so =
+  values_end i rest m g h so =
       let z : n - i ≡ 0 = omega arith in
-      taken_all so text k (ap (λ (q : ℕ). values q (drop k text)) z) (omega arith) p
+      taken_all so (ap (λ (q : ℕ). values q rest) z) (omega arith)
 
 -- ---- lines of doubles
 
-module _ (text key t : List ℕ) (n : ℕ) (r : Option ℕ) (w : WordRead text (word key t) r) where
+module _ (key t : List ℕ) (n : ℕ) (r : Option (Bor (List ℕ))) (w : word_of r ≡ word key t) where
   -- the key is missing
   pub line_keyless : r ≡ None → line key n t ≡ bad
   unfolding line
-  line_keyless e = then-bad (word key t) _ (subst (WordRead text _) e w)
+  line_keyless e = then-bad (word key t) _ (no_word r w e)
 
-  line_is : (i : ℕ) → r ≡ Some i → line key n t ≡ values n (drop i text)
+  line_is : (a : Bor (List ℕ)) → r ≡ Some a → line key n t ≡ values n a.now
   unfolding line
-  line_is i e = then-got (word key t) _ tt (drop i text) (subst (WordRead text _) e w).1
+  line_is a e = then-got (word key t) _ tt a.now (was_word r w a e)
 
   -- the values behind the key
-  pub line-rest : (i : ℕ) → r ≡ Some i → (to : ℕ) (l m : List Float) (q : Option ℕ)
-      → ValuesRead text (values n (drop i text)) n to l m q → ValuesRead text (line key n t) n to l m q
-  line-rest i e to l m q h = subst (λ (spec : Read (List Float)). ValuesRead text spec n to l m q) (sym (line_is i e)) h
+  pub line-rest : (a : Bor (List ℕ)) → r ≡ Some a → (to : ℕ) (l m : List Float) (q : Option (Bor (List ℕ)))
+      → ValuesRead (values n a.now) n to l m q → ValuesRead (line key n t) n to l m q
+  line-rest a e to l m q h = subst (λ (spec : Read (List Float)). ValuesRead spec n to l m q) (sym (line_is a e)) h
 
 lines-stuck : (key : List ℕ) (n k m : ℕ) (t : List ℕ) → k ≡ suc m → line key n t ≡ bad → lines key n k t ≡ bad
 unfolding lines
@@ -187,42 +195,41 @@ lines_one key n k m t a ys e h = rw e (then-got (line key n t) _ ys a h)
 pub row_in : (n i k : ℕ) → i < k → n * i + n ≤ n * k
 row_in n i k h = rw (← mul-suc n i) (mul-le-mul_left n h)
 
-module _ (text key : List ℕ) (n k at to : ℕ) (l : List Float) where
-  -- The first i lines are taken, the others are read from p on.
-  abbrev pub Lines : ℕ → ℕ → List Float → Type 0
-  Lines i p m = Taken (lines key n k (drop at text)) (lines key n (k - i) (drop p text)) (n * i) to l m
+module _ (key : List ℕ) (n k : ℕ) (t : List ℕ) (to : ℕ) (l : List Float) where
+  -- The first i lines are taken, the others are read from `rest`.
+  abbrev pub Lines : ℕ → List ℕ → List Float → Type 0
+  Lines i rest m = Taken (lines key n k t) (lines key n (k - i) rest) (n * i) to l m
 
   -- before the first line
-  pub lines_begin : Lines 0 at l
+  pub lines_begin : Lines 0 t l
   lines_begin =
       let z : k ≡ k - 0 = omega arith in
-      rw (mul-zero n) (taken_none to l (ap (λ (q : ℕ). lines key n q (drop at text)) z))
+      rw (mul-zero n) (taken_none to l (ap (λ (q : ℕ). lines key n q t) z))
 
-  module _ (i p : ℕ) (m w : List Float) (r : Option ℕ) (less : i < k)
-      (read : ValuesRead text (line key n (drop p text)) n (to + n * i) m w r) (so : Lines i p m) where
+  module _ (i : ℕ) (rest : List ℕ) (m w : List Float) (r : Option (Bor (List ℕ))) (less : i < k)
+      (read : ValuesRead (line key n rest) n (to + n * i) m w r) (so : Lines i rest m) where
     left : k - i ≡ suc (k - (i + 1))
     left = omega arith
 
     -- a line that cannot be read
-    pub lines-stop : r ≡ None → lines key n k (drop at text) ≡ bad
+    pub lines-stop : r ≡ None → lines key n k t ≡ bad
     lines-stop e =
-        taken-bad so
-        (lines-stuck key n (k - i) (k - (i + 1)) (drop p text) left (subst (ValuesRead text _ n _ m w) e read))
+        taken-bad so (lines-stuck key n (k - i) (k - (i + 1)) rest left (subst (ValuesRead _ n _ m w) e read))
 
     -- one line
-    pub lines_turn : (j : ℕ) → r ≡ Some j → to + n * k ≤ length l → (j ≤ length text) × Lines (i + 1) j w
-    lines_turn j e h =
-        let v = subst (ValuesRead text (line key n (drop p text)) n (to + n * i) m w) e read in
+    pub lines_turn : (c : Bor (List ℕ)) → r ≡ Some c → to + n * k ≤ length l → Lines (i + 1) c.now w
+    lines_turn c e h =
+        let v = subst (ValuesRead (line key n rest) n (to + n * i) m w) e read in
         let f : n * i + length v.xs ≡ n * (i + 1) = rw (v.long, add-one i, mul-suc n i) in
         let g : n * (i + 1) ≤ n * k = rw (add-one i) (mul-le-mul_left n less) in
-        let o = lines_one key n (k - i) (k - (i + 1)) (drop p text) (drop j text) v.xs left v.reads in
-        (v.inside, rw v.wrote (taken_more so v.xs o f (omega arith)))
+        let o = lines_one key n (k - i) (k - (i + 1)) rest c.now v.xs left v.reads in
+        rw v.wrote (taken_more so v.xs o f (omega arith))
 
   -- behind the last line
-  pub lines_end : (i p : ℕ) (m : List Float) → k ≤ i → i ≤ k → p ≤ length text → Lines i p m
-      → ValuesAt text (lines key n k (drop at text)) (n * k) to l m p
+  pub lines_end : (i : ℕ) (rest : List ℕ) (m : List Float) → k ≤ i → i ≤ k → Lines i rest m
+      → ValuesAt (lines key n k t) (n * k) to l m rest
   unfolding lines
-  lines_end i p m g h q so =
+  lines_end i rest m g h so =
       let z : k - i ≡ 0 = omega arith in
       let y : i ≡ k = omega arith in
-      taken_all so text p (ap (λ (q : ℕ). lines key n q (drop p text)) z) (ap (λ (q : ℕ). n * q) y) q
+      taken_all so (ap (λ (q : ℕ). lines key n q rest) z) (ap (λ (q : ℕ). n * q) y)

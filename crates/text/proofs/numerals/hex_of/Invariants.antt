@@ -4,4 +4,4 @@ use Rattle.text.proofs.numerals.Base.{Known}
 use Rattle.text.proofs.numerals.hex_of.Given as goal
 
 abbrev pub invariant-loop-b : goal.invariant-loop-b
-invariant-loop-b l = Known 16 nibble l.text l.at l.b-index l.v
+invariant-loop-b l = Known 16 nibble l.digits l.b-index l.v

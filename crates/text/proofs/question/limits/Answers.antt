@@ -8,19 +8,19 @@ unfolding bytes
 returns-in_err-n c =
     let a = c.args in
     rw c.from_residual.ensures
-    (limits_none a.text.now _ _ c.small_line.ensures a.out.now a.out.now c.in_err-n.was)
+    (limits_none a.rest.now _ c.small_line.ensures a.out.now a.out.now c.in_err-n.was)
 
-pub returns-in_err-j : goal.returns-in_err-j
+pub returns-in_err-left : goal.returns-in_err-left
 unfolding bytes
-returns-in_err-j c =
+returns-in_err-left c =
     let a = c.args in
-    rw c.from_residual-in_err-j.ensures
-    (limits_one a.text.now _ _ c.small_line.ensures a.out.now c.line.new.out
-    _ _ c.in_ok-n.was _ c.line.ensures c.in_err-j.was)
+    rw c.from_residual-in_err-left.ensures
+    (limits_one a.rest.now _ c.small_line.ensures a.out.now c.line.new.out
+    _ _ c.in_ok-n.was _ c.line.ensures c.in_err-left.was)
 
 pub returns : goal.returns
 unfolding bytes
 returns c =
     let a = c.args in
-    limits_two a.text.now _ _ c.small_line.ensures a.out.now c.line.new.out
-    _ _ c.in_ok-n.was _ c.line.ensures _ c.in_ok-j.was
+    limits_two a.rest.now _ c.small_line.ensures a.out.now c.line.new.out
+    _ _ c.in_ok-n.was _ c.line.ensures _ c.in_ok-left.was

@@ -7,18 +7,18 @@ pub returns-in_err-n : goal.returns-in_err-n
 returns-in_err-n c =
     let a = c.args in
     rw c.from_residual.ensures
-    (numbers_none a.text.now _ a.s a.out.now c.limits.new.out _ c.limits.ensures c.in_err-n.was)
+    (numbers_none a.rest.now a.s a.out.now c.limits.new.out _ c.limits.ensures c.in_err-n.was)
 
-pub returns-in_err-j : goal.returns-in_err-j
-returns-in_err-j c =
+pub returns-in_err-left : goal.returns-in_err-left
+returns-in_err-left c =
     let a = c.args in
-    rw c.from_residual-in_err-j.ensures
-    (numbers_one a.text.now _ a.s a.out.now c.limits.new.out _ c.limits.ensures _ _
-    c.in_ok-n.was c.shape.new.out _ c.shape.ensures c.in_err-j.was)
+    rw c.from_residual-in_err-left.ensures
+    (numbers_one a.rest.now a.s a.out.now c.limits.new.out _ c.limits.ensures _ _
+    c.in_ok-n.was c.shape.new.out _ c.shape.ensures c.in_err-left.was)
 
 pub returns : goal.returns
 returns c =
     let a = c.args in
-    numbers_two a.text.now _ a.s a.out.now c.limits.new.out _ c.limits.ensures _ _
-    c.in_ok-n.was c.shape.new.out _ c.shape.ensures _ c.in_ok-j.was
-    (omega (arith, c.requires.2))
+    numbers_two a.rest.now a.s a.out.now c.limits.new.out _ c.limits.ensures _ _
+    c.in_ok-n.was c.shape.new.out _ c.shape.ensures _ c.in_ok-left.was
+    (omega (arith, c.requires.1))
