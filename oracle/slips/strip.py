@@ -9,11 +9,14 @@ import sys
 CRATES = sys.argv[4:] or ["math", "model", "geometry", "text"]
 
 
-def clauses_out(text):
-    """Leaves out each `requires` and `ensures` clause: the word, a name or none, and braces, which may nest."""
+CLAUSE = re.compile(r"^[ \t]*(?:requires|ensures)\b[^{\n]*\{", re.M)
+GHOST = re.compile(r"^[ \t]*ghost \w+ ?[:=] ?\{", re.M)
+
+
+def braces_out(text, start):
+    """Leaves out what begins as `start` says, with the braces that it opens, which may nest, and a comma or semicolon behind a ghost member."""
     out = []
     at = 0
-    start = re.compile(r"^[ \t]*(?:requires|ensures)\b[^{\n]*\{", re.M)
     while True:
         m = start.search(text, at)
         if m is None:
@@ -28,6 +31,8 @@ def clauses_out(text):
             elif text[i] == "}":
                 depth -= 1
             i += 1
+        if start is GHOST and text[i:i + 1] in (";", ","):
+            i += 1
         if text[i:i + 1] == "\n":
             i += 1
         at = i
@@ -35,12 +40,17 @@ def clauses_out(text):
 
 def rust_of(text, crate):
     text = re.sub(r"^[ \t]*ghost use [^;]*;[ \t]*\n", "", text, flags=re.M)
-    text = clauses_out(text)
+    text = braces_out(braces_out(text, CLAUSE), GHOST)
     text = re.sub(r"\bcrate::", "crate::" + crate + "::", text)
     text = re.sub(r"^([ \t]*)use (" + "|".join(CRATES) + r")::", r"\1use crate::\2::", text, flags=re.M)
     text = re.sub(r"(?<![\w:])(" + "|".join(CRATES) + r")::(?=\w+::)", r"crate::\1::", text)
+    equal = set(re.findall(r"^#\[derive\([^)\n]*\bPartialEq\b.*\n(?:pub(?:\(crate\))? )?(?:struct|enum) (\w+)", text, flags=re.M))
     text = re.sub(r"^[ \t]*#!?\[(derive|tactic)\b.*\n", "", text, flags=re.M)
-    text = re.sub(r"^(pub(?:\(crate\))? )?(struct|enum)\b", r"#[derive(Clone, Copy)]\n\1\2", text, flags=re.M)
+
+    def derived(m):
+        return "#[derive(Clone, Copy%s)]\n%s" % (", PartialEq" if m[2] in equal else "", m[0])
+
+    text = re.sub(r"^(pub(?:\(crate\))? )?(?:struct|enum) (\w+)", derived, text, flags=re.M)
     return text
 
 
