@@ -15,6 +15,7 @@ use Rattle.model.specs.Subdivide.{Visit, dropped, reported, restricted, halved, 
 use Rattle.model.specs.Enclosure.{Every}
 use Rattle.model.specs.declared.subdivide.Counts.{Counts}
 use Rattle.model.specs.declared.contains.Found.{Found}
+use Rattle.model.specs.declared.refusal.Refusal.TheVariants as reason
 use Rattle.model.specs.declared.contains.Found.TheVariants.{Nothing, Enclosed, Spent, Refused}
 use Rattle.model.proofs.Every.{every_append}
 
@@ -34,17 +35,17 @@ some_right P (x ∷ l) m h = inr (some_right P l m h)
 
 -- ---- what is asked of an answer, where In is asked of what is reported
 abbrev pub Right : (Scalar → Type 0) → Found → Type 0
-Right In (Nothing v k e) = Unit {0}
-Right In (Enclosed lo hi v k e) = (t : Scalar) × (In t × ((lo ≡ positive_zero t.lo) × (hi ≡ positive_zero t.hi)))
-Right In (Spent n v k e) = Unit {0}
-Right In (Refused n v k e) = n ≡ 11
+Right In (Nothing v) = Unit {0}
+Right In (Enclosed lo hi v) = (t : Scalar) × (In t × ((lo ≡ positive_zero t.lo) × (hi ≡ positive_zero t.hi)))
+Right In (Spent n v) = Unit {0}
+Right In (Refused e v) = e ≡ reason.Piece
 
 -- and what is asked of it besides, where there is a hit
 abbrev pub Hit : (Scalar → Type 0) → Found → Type 0
-Hit At (Nothing v k e) = ⊥
-Hit At (Enclosed lo hi v k e) = (t : Scalar) × (At t × ((lo ≡ positive_zero t.lo) × (hi ≡ positive_zero t.hi)))
-Hit At (Spent n v k e) = Unit {0}
-Hit At (Refused n v k e) = Unit {0}
+Hit At (Nothing v) = ⊥
+Hit At (Enclosed lo hi v) = (t : Scalar) × (At t × ((lo ≡ positive_zero t.lo) × (hi ≡ positive_zero t.hi)))
+Hit At (Spent n v) = Unit {0}
+Hit At (Refused e v) = Unit {0}
 
 -- ---- what is asked of a visit
 abbrev pub Fine : (Scalar → Type 0) → (Piece → Type 0) → Visit → Type 0
