@@ -22,6 +22,7 @@ use Rattle.model.specs.Numbers.{number_of, refusal_of}
 use Rattle.model.specs.Enclosure.{OnlyWeights}
 use Rattle.model.specs.Refusals.{question_of, Enough, with_words, OfQuestion, Refusals, AnyRefusals, Rooms}
 use Rattle.model.specs.declared.contains.Found.{Found}
+use Rattle.model.specs.declared.refusal.Refusal.{Refusal}
 use Rattle.model.specs.declared.refusal.Refusal.TheVariants as reason
 use Rattle.model.specs.declared.contains.Found.TheVariants.{Nothing, Enclosed, Spent, Refused}
 use Rattle.model.proofs.Checks.{pass, fail, none_left, else_left, else_taken, question-passes, question-sizes, small-sizes, stated-words}
@@ -179,12 +180,22 @@ module _ (ar : Arithmetic) where
       by (suc m) (inr (inl h)) e = inl (subst OfQuestion (sym (numbered (suc m) (inl h)) ∙ one_number e) h)
       by (suc m) (inr (inr h)) e = inr (inl (sym (sym (numbered (suc m) (inr h)) ∙ one_number e) ∙ h))
 
+  -- of one that is refused
+  refused_number : (c : Call) → (refusal c ≡ 0 → ⊥) → (e : Refusal) × (number_of e ≡ refusal c) × (searched ar c ≡ Refused e no_counts)
+  unfolding searched searched_by
+  refused_number c some = by (refusal c) (call_number c) some
+    where
+      by : (m : ℕ) → (m ≡ 0) ⊎ (OfQuestion m ⊎ (m ≡ 10)) → (m ≡ 0 → ⊥) → (e : Refusal) × (number_of e ≡ m) × (searched_by ar c m ≡ Refused e no_counts)
+      by zero h k = absurd (k refl)
+      by (suc m) (inl h) k = absurd (k h)
+      by (suc m) (inr h) k = (refusal_of (suc m), numbered (suc m) h, refl)
+
 -- WHO REFUSES BY WHICH NUMBER
 pub refusals : (ar : Arithmetic) → Refusals ar
 refusals ar = record { search = search_number ar; question = question_number; long = same_refusal; numbers = answer_number ar; areas = same_answer ar; or_ten = same_or_ten ar }
 
 pub any-refusals : (ar : Arithmetic) → AnyRefusals ar
-any-refusals ar = record { any = any_number ar }
+any-refusals ar = record { any = any_number ar; number = refused_number ar }
 
 -- ---- for how many sizes an area is long enough
 

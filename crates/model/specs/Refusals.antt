@@ -9,6 +9,8 @@ use Rattle.model.specs.Call.{Call, question_refusal, refusal, stated_words, sear
 use Rattle.model.specs.Paper.{refused, paper}
 use Rattle.model.specs.Enclosure.{OnlyWeights}
 use Rattle.model.specs.Nodes.{with_nodes}
+use Rattle.model.specs.Numbers.{number_of}
+use Rattle.model.specs.declared.refusal.Refusal.{Refusal}
 use Rattle.model.specs.declared.refusal.Refusal.TheVariants as reason
 use Rattle.model.specs.declared.contains.Found.TheVariants.{Refused}
 
@@ -47,6 +49,8 @@ pub record Refusals (ar : Arithmetic) : Type 0 where
 pub record AnyRefusals (ar : Arithmetic) : Type 0 where
   -- No other number comes than 16, 1 to 9, 10 and 11.
   pub any : (c : Call) (n : ℕ) → (paper (searched ar c)).result ≡ refused n → OfQuestion n ⊎ ((n ≡ 10) ⊎ (n ≡ 11))
+  -- A call that a number refuses has the refusal of that number for an answer, with nothing counted.
+  pub number : (c : Call) → (refusal c ≡ 0 → ⊥) → (e : Refusal) × (number_of e ≡ refusal c) × (searched ar c ≡ Refused e no_counts)
 
 -- An area that is long enough in space, for this degree, count and nodes, is so for every call with no more of them, whatever its dim is.
 pub record Rooms : Type 0 where

@@ -80,10 +80,6 @@ unfoldable pub complete : Option Scalar → Counts → Found
 complete none v = Nothing v
 complete (some t) v = Enclosed (positive_zero t.lo) (positive_zero t.hi) v
 
--- The result when the nodes are used up and n pieces are left.
-abbrev pub spent_with : ℕ → Counts → Found
-spent_with n v = Spent n v
-
 -- The result when a weight is not above zero.
 abbrev pub failed_with : Counts → Found
 failed_with v = Refused reason.Piece v
@@ -100,7 +96,7 @@ after cs d v f bad_weight = over (failed_with v)
 -- Whether the search is over before its next visit: no piece waits, or no visit is left for the first of them. The scope: pending counts that piece and those behind it.
 unfoldable pub ended : ℕ → List Waiting → Counts → Option Scalar → Option Found
 ended nodes [] v f = some (complete f v)
-ended nodes (c ∷ cs) v f = cond (ltb v.visited nodes) none (some (spent_with (suc (length cs)) v))
+ended nodes (c ∷ cs) v f = cond (ltb v.visited nodes) none (some (Spent (suc (length cs)) v))
 
 -- The visit of the first piece that waits. It does not look at the depth.
 unfoldable pub step : (Piece → Visit) → List Waiting → Counts → Option Scalar → Step
@@ -129,4 +125,4 @@ resumed visit nodes k (going s) = advance visit nodes k s
 -- The result where a search stands. A search that may take all its nodes in one go is over.
 unfoldable pub answered : Step → Found
 answered (over r) = r
-answered (going s) = spent_with (length s.queue) s.counts
+answered (going s) = Spent (length s.queue) s.counts

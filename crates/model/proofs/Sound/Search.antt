@@ -11,7 +11,7 @@ use Rattle.math.specs.declared.scalars.Scalar.{Scalar}
 use Rattle.math.specs.Scalars.{union_s}
 use Rattle.math.proofs.Bools.{pick}
 use Rattle.model.specs.NurbCurve.{Piece}
-use Rattle.model.specs.Subdivide.{Visit, dropped, reported, restricted, halved, bad_weight, Waiting, State, Step, going, over, positive_zero, joined, complete, spent_with, after, ended, step, stop, advance, answered}
+use Rattle.model.specs.Subdivide.{Visit, dropped, reported, restricted, halved, bad_weight, Waiting, State, Step, going, over, positive_zero, joined, complete, after, ended, step, stop, advance, answered}
 use Rattle.model.specs.Enclosure.{Every}
 use Rattle.model.specs.declared.subdivide.Counts.{Counts}
 use Rattle.model.specs.declared.contains.Found.{Found}
@@ -106,7 +106,7 @@ module _ (visit : Piece → Visit) (nodes : ℕ) (In : Scalar → Type 0) (Ok : 
   ends : (l : List Waiting) (v : Counts) (f : Option Scalar) → Ready l f → Ends (ended nodes l v f)
   unfolding ended Ends
   ends [] v f r = completes f v r.inside
-  ends (c ∷ cs) v f r = pick Ends (ltb v.visited nodes) none (some (spent_with (suc (length cs)) v)) (λ _. tt) (λ _. tt)
+  ends (c ∷ cs) v f r = pick Ends (ltb v.visited nodes) none (some (Spent (suc (length cs)) v)) (λ _. tt) (λ _. tt)
 
   afters : (cs : List Waiting) (d : ℕ) (v : Counts) (f : Option Scalar) (w : Visit) → Every (λ w. Ok w.piece) cs → Reported In (Unit {0}) f → Fine In Ok w → Stands (after cs d v f w)
   unfolding after
@@ -181,7 +181,7 @@ module _ (visit : Piece → Visit) (nodes : ℕ) (In : Scalar → Type 0) (Ok : 
     unfolding ended Ended
     last [] v f (inl h) = absurd h
     last [] v f (inr h) = completed f v h
-    last (c ∷ cs) v f h = pick Ended (ltb v.visited nodes) none (some (spent_with (suc (length cs)) v)) (λ _. tt) (λ _. tt)
+    last (c ∷ cs) v f h = pick Ended (ltb v.visited nodes) none (some (Spent (suc (length cs)) v)) (λ _. tt) (λ _. tt)
 
     -- the visit of a piece that may hold the hit, where another piece or a report may hold it too
     next : (cs : List Waiting) (d : ℕ) (v : Counts) (f : Option Scalar) (w : Visit) → Kept At Has w ⊎ Alive cs f → Lives (after cs d v f w)

@@ -1,5 +1,5 @@
 -- `curve_could_contain` keeps its promises: a refused call gives its number and writes nothing; any other is searched in its revision.
-use mathlib.Core.Path.{sym, subst, ◌∙◌}
+use mathlib.Core.Path.{sym, subst}
 use mathlib.Core.Bool.{Bool}
 use borrow.Author.Tests.{eq-eqb, ne_eqb}
 use lib.ListN.{length}

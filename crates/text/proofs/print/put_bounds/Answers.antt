@@ -2,7 +2,7 @@
 use Rattle.text.proofs.print.Writing.{written_as, dashes_written, five-joined}
 use Rattle.text.specs.Bytes.{bytes}
 use Rattle.text.specs.Respond.{bound_lines}
-use Prim.Native.Nat.{ℕ, ◌+◌, ◌≤◌}
+use Prim.Native.Nat.{◌+◌, ◌≤◌}
 use mathlib.Core.Logic.{◌⊎◌, inl, inr}
 use lib.Ieee.{Float}
 use denote.Enum.Declared.{tag_of}
