@@ -15,7 +15,9 @@ use Rattle.model.specs.Call.{Call, arithmetic_of, answer_to}
 use Rattle.model.specs.Paper.{refused, paper}
 use Rattle.model.specs.Refusals.{Enough, with_words, OfQuestion}
 use Rattle.model.specs.Promise.{Answers}
+use Rattle.model.specs.Subdivide.{no_counts}
 use Rattle.model.specs.declared.contains.Found.{Found}
+use Rattle.model.specs.declared.refusal.Refusal.TheVariants as reason
 use Rattle.model.specs.declared.contains.Found.TheVariants.{Refused}
 use Rattle.model.proofs.Refusals.{one_number, refusals, rooms}
 use Rattle.cart.specs.Cart.{is_beyond, own_words, cart_answer, CartAnswers}
@@ -71,7 +73,7 @@ not-theirs n low high other (inr h) = other h
 -- ---- the contract
 
 -- beyond the limits
-pub cart_refused : (c : Call) → is_beyond c.curve.degree c.curve.count c.nodes ≡ true → CartAnswers c (Refused 14 0 0 0)
+pub cart_refused : (c : Call) → is_beyond c.curve.degree c.curve.count c.nodes ≡ true → CartAnswers c (Refused reason.Cart no_counts)
 unfolding cart_answer
 cart_refused c e = record {
   result = here;
@@ -88,7 +90,7 @@ cart_refused c e = record {
   debug = λ h. absurd (h (yes _ e));
 }
   where
-    here : Refused 14 0 0 0 ≡ cart_answer c
+    here : Refused reason.Cart no_counts ≡ cart_answer c
     here = unfold cart_answer in pick_yes _ _ _ e
 
     other : (n k : ℕ) → k < n → n ≡ k → ⊥
@@ -122,7 +124,7 @@ module _ (c : Call) {before after : List Float} (r : Found) (e : is_beyond c.cur
       long : Enough c c.work_len
       long = subst (Enough c) (sym w) (own_enough c e)
 
-      either : (words : ℕ) → (answer_to (with_words c words) ≡ answer_to c) ⊎ (answer_to (with_words c words) ≡ Refused 10 0 0 0)
-          → (r ≡ answer_to (with_words c words)) ⊎ (answer_to (with_words c words) ≡ Refused 10 0 0 0)
+      either : (words : ℕ) → (answer_to (with_words c words) ≡ answer_to c) ⊎ (answer_to (with_words c words) ≡ Refused reason.Work no_counts)
+          → (r ≡ answer_to (with_words c words)) ⊎ (answer_to (with_words c words) ≡ Refused reason.Work no_counts)
       either words (inl h) = inl (A.result ∙ sym h)
       either words (inr h) = inr h

@@ -8,6 +8,8 @@ ghost use Rattle.cart.specs.Cart.{is_beyond, own_words, CartAnswers};
 
 use geometry::contains::curve_could_contain;
 use model::contains::Found;
+use model::refusal::Refusal;
+use model::subdivide::Counts;
 
 // Degree is above 3, count above 8 or nodes above 48.
 #[tactic(auto, unfolding(crate::specs::Cart::is_beyond))]
@@ -42,7 +44,7 @@ pub fn cart_could_contain(
         CartAnswers c result }
 {
     if is_beyond(degree, count, nodes) {
-        return Found::Refused(14, 0, 0, 0);
+        return Found::Refused(Refusal::Cart, Counts::NONE);
     }
     let mut work = [0.0; 8192];
     curve_could_contain(

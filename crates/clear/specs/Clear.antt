@@ -9,10 +9,10 @@ use Rattle.model.specs.declared.contains.Found.TheVariants.{Nothing, Enclosed, S
 
 -- Only a completed search that reported nothing shows that the curve meets the box at no parameter.
 unfoldable pub is_clear : Found → Bool
-is_clear (Nothing v k d) = true
-is_clear (Enclosed lo hi v k d) = false
-is_clear (Spent n v k d) = false
-is_clear (Refused n v k d) = false
+is_clear (Nothing v) = true
+is_clear (Enclosed lo hi v) = false
+is_clear (Spent n v) = false
+is_clear (Refused e v) = false
 
 -- The call c, which found `before` in its work area and left `after`, was found to be clear (r), or not.
 pub record Clears (c : Call) (before after : List Float) (r : Bool) : Type 0 where

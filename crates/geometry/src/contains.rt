@@ -20,6 +20,7 @@ use crate::visits::visit;
 use math::revision::{First, Revision, Second};
 use math::scalars::Scalar;
 use model::contains::Found;
+use model::refusal::Refusal;
 use model::subdivide::Counts;
 
 // ---- the answer
@@ -36,11 +37,11 @@ fn completed(f: Option<Scalar>, v: Counts) -> Found
     ensures { result ≡ complete (found_of f) v }
 {
     match f {
-        None => Found::Nothing(v.visited, v.cuts, v.depth),
+        None => Found::Nothing(v),
         Some(t) => {
             let lo = positive_zero(t.lo);
             let hi = positive_zero(t.hi);
-            Found::Enclosed(lo, hi, v.visited, v.cuts, v.depth)
+            Found::Enclosed(lo, hi, v)
         }
     }
 }
@@ -120,25 +121,20 @@ fn search_ring<R: Revision>(
     let mut q = Search {
         head: 0,
         pending: 1,
-        counts: Counts {
-            visited: 0,
-            cuts: 0,
-            depth: 0,
-        },
+        counts: Counts::NONE,
         found: None,
     };
     // no index: until no piece waits
     while 0 < q.pending {
         let v = q.counts;
         if v.visited == nodes {
-            return Found::Spent(q.pending, v.visited, v.cuts, v.depth);
+            return Found::Spent(q.pending, v);
         }
         let d = next_depth(work, q, s, w);
         let o = visit_next::<R>(work, q, s, point_box, resolution, slots, w, d);
         q = after_visit(q, d, o, slots);
         if has_bad_weight(o) {
-            let v = q.counts;
-            return Found::Refused(11, v.visited, v.cuts, v.depth);
+            return Found::Refused(Refusal::Piece, q.counts);
         }
     }
     completed(q.found, q.counts)
@@ -157,7 +153,7 @@ fn search_lent<R: Revision>(q: Lent<'_>, work: &mut [f64]) -> Found
     let words = stated_words(dim, degree, count, q.nodes);
     if !curve_could_meet_aabb::<R>(q.polygon(), q.point_box, degree) {
         fill(work, 0, words, 0.0);
-        return Found::Nothing(0, 0, 0);
+        return Found::Nothing(Counts::NONE);
     }
     let s = Shape { dim, degree, count };
     load(work, 0, s, q.knots, q.points);
@@ -209,7 +205,7 @@ pub fn curve_could_contain(
         nodes,
     };
     if let Err(refused) = q.refusal(work.len()) {
-        return Found::Refused(refused.number(), 0, 0, 0);
+        return Found::Refused(refused, Counts::NONE);
     }
     if rev == 2 {
         return search_lent::<Second>(q, work);

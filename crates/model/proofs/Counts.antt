@@ -12,8 +12,9 @@ use Rattle.math.specs.declared.scalars.Scalar.{Scalar}
 use Rattle.math.specs.Scalars.{Arithmetic}
 use Rattle.model.specs.NurbCurve.{Piece}
 use Rattle.model.specs.declared.contains.Found.{Found}
+use Rattle.model.specs.declared.contains.Found.TheVariants.{Spent}
 use Rattle.model.specs.declared.subdivide.Counts.{Counts}
-use Rattle.model.specs.Subdivide.{Question, Visit, dropped, reported, restricted, halved, bad_weight, Waiting, State, Step, going, over, with_visit, complete, spent_with, after, ended, step, advance, answered}
+use Rattle.model.specs.Subdivide.{Question, Visit, dropped, reported, restricted, halved, bad_weight, Waiting, State, Step, going, over, no_counts, with_visit, complete, after, ended, step, advance, answered}
 use Rattle.model.specs.Aabb.{could_meet}
 use Rattle.model.specs.Contains.{visit, begun, could_contain}
 use Rattle.model.specs.Call.{Call, question, as_piece, refusal, searched_by, searched}
@@ -26,15 +27,15 @@ use Rattle.model.proofs.Cuts.{OneOrTwo, visit-cuts}
 -- ---- the counts of a state, and of the answer that is made of them
 
 -- nothing counted
-none_within : (nodes : ℕ) → CountsWithin nodes 0 0 0
+none_within : (nodes : ℕ) → CountsWithin nodes no_counts
 none_within nodes = record { visits = omega arith; cuts = omega arith; deep = record { most = omega arith; below = λ h. h } }
 
-counts-within : (nodes j : ℕ) (s : State) → j ≤ nodes → Counted j s → CountsWithin nodes s.counts.visited s.counts.cuts s.counts.depth
+counts-within : (nodes j : ℕ) (s : State) → j ≤ nodes → Counted j s → CountsWithin nodes s.counts
 counts-within nodes j s h g =
     let e = g.visits in
     record { visits = omega (arith, e); cuts = omega (arith, e, g.cuts); deep = subst (λ (v : ℕ). DepthWithin v s.counts.depth) (sym e) g.deep }
 
-complete-counted : (nodes : ℕ) (v : Counts) (f : Option Scalar) → CountsWithin nodes v.visited v.cuts v.depth → WithinNodes nodes (complete f v)
+complete-counted : (nodes : ℕ) (v : Counts) (f : Option Scalar) → CountsWithin nodes v → WithinNodes nodes (complete f v)
 unfolding complete
 complete-counted nodes v none h = h
 complete-counted nodes v (some t) h = h
@@ -82,7 +83,7 @@ module _ (see : Piece → Visit) (few : (c : Piece) → OneOrTwo (see c)) (nodes
   halts : (k : ℕ) (c : Waiting) (cs : List Waiting) (v : Counts) (f : Option Scalar) (j m : ℕ) → nodes ≤ j → j ≤ nodes → Counted j (at (c ∷ cs) v f)
       → AfterVisits nodes m (advance see nodes k (at (c ∷ cs) v f))
   halts k c cs v f j m n h g =
-      rw (ends see nodes k (at (c ∷ cs) v f) (spent_with (suc (length cs)) v) (spends nodes c cs v f (omega (arith, g.visits))))
+      rw (ends see nodes k (at (c ∷ cs) v f) (Spent (suc (length cs)) v) (spends nodes c cs v f (omega (arith, g.visits))))
       (counts-within nodes j (at (c ∷ cs) v f) h g, omega (arith, g.visits), omega arith, omega (arith, g.pieces))
 
   -- or since no piece waits

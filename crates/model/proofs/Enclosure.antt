@@ -30,7 +30,7 @@ use Rattle.model.specs.Vector.{Vector, coordinate}
 use Rattle.model.specs.NurbCurve.{Piece, knot, point, start, end, domain}
 use Rattle.model.specs.Aabb.{could_meet, aabb, could_overlap}
 use Rattle.model.specs.FatLine.{greville}
-use Rattle.model.specs.Subdivide.{Question, dropped, positive_zero, Step, going, over, advance, Visit, reported, restricted, halved, bad_weight}
+use Rattle.model.specs.Subdivide.{no_counts, Question, dropped, positive_zero, Step, going, over, advance, Visit, reported, restricted, halved, bad_weight}
 use Rattle.model.specs.Contains.{clipped, visit, begun, could_contain}
 use Rattle.model.specs.Layout.{scalar_at, point_at, points_of}
 use Rattle.model.specs.Call.{Call, as_piece, box_of, question, refusal, searched, searched_by}
@@ -114,10 +114,10 @@ side c k h = get_or-tab c.curve.dim (λ k. scalar_at c.box k) k absent h
 
 -- ---- an answer that is right, whatever is asked of its reports, is refused only by 11
 pub only-weights : (In : Scalar → Type 0) (r : Found) → Right In r → OnlyWeights r
-only-weights In (Nothing v k e) h = tt
-only-weights In (Enclosed lo hi v k e) h = tt
-only-weights In (Spent m v k e) h = tt
-only-weights In (Refused m v k e) h = h
+only-weights In (Nothing v) h = tt
+only-weights In (Enclosed lo hi v) h = tt
+only-weights In (Spent m v) h = tt
+only-weights In (Refused e v) h = h
 
 -- ---- an accepted call
 module _ (c : Call) (d : Doubles c) (acc : Accepted c) where
@@ -205,7 +205,7 @@ module _ (c : Call) (d : Doubles c) (acc : Accepted c) where
       -- a search whose visits are fine gives an answer that is right
       right_by : ((s t : Scalar) → In s → In t → In (union_s s t)) → (Good : Piece → Type 0) → Good (as_piece c.curve) → ((s : Piece) → Good s → Fine In Good (visit ar (question c) s)) → Right In (could_contain ar (question c) (as_piece c.curve))
       unfolding could_contain
-      right_by join Good w f = pick (Right In) (could_meet ar c.curve.dim p (as_piece c.curve).points (box_of c)) _ (Nothing 0 0 0)
+      right_by join Good w f = pick (Right In) (could_meet ar c.curve.dim p (as_piece c.curve).points (box_of c)) _ (Nothing no_counts)
           (λ _. answers (visit ar q) c.nodes In Good join f (advance (visit ar q) c.nodes c.nodes (begun (as_piece c.curve)))
           (stands (visit ar q) c.nodes In Good join f c.nodes (begun (as_piece c.curve)) (record { pieces = (w, tt); inside = tt }))) (λ _. tt)
 
@@ -247,7 +247,7 @@ module _ (c : Call) (d : Doubles c) (acc : Accepted c) where
           → ((s : Piece) → Good s → Has s → Kept (λ s. Holds s t) Has (visit ar (question c) s))
           → T (could_meet ar c.curve.dim c.curve.degree (as_piece c.curve).points (box_of c)) → Hit (λ s. Holds s t) (could_contain ar (question c) (as_piece c.curve))
       unfolding could_contain
-      hit_by Good Has w g f k m = taken (Hit At) (could_meet ar c.curve.dim p (as_piece c.curve).points (box_of c)) _ (Nothing 0 0 0) m
+      hit_by Good Has w g f k m = taken (Hit At) (could_meet ar c.curve.dim p (as_piece c.curve).points (box_of c)) _ (Nothing no_counts) m
           (answers-hit (visit ar q) c.nodes (Inner a b) Good (inner-union a b) f At Has lefts rights k (advance (visit ar q) c.nodes c.nodes (begun (as_piece c.curve)))
           (lives (visit ar q) c.nodes (Inner a b) Good (inner-union a b) f At Has lefts rights k c.nodes (begun (as_piece c.curve)) (record { pieces = (w, tt); inside = tt }) (inl (inl g))))
         where
@@ -288,28 +288,28 @@ module _ (c : Call) (d : Doubles c) (acc : Accepted c) where
 
     -- ---- what the answers say
     bounds_right : (r : Found) → Right Told r → BoundsInDomain c.curve r
-    bounds_right (Nothing v k e) h = tt
-    bounds_right (Enclosed lo hi v k e) h =
+    bounds_right (Nothing v) h = tt
+    bounds_right (Enclosed lo hi v) h =
         let at = plain-lies (start p (as_piece c.curve)) (end (as_piece c.curve)) in
         let i = h.1.0.0 in
         (subst (NotOutside (start p (as_piece c.curve)) (end (as_piece c.curve))) (sym h.1.1.0) (at h.0.lo first final i.low), subst (NotOutside (start p (as_piece c.curve)) (end (as_piece c.curve))) (sym h.1.1.1) (at h.0.hi first final i.high))
-    bounds_right (Spent m v k e) h = tt
-    bounds_right (Refused m v k e) h = tt
+    bounds_right (Spent m v) h = tt
+    bounds_right (Refused e v) h = tt
 
     order_right : (r : Found) → Right Told r → BoundsInOrder r
-    order_right (Nothing v k e) h = tt
-    order_right (Enclosed lo hi v k e) h =
+    order_right (Nothing v) h = tt
+    order_right (Enclosed lo hi v) h =
         let i = h.1.0.0 in
         subst (λ (l : Float). T (lt (inf true) l && le l hi && lt hi (inf false))) (sym h.1.1.0)
         (subst (λ (u : Float). T (lt (inf true) (positive_zero h.0.lo) && le (positive_zero h.0.lo) u && lt u (inf false))) (sym h.1.1.1) (plain-order h.0.lo h.0.hi i.low.known i.high.known h.1.0.1.order))
-    order_right (Spent m v k e) h = tt
-    order_right (Refused m v k e) h = tt
+    order_right (Spent m v) h = tt
+    order_right (Refused e v) h = tt
 
     bounds-hit : (t : ℚ) (r : Found) → Hit (λ s. Holds s t) r → Completes r → BoundsHold r t
-    bounds-hit t (Nothing v j e) h k = h
-    bounds-hit t (Enclosed lo hi v j e) h k = record { low = subst (λ (z : Float). Below z t) (sym h.1.1.0) (plain_low h.0.lo t h.1.0.low); high = subst (λ (z : Float). Above z t) (sym h.1.1.1) (plain_high h.0.hi t h.1.0.high) }
-    bounds-hit t (Spent m v j e) h k = k
-    bounds-hit t (Refused m v j e) h k = k
+    bounds-hit t (Nothing v) h k = h
+    bounds-hit t (Enclosed lo hi v) h k = record { low = subst (λ (z : Float). Below z t) (sym h.1.1.0) (plain_low h.0.lo t h.1.0.low); high = subst (λ (z : Float). Above z t) (sym h.1.1.1) (plain_high h.0.hi t h.1.0.high) }
+    bounds-hit t (Spent m v) h k = k
+    bounds-hit t (Refused e v) h k = k
 
     -- ---- the pieces
     ok-piece : (s : Piece) → Ok c.curve.dim c.curve.degree c.curve.count (value (start c.curve.degree (as_piece c.curve))) (value (end (as_piece c.curve))) s → PieceOf c s
@@ -329,10 +329,10 @@ module _ (c : Call) (d : Doubles c) (acc : Accepted c) where
 
 -- ---- whatever the arithmetic and the curve, bounds are given out plain
 plain-bounds : (r : Found) → Right (λ _. Unit {0}) r → BoundsPositiveZero r
-plain-bounds (Nothing v k e) h = tt
-plain-bounds (Enclosed lo hi v k e) h = (subst NoNegativeZero (sym h.1.1.0) (plain_zero h.0.lo), subst NoNegativeZero (sym h.1.1.1) (plain_zero h.0.hi))
-plain-bounds (Spent m v k e) h = tt
-plain-bounds (Refused m v k e) h = tt
+plain-bounds (Nothing v) h = tt
+plain-bounds (Enclosed lo hi v) h = (subst NoNegativeZero (sym h.1.1.0) (plain_zero h.0.lo), subst NoNegativeZero (sym h.1.1.1) (plain_zero h.0.hi))
+plain-bounds (Spent m v) h = tt
+plain-bounds (Refused e v) h = tt
 
 any_fine : (w : Visit) → Fine (λ _. Unit {0}) (λ _. Unit {0}) w
 any_fine dropped = tt
@@ -343,7 +343,7 @@ any_fine bad_weight = tt
 
 pub plain-search : (ar : Arithmetic) (q : Question) (s : Piece) → Right (λ _. Unit {0}) (could_contain ar q s)
 unfolding could_contain
-plain-search ar q s = pick (Right (λ _. Unit {0})) (could_meet ar q.dim q.degree s.points q.box) _ (Nothing 0 0 0)
+plain-search ar q s = pick (Right (λ _. Unit {0})) (could_meet ar q.dim q.degree s.points q.box) _ (Nothing no_counts)
     (λ _. answers (visit ar q) q.nodes (λ _. Unit {0}) (λ _. Unit {0}) (λ _ _ _ _. tt) (λ r _. any_fine (visit ar q r)) (advance (visit ar q) q.nodes q.nodes (begun s))
     (stands (visit ar q) q.nodes (λ _. Unit {0}) (λ _. Unit {0}) (λ _ _ _ _. tt) (λ r _. any_fine (visit ar q r)) q.nodes (begun s) (record { pieces = (tt, tt); inside = tt }))) (λ _. tt)
 

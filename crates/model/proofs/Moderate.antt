@@ -22,6 +22,7 @@ use Rattle.model.specs.Call.{Call, as_piece, usable, numbers_usable, refusal, se
 use Rattle.model.specs.Enclosure.{NotOutside}
 use Rattle.model.specs.Promise.{Answers}
 use Rattle.model.specs.Moderate.{BoundsModerate, Moderate}
+use Rattle.model.specs.declared.subdivide.Counts.{Counts}
 use Rattle.model.specs.declared.contains.Found.{Found}
 use Rattle.model.specs.declared.contains.Found.TheVariants.{Nothing, Enclosed, Spent, Refused}
 use Rattle.model.proofs.Checks.{CurvePasses, call_passes}
@@ -71,17 +72,17 @@ module _ (c : Call) (accepted : refusal c ≡ 0) where
 
 -- An answer with bounds.
 abbrev is_enclosed : Found → Bool
-is_enclosed (Nothing v k d) = false
-is_enclosed (Enclosed lo hi v k d) = true
-is_enclosed (Spent n v k d) = false
-is_enclosed (Refused n v k d) = false
+is_enclosed (Nothing v) = false
+is_enclosed (Enclosed lo hi v) = true
+is_enclosed (Spent n v) = false
+is_enclosed (Refused e v) = false
 
 -- a call that has bounds for an answer is not refused
-with-bounds : (c : Call) (lo hi : Float) (v k d : ℕ) → Enclosed lo hi v k d ≡ answer_to c → refusal c ≡ 0
+with-bounds : (c : Call) (lo hi : Float) (v : Counts) → Enclosed lo hi v ≡ answer_to c → refusal c ≡ 0
 unfolding searched searched_by
-with-bounds c lo hi v k d h = by (refusal c) refl h
+with-bounds c lo hi v h = by (refusal c) refl h
   where
-    by : (n : ℕ) → refusal c ≡ n → Enclosed lo hi v k d ≡ searched_by (arithmetic_of c) c n → refusal c ≡ 0
+    by : (n : ℕ) → refusal c ≡ n → Enclosed lo hi v ≡ searched_by (arithmetic_of c) c n → refusal c ≡ 0
     by zero e h = e
     by (suc n) e h = absurd (no true (ap is_enclosed h) tt)
 
@@ -90,9 +91,9 @@ pub moderate : Moderate
 moderate = record { bounds = by }
   where
     by : (c : Call) (before after : List Float) (r : Found) → Answers c before after r → BoundsModerate r
-    by c before after (Nothing v k d) A = tt
-    by c before after (Spent n v k d) A = tt
-    by c before after (Refused n v k d) A = tt
-    by c before after (Enclosed lo hi v k d) A =
-        let e = with-bounds c lo hi v k d A.result in
+    by c before after (Nothing v) A = tt
+    by c before after (Spent n v) A = tt
+    by c before after (Refused e v) A = tt
+    by c before after (Enclosed lo hi v) A =
+        let e = with-bounds c lo hi v A.result in
         (inside c e lo A.within.0, inside c e hi A.within.1)

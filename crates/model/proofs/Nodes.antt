@@ -14,7 +14,7 @@ use Rattle.math.specs.Scalars.{Arithmetic}
 use Rattle.model.specs.NurbCurve.{Piece}
 use Rattle.model.specs.Aabb.{aabb, could_overlap, could_meet}
 use Rattle.model.specs.FatLine.{greville}
-use Rattle.model.specs.Subdivide.{Question, Visit, dropped, Waiting, State, Step, going, over, complete, spent_with, ended, step, advance, resumed, answered}
+use Rattle.model.specs.Subdivide.{Question, Visit, dropped, Waiting, State, Step, going, over, no_counts, complete, ended, step, advance, resumed, answered}
 use Rattle.model.specs.Contains.{shrink, clipped, visit, begun, could_contain}
 use Rattle.model.specs.Call.{Call, box_of, question, as_piece, area_fits, stated, refusal, searched_by, searched, area_by, area_after}
 use Rattle.model.specs.Enclosure.{Accepted, Completes}
@@ -37,7 +37,7 @@ module _ (see : Piece → Visit) (n m : ℕ) (h : n ≤ m) where
 
   -- with a piece, and no node left of n, the search is spent
   spent : (k : ℕ) (c : Waiting) (cs : List Waiting) (v : Counts) (f : Option Scalar) → n ≤ v.visited → NodesLeft (advance see n k (at (c ∷ cs) v f)) → ⊥
-  spent k c cs v f l = subst (λ (z : Step). NodesLeft z → ⊥) (sym (ends see n k (at (c ∷ cs) v f) (spent_with (suc (length cs)) v) (spends n c cs v f l))) (λ e. e)
+  spent k c cs v f l = subst (λ (z : Step). NodesLeft z → ⊥) (sym (ends see n k (at (c ∷ cs) v f) (Spent (suc (length cs)) v) (spends n c cs v f l))) (λ e. e)
 
   steps : (k : ℕ) (s : State) → NodesLeft (advance see n k s) → advance see m k s ≡ advance see n k s
   steps zero s left = by s.queue s.counts s.found left
@@ -114,8 +114,8 @@ module _ (ar : Arithmetic) (c : Call) (m words : ℕ) where
       see : visit ar q' ≡ visit ar q
       see = λ i s. visit-nodes s i
 
-      by : (b : Bool) → NotSpent (cond b (answered (advance (visit ar q) c.nodes c.nodes (begun (as_piece c.curve)))) (Nothing 0 0 0))
-          → cond b (answered (advance (visit ar q') m m (begun (as_piece c.curve)))) (Nothing 0 0 0) ≡ cond b (answered (advance (visit ar q) c.nodes c.nodes (begun (as_piece c.curve)))) (Nothing 0 0 0)
+      by : (b : Bool) → NotSpent (cond b (answered (advance (visit ar q) c.nodes c.nodes (begun (as_piece c.curve)))) (Nothing no_counts))
+          → cond b (answered (advance (visit ar q') m m (begun (as_piece c.curve)))) (Nothing no_counts) ≡ cond b (answered (advance (visit ar q) c.nodes c.nodes (begun (as_piece c.curve)))) (Nothing no_counts)
       by true d = ap (λ (f : Piece → Visit). answered (advance f m m (begun (as_piece c.curve)))) see ∙ enough (visit ar q) c.nodes m h (begun (as_piece c.curve)) d
       by false d = refl
 
@@ -126,10 +126,10 @@ still c m words w e = accepted_by_lem (with_nodes c m words) (revision-accepted 
 
 -- ---- THE LAW
 not-spent : (r : Found) → Completes r → NotSpent r
-not-spent (Nothing v k e) h = tt
-not-spent (Enclosed lo hi v k e) h = tt
-not-spent (Spent n v k e) h = h
-not-spent (Refused n v k e) h = tt
+not-spent (Nothing v) h = tt
+not-spent (Enclosed lo hi v) h = tt
+not-spent (Spent n v) h = h
+not-spent (Refused e v) h = tt
 
 pub more-nodes : (ar : Arithmetic) → MoreNodes ar
 unfolding searched searched_by area_after area_by

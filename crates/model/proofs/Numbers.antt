@@ -1,11 +1,11 @@
 -- The numbers of the refusals: none is 0, and what `?` hands on keeps its number. Assumes nothing.
-use Rattle.std.specs.Prelude.{◌≡◌, ℕ, true, false, refl, Result, Ok, Err, is_err, IsErrAnd}
+use Rattle.std.specs.Prelude.{◌≡◌, ◌≤◌, ℕ, zero, suc, true, false, refl, Result, Ok, Err, is_err, IsErrAnd}
 use Rattle.std.proofs.Common.{ap, sym, arith}
 use mathlib.Core.Bool.{true≢false}
 use Rattle.model.specs.declared.refusal.Refusal.{Refusal}
 use Rattle.model.specs.declared.refusal.Refusal.TheVariants.{Dim, Degree, Count, Length, Value, Order, Weight, Knots}
 use Rattle.model.specs.declared.refusal.Refusal.TheVariants.{Nodes, Work, Piece, Text, Cart, Room, Revision, Sheet}
-use Rattle.model.specs.Numbers.{number_of, code_of}
+use Rattle.model.specs.Numbers.{number_of, refusal_of, code_of}
 
 -- No refusal has the number 0.
 pub some_number : (e : Refusal) → number_of e ≡ 0 → ⊥
@@ -25,6 +25,41 @@ some_number Cart h = omega (arith, h)
 some_number Room h = omega (arith, h)
 some_number Revision h = omega (arith, h)
 some_number Sheet h = omega (arith, h)
+
+-- A refusal is the one that has its number.
+pub refusal-of-number : (e : Refusal) → refusal_of (number_of e) ≡ e
+refusal-of-number Dim = refl
+refusal-of-number Degree = refl
+refusal-of-number Count = refl
+refusal-of-number Length = refl
+refusal-of-number Value = refl
+refusal-of-number Order = refl
+refusal-of-number Weight = refl
+refusal-of-number Knots = refl
+refusal-of-number Nodes = refl
+refusal-of-number Work = refl
+refusal-of-number Piece = refl
+refusal-of-number Text = refl
+refusal-of-number Cart = refl
+refusal-of-number Room = refl
+refusal-of-number Revision = refl
+refusal-of-number Sheet = refl
+
+-- A number from 1 to 11 is that of its refusal.
+pub number-of-refusal : (n : ℕ) → 1 ≤ n → n ≤ 11 → number_of (refusal_of n) ≡ n
+number-of-refusal zero low high = absurd (omega (arith, low))
+number-of-refusal (suc zero) low high = refl
+number-of-refusal (suc (suc zero)) low high = refl
+number-of-refusal (suc (suc (suc zero))) low high = refl
+number-of-refusal (suc (suc (suc (suc zero)))) low high = refl
+number-of-refusal (suc (suc (suc (suc (suc zero))))) low high = refl
+number-of-refusal (suc (suc (suc (suc (suc (suc zero)))))) low high = refl
+number-of-refusal (suc (suc (suc (suc (suc (suc (suc zero))))))) low high = refl
+number-of-refusal (suc (suc (suc (suc (suc (suc (suc (suc zero)))))))) low high = refl
+number-of-refusal (suc (suc (suc (suc (suc (suc (suc (suc (suc zero))))))))) low high = refl
+number-of-refusal (suc (suc (suc (suc (suc (suc (suc (suc (suc (suc zero)))))))))) low high = refl
+number-of-refusal (suc (suc (suc (suc (suc (suc (suc (suc (suc (suc (suc zero))))))))))) low high = refl
+number-of-refusal (suc (suc (suc (suc (suc (suc (suc (suc (suc (suc (suc (suc n)))))))))))) low high = absurd (omega (arith, high))
 
 module _ {A : Type 0} where
   -- What `?` hands on has the number of the refusal that it found.

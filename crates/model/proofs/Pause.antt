@@ -8,16 +8,17 @@ use lib.ListN.{length}
 use borrow.Author.Tests.{lt-ltb, le-ltb}
 use Rattle.math.specs.declared.scalars.Scalar.{Scalar}
 use Rattle.model.specs.NurbCurve.{Piece}
+use Rattle.model.specs.declared.contains.Found.TheVariants.{Spent}
 use Rattle.model.specs.declared.subdivide.Counts.{Counts}
 use Rattle.model.specs.declared.contains.Found.{Found}
-use Rattle.model.specs.Subdivide.{Visit, Waiting, State, Step, going, over, spent_with, ended, step, stop, advance, resumed}
+use Rattle.model.specs.Subdivide.{Visit, Waiting, State, Step, going, over, ended, step, stop, advance, resumed}
 
 -- ---- before a visit: one is left, or none
 pub goes : (nodes : ℕ) (c : Waiting) (cs : List Waiting) (v : Counts) (f : Option Scalar) → v.visited < nodes → ended nodes (c ∷ cs) v f ≡ none
 unfolding ended
 goes nodes c cs v f h = rw (lt-ltb v.visited nodes h)
 
-pub spends : (nodes : ℕ) (c : Waiting) (cs : List Waiting) (v : Counts) (f : Option Scalar) → nodes ≤ v.visited → ended nodes (c ∷ cs) v f ≡ some (spent_with (suc (length cs)) v)
+pub spends : (nodes : ℕ) (c : Waiting) (cs : List Waiting) (v : Counts) (f : Option Scalar) → nodes ≤ v.visited → ended nodes (c ∷ cs) v f ≡ some (Spent (suc (length cs)) v)
 unfolding ended
 spends nodes c cs v f h = rw (le-ltb v.visited nodes h)
 

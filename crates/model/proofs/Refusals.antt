@@ -13,16 +13,20 @@ use lib.Ieee.Bits.{is_true}
 use Rattle.math.specs.Scalars.{Arithmetic}
 use Rattle.math.proofs.Bools.{yes}
 use Rattle.model.specs.NurbCurve.{Piece}
-use Rattle.model.specs.Subdivide.{Question}
+use Rattle.model.specs.Subdivide.{Question, no_counts}
 use Rattle.model.specs.Contains.{could_contain}
 use Rattle.model.specs.Layout.{slot_words, area_words}
 use Rattle.model.specs.Call.{Call, curve_of, or_else, first_failed, revision_fits, dim_fits, degree_fits, count_fits, lengths_fit, numbers_usable, bounds_ordered, weights_fit, knots_fit, nodes_fit, area_fits, stated, stated_words, revision_refusal, sizes_refusal, curve_refusal, question_refusal, refusal, searched_by, searched, question, as_piece}
 use Rattle.model.specs.Paper.{Result, None-found, enclosed, spent, refused, paper}
+use Rattle.model.specs.Numbers.{number_of, refusal_of}
 use Rattle.model.specs.Enclosure.{OnlyWeights}
 use Rattle.model.specs.Refusals.{question_of, Enough, with_words, OfQuestion, Refusals, AnyRefusals, Rooms}
 use Rattle.model.specs.declared.contains.Found.{Found}
+use Rattle.model.specs.declared.refusal.Refusal.{Refusal}
+use Rattle.model.specs.declared.refusal.Refusal.TheVariants as reason
 use Rattle.model.specs.declared.contains.Found.TheVariants.{Nothing, Enclosed, Spent, Refused}
 use Rattle.model.proofs.Checks.{pass, fail, none_left, else_left, else_taken, question-passes, question-sizes, small-sizes, stated-words}
+use Rattle.model.proofs.Numbers.{number-of-refusal}
 use Rattle.model.proofs.Enclosure.{only-weights, plain-search}
 
 -- ---- the numbers of a question
@@ -81,6 +85,12 @@ call_number c =
     of-area n (inl h) = inl h
     of-area n (inr h) = inr (inr (omega (arith, h.0, h.1)))
 
+-- such a number is that of its refusal
+numbered : (n : ℕ) → OfQuestion n ⊎ (n ≡ 10) → number_of (refusal_of n) ≡ n
+numbered n (inl (inl h)) = number-of-refusal n h.0 (omega (arith, h.1))
+numbered n (inl (inr h)) = rw h refl
+numbered n (inr h) = rw h refl
+
 -- ---- a work area that is long enough
 
 -- 10 does not come, and what the question is refused by stays.
@@ -126,15 +136,15 @@ module _ (ar : Arithmetic) where
   same_answer c words long long' = same_searched c words (question_of c) (same_refusal (with_words c words) long') (same_refusal c long)
 
   -- where the question passes, only the area is left to refuse by
-  same_or_ten : (c : Call) (words : ℕ) → Enough c c.work_len → (searched ar (with_words c words) ≡ searched ar c) ⊎ (searched ar (with_words c words) ≡ Refused 10 0 0 0)
+  same_or_ten : (c : Call) (words : ℕ) → Enough c c.work_len → (searched ar (with_words c words) ≡ searched ar c) ⊎ (searched ar (with_words c words) ≡ Refused reason.Work no_counts)
   unfolding refusal
   same_or_ten c words long = by (question_of c) refl
     where
-      left : question_of c ≡ 0 → (b : Bool) → area_fits (with_words c words) ≡ b → (searched ar (with_words c words) ≡ searched ar c) ⊎ (searched ar (with_words c words) ≡ Refused 10 0 0 0)
+      left : question_of c ≡ 0 → (b : Bool) → area_fits (with_words c words) ≡ b → (searched ar (with_words c words) ≡ searched ar c) ⊎ (searched ar (with_words c words) ≡ Refused reason.Work no_counts)
       left e true f = inl (same_searched c words 0 (else_left _ _ e ∙ pass (with_words c words) 10 area_fits [] f ∙ none_left (with_words c words) 11) (same_refusal c long ∙ e))
       left e false f = inr (unfold searched searched_by in ap (searched_by ar (with_words c words)) (else_left _ _ e ∙ fail (with_words c words) 10 area_fits [] f))
 
-      by : (m : ℕ) → question_of c ≡ m → (searched ar (with_words c words) ≡ searched ar c) ⊎ (searched ar (with_words c words) ≡ Refused 10 0 0 0)
+      by : (m : ℕ) → question_of c ≡ m → (searched ar (with_words c words) ≡ searched ar c) ⊎ (searched ar (with_words c words) ≡ Refused reason.Work no_counts)
       by zero e = left e (area_fits (with_words c words)) refl
       by (suc m) e = inl (same_searched c words (question_of c) (else_taken _ _ (λ z. omega (arith, sym e ∙ z))) (same_refusal c long))
 
@@ -145,10 +155,10 @@ module _ (ar : Arithmetic) where
 
   -- of one that only a search refuses
   weights_number : (r : Found) (n : ℕ) → OnlyWeights r → (paper r).result ≡ refused n → n ≡ 11
-  weights_number (Nothing v k d) n h e = absurd (subst IsRefused (sym e) tt)
-  weights_number (Enclosed lo hi v k d) n h e = absurd (subst IsRefused (sym e) tt)
-  weights_number (Spent m v k d) n h e = absurd (subst IsRefused (sym e) tt)
-  weights_number (Refused m v k d) n h e = sym (one_number e) ∙ h
+  weights_number (Nothing v) n h e = absurd (subst IsRefused (sym e) tt)
+  weights_number (Enclosed lo hi v) n h e = absurd (subst IsRefused (sym e) tt)
+  weights_number (Spent m v) n h e = absurd (subst IsRefused (sym e) tt)
+  weights_number (Refused r v) n h e = sym (one_number e) ∙ ap number_of h
 
   answer_number : (c : Call) (n : ℕ) → Enough c c.work_len → (paper (searched ar c)).result ≡ refused n → OfQuestion n ⊎ (n ≡ 11)
   unfolding searched searched_by
@@ -157,7 +167,7 @@ module _ (ar : Arithmetic) where
       by : (m : ℕ) → (m ≡ 0) ⊎ OfQuestion m → (paper (searched_by ar c m)).result ≡ refused n → OfQuestion n ⊎ (n ≡ 11)
       by zero h e = inr (weights_number (could_contain ar (question c) (as_piece c.curve)) n (search_number (question c) (as_piece c.curve)) e)
       by (suc m) (inl h) e = absurd (omega (arith, h))
-      by (suc m) (inr h) e = inl (subst OfQuestion (one_number e) h)
+      by (suc m) (inr h) e = inl (subst OfQuestion (sym (numbered (suc m) (inl h)) ∙ one_number e) h)
 
   -- of a call with any area
   any_number : (c : Call) (n : ℕ) → (paper (searched ar c)).result ≡ refused n → OfQuestion n ⊎ ((n ≡ 10) ⊎ (n ≡ 11))
@@ -167,15 +177,25 @@ module _ (ar : Arithmetic) where
       by : (m : ℕ) → (m ≡ 0) ⊎ (OfQuestion m ⊎ (m ≡ 10)) → (paper (searched_by ar c m)).result ≡ refused n → OfQuestion n ⊎ ((n ≡ 10) ⊎ (n ≡ 11))
       by zero h e = inr (inr (weights_number (could_contain ar (question c) (as_piece c.curve)) n (search_number (question c) (as_piece c.curve)) e))
       by (suc m) (inl h) e = absurd (omega (arith, h))
-      by (suc m) (inr (inl h)) e = inl (subst OfQuestion (one_number e) h)
-      by (suc m) (inr (inr h)) e = inr (inl (sym (one_number e) ∙ h))
+      by (suc m) (inr (inl h)) e = inl (subst OfQuestion (sym (numbered (suc m) (inl h)) ∙ one_number e) h)
+      by (suc m) (inr (inr h)) e = inr (inl (sym (sym (numbered (suc m) (inr h)) ∙ one_number e) ∙ h))
+
+  -- of one that is refused
+  refused_number : (c : Call) → (refusal c ≡ 0 → ⊥) → (e : Refusal) × (number_of e ≡ refusal c) × (searched ar c ≡ Refused e no_counts)
+  unfolding searched searched_by
+  refused_number c some = by (refusal c) (call_number c) some
+    where
+      by : (m : ℕ) → (m ≡ 0) ⊎ (OfQuestion m ⊎ (m ≡ 10)) → (m ≡ 0 → ⊥) → (e : Refusal) × (number_of e ≡ m) × (searched_by ar c m ≡ Refused e no_counts)
+      by zero h k = absurd (k refl)
+      by (suc m) (inl h) k = absurd (k h)
+      by (suc m) (inr h) k = (refusal_of (suc m), numbered (suc m) h, refl)
 
 -- WHO REFUSES BY WHICH NUMBER
 pub refusals : (ar : Arithmetic) → Refusals ar
 refusals ar = record { search = search_number ar; question = question_number; long = same_refusal; numbers = answer_number ar; areas = same_answer ar; or_ten = same_or_ten ar }
 
 pub any-refusals : (ar : Arithmetic) → AnyRefusals ar
-any-refusals ar = record { any = any_number ar }
+any-refusals ar = record { any = any_number ar; number = refused_number ar }
 
 -- ---- for how many sizes an area is long enough
 

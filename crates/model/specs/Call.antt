@@ -8,7 +8,8 @@ use Rattle.math.specs.Scalars.{Arithmetic, zero_f}
 use Rattle.math.specs.Revision.{arithmetic}
 use Rattle.math.specs.Encloses.{is_moderate}
 use Rattle.model.specs.NurbCurve.{Piece, weights_positive}
-use Rattle.model.specs.Subdivide.{Question}
+use Rattle.model.specs.Subdivide.{Question, no_counts}
+use Rattle.model.specs.Numbers.{refusal_of}
 use Rattle.model.specs.Contains.{could_contain}
 use Rattle.model.specs.Layout.{scalars_of, points_of, area_words}
 use Rattle.model.specs.declared.contains.Found.{Found}
@@ -205,7 +206,7 @@ stated_words dim degree count nodes =
 -- The result, where the refusal is known; nothing is counted with a refusal by any number but 11.
 unfoldable pub searched_by : Arithmetic → Call → ℕ → Found
 searched_by ar c zero = could_contain ar (question c) (as_piece c.curve)
-searched_by ar c (suc n) = Refused (suc n) 0 0 0
+searched_by ar c (suc n) = Refused (refusal_of (suc n)) no_counts
 
 -- The result of a call in an arithmetic.
 unfoldable pub searched : Arithmetic → Call → Found

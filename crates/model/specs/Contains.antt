@@ -81,4 +81,4 @@ unfoldable pub could_contain : Arithmetic → Question → Piece → Found
 could_contain ar q c =
     cond (could_meet ar q.dim q.degree c.points q.box)
     (answered (advance (visit ar q) q.nodes q.nodes (begun c)))
-    (Nothing 0 0 0)
+    (Nothing no_counts)

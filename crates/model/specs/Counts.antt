@@ -6,6 +6,7 @@ use Rattle.model.specs.Subdivide.{Question, State, Step, going, over, advance}
 use Rattle.model.specs.Contains.{visit, begun}
 use Rattle.model.specs.Call.{Call, searched}
 use Rattle.model.specs.Enclosure.{Every}
+use Rattle.model.specs.declared.subdivide.Counts.{Counts}
 use Rattle.model.specs.declared.contains.Found.{Found}
 use Rattle.model.specs.declared.contains.Found.TheVariants.{Nothing, Enclosed, Spent, Refused}
 
@@ -15,18 +16,18 @@ pub record DepthWithin (v d : ℕ) : Type 0 where
   pub most : d ≤ v
   pub below : 0 < v → d < v
 
--- Visited v, cuts k and depth d: there are no more visits than nodes, and at most two cuts a visit; so none where nothing was visited.
-pub record CountsWithin (nodes v k d : ℕ) : Type 0 where
-  pub visits : v ≤ nodes
-  pub cuts : k ≤ 2 * v
-  pub deep : DepthWithin v d
+-- The counts of a search of so many nodes: there are no more visits than nodes, and at most two cuts a visit; so none where nothing was visited.
+pub record CountsWithin (nodes : ℕ) (v : Counts) : Type 0 where
+  pub visits : v.visited ≤ nodes
+  pub cuts : v.cuts ≤ 2 * v.visited
+  pub deep : DepthWithin v.visited v.depth
 
 -- The counts of an answer. A search is spent only when its nodes are used, and then at least one piece and at most nodes + 1 are left.
 abbrev pub WithinNodes : ℕ → Found → Type 0
-WithinNodes nodes (Nothing v k d) = CountsWithin nodes v k d
-WithinNodes nodes (Enclosed lo hi v k d) = CountsWithin nodes v k d
-WithinNodes nodes (Spent n v k d) = CountsWithin nodes v k d × (v ≡ nodes) × (1 ≤ n) × (n ≤ nodes + 1)
-WithinNodes nodes (Refused n v k d) = CountsWithin nodes v k d
+WithinNodes nodes (Nothing v) = CountsWithin nodes v
+WithinNodes nodes (Enclosed lo hi v) = CountsWithin nodes v
+WithinNodes nodes (Spent n v) = CountsWithin nodes v × (v.visited ≡ nodes) × (1 ≤ n) × (n ≤ nodes + 1)
+WithinNodes nodes (Refused e v) = CountsWithin nodes v
 
 -- The state of a search after j visits.
 pub record Counted (j : ℕ) (s : State) : Type 0 where

@@ -21,13 +21,14 @@ use Rattle.model.specs.Split.{Halves, uncut, both, Restricted}
 use Rattle.model.specs.Aabb.{could_overlap}
 use Rattle.model.specs.FatLine.{window, extent}
 use Rattle.model.specs.Subdivide as subdivide
-use Rattle.model.specs.Subdivide.{Question, Visit, dropped, reported, restricted, halved, bad_weight, Waiting, State, Step, going, over, with_visit, complete, ended, stop, answered}
+use Rattle.model.specs.Subdivide.{Question, Visit, dropped, reported, restricted, halved, bad_weight, Waiting, State, Step, going, over, no_counts, with_visit, complete, ended, stop, answered}
 use Rattle.model.specs.Contains as contains
 use Rattle.model.specs.Contains.{begun}
 use Rattle.model.specs.Layout.{scalars_of}
 use Rattle.model.specs.Call as call
 use Rattle.model.specs.Call.{Call, as_piece, box_of, question, refusal}
 use Rattle.model.specs.Enclosure.{Doubles, Accepted}
+use Rattle.model.specs.Numbers.{refusal_of}
 use Rattle.model.specs.Hat.{Hat}
 use Rattle.model.specs.declared.subdivide.Counts.{Counts}
 use Rattle.model.specs.declared.contains.Found.{Found}
@@ -379,7 +380,7 @@ advance visit nodes (suc k) s =
 unfoldable pub could_contain : Question → Piece → Tested Found
 could_contain q c = do
   m ← could_meet q.dim q.degree c.points q.box
-  cond m (do fine (answered (← advance (visit q) q.nodes q.nodes (begun c)))) (fine (Nothing 0 0 0))
+  cond m (do fine (answered (← advance (visit q) q.nodes q.nodes (begun c)))) (fine (Nothing no_counts))
 
 -- Of a call that is refused by 16 or by 1 to 10 nothing is formed; of any other, first the intervals that are lent: points, box, knots and resolution.
 unfoldable pub searched_by : Call → ℕ → Tested Found
@@ -389,7 +390,7 @@ searched_by c zero = do
   _ ← tested.map tested.sharp c.curve.knots
   _ ← tested.sharp c.resolution
   could_contain (question c) (as_piece c.curve)
-searched_by c (suc n) = fine (Refused (suc n) 0 0 0)
+searched_by c (suc n) = fine (Refused (refusal_of (suc n)) no_counts)
 
 -- The result of a call.
 unfoldable pub searched : Call → Tested Found

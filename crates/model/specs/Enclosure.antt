@@ -16,6 +16,7 @@ use Rattle.model.specs.Layout.{scalar_at}
 use Rattle.model.specs.Call.{Curve, Call, AllDoubles, as_piece, question, refusal, searched}
 use Rattle.model.specs.Paper.{paper}
 use Rattle.model.specs.declared.contains.Found.{Found}
+use Rattle.model.specs.declared.refusal.Refusal.TheVariants as reason
 use Rattle.model.specs.declared.contains.Found.TheVariants.{Nothing, Enclosed, Spent, Refused}
 
 -- ---- the exact curve
@@ -74,10 +75,10 @@ Accepted c = refusal c ≡ 0
 
 -- "Its search completes when the result is none or enclosed."
 abbrev pub Completes : Found → Type 0
-Completes (Nothing v k d) = Unit {0}
-Completes (Enclosed lo hi v k d) = Unit {0}
-Completes (Spent n v k d) = ⊥
-Completes (Refused n v k d) = ⊥
+Completes (Nothing v) = Unit {0}
+Completes (Enclosed lo hi v) = Unit {0}
+Completes (Spent n v) = ⊥
+Completes (Refused e v) = ⊥
 
 -- The result has bounds, and P holds of them.
 abbrev pub WithBounds : (Scalar → Type 0) → Option Scalar → Type 0
@@ -145,10 +146,10 @@ Every P (x ∷ l) = P x × Every P l
 
 -- A search itself refuses only by 11.
 abbrev pub OnlyWeights : Found → Type 0
-OnlyWeights (Nothing v k d) = Unit {0}
-OnlyWeights (Enclosed lo hi v k d) = Unit {0}
-OnlyWeights (Spent n v k d) = Unit {0}
-OnlyWeights (Refused n v k d) = n ≡ 11
+OnlyWeights (Nothing v) = Unit {0}
+OnlyWeights (Enclosed lo hi v) = Unit {0}
+OnlyWeights (Spent n v) = Unit {0}
+OnlyWeights (Refused e v) = e ≡ reason.Piece
 
 -- Where a search stands, every piece that waits is such a piece; or it is over.
 abbrev pub PiecesKept : Call → Step → Type 0

@@ -11,10 +11,10 @@ use Rattle.model.specs.declared.contains.Found.TheVariants.{Nothing, Enclosed, S
 
 -- A result other than spent: of a call that is accepted, its search completed or was refused by 11.
 abbrev pub NotSpent : Found → Type 0
-NotSpent (Nothing v k d) = Unit {0}
-NotSpent (Enclosed lo hi v k d) = Unit {0}
-NotSpent (Spent n v k d) = ⊥
-NotSpent (Refused n v k d) = Unit {0}
+NotSpent (Nothing v) = Unit {0}
+NotSpent (Enclosed lo hi v) = Unit {0}
+NotSpent (Spent n v) = ⊥
+NotSpent (Refused e v) = Unit {0}
 
 -- Where a search stands, it has not run out of nodes.
 abbrev pub NodesLeft : Step → Type 0

@@ -2,8 +2,10 @@
 use Rattle.std.specs.Prelude.{ℕ}
 use Rattle.std.proofs.Math.Option.{Option, none, some}
 use Rattle.math.specs.declared.scalars.Scalar.{Scalar}
+use Rattle.model.specs.declared.subdivide.Counts.{Counts}
 use Rattle.model.specs.declared.contains.Found.{Found}
 use Rattle.model.specs.declared.contains.Found.TheVariants.{Nothing, Enclosed, Spent, Refused}
+use Rattle.model.specs.Numbers.{number_of}
 use Rattle.model.specs.Hat.{Hat}
 use Rattle.std.specs.Prelude.{Some, None}
 
@@ -25,10 +27,14 @@ pub record Paper : Type 0 where
 
 -- The answer of a search.
 abbrev pub paper : Found → Paper
-paper (Nothing v k d) = record { result = None-found; visited = v; cuts = k; depth = d; pending = 0; bounds = none }
-paper (Enclosed lo hi v k d) = record { result = enclosed; visited = v; cuts = k; depth = d; pending = 0; bounds = some (record { lo = lo; hi = hi }) }
-paper (Spent n v k d) = record { result = spent; visited = v; cuts = k; depth = d; pending = n; bounds = none }
-paper (Refused n v k d) = record { result = refused n; visited = v; cuts = k; depth = d; pending = 0; bounds = none }
+paper (Nothing v) = record { result = None-found; visited = v.visited; cuts = v.cuts; depth = v.depth; pending = 0; bounds = none }
+paper (Enclosed lo hi v) = record { result = enclosed; visited = v.visited; cuts = v.cuts; depth = v.depth; pending = 0; bounds = some (record { lo = lo; hi = hi }) }
+paper (Spent n v) = record { result = spent; visited = v.visited; cuts = v.cuts; depth = v.depth; pending = n; bounds = none }
+paper (Refused e v) = record { result = refused (number_of e); visited = v.visited; cuts = v.cuts; depth = v.depth; pending = 0; bounds = none }
+
+-- What the search counted, of an answer.
+abbrev pub counts_of : Paper → Counts
+counts_of a = record { visited = a.visited; cuts = a.cuts; depth = a.depth }
 
 -- The answer of a clip: the hat, or no hat, which leaves the visit early.
 abbrev pub hat_of : Hat → Option Scalar

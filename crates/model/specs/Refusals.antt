@@ -2,13 +2,16 @@
 use Rattle.std.specs.Prelude.{ℕ, ◌≤◌, ◌≡◌, ◌⊎◌}
 use Rattle.math.specs.Scalars.{Arithmetic}
 use Rattle.model.specs.NurbCurve.{Piece}
-use Rattle.model.specs.Subdivide.{Question}
+use Rattle.model.specs.Subdivide.{Question, no_counts}
 use Rattle.model.specs.Contains.{could_contain}
 use Rattle.model.specs.Layout.{area_words}
 use Rattle.model.specs.Call.{Call, question_refusal, refusal, stated_words, searched}
 use Rattle.model.specs.Paper.{refused, paper}
 use Rattle.model.specs.Enclosure.{OnlyWeights}
 use Rattle.model.specs.Nodes.{with_nodes}
+use Rattle.model.specs.Numbers.{number_of}
+use Rattle.model.specs.declared.refusal.Refusal.{Refusal}
+use Rattle.model.specs.declared.refusal.Refusal.TheVariants as reason
 use Rattle.model.specs.declared.contains.Found.TheVariants.{Refused}
 
 -- The number by which the question of a call is refused, whatever is lent to search it, or 0.
@@ -40,12 +43,14 @@ pub record Refusals (ar : Arithmetic) : Type 0 where
   -- and is the same with any other work area that is long enough;
   pub areas : (c : Call) (words : ℕ) → Enough c c.work_len → Enough c words → searched ar (with_words c words) ≡ searched ar c
   -- with one that is not it is the same, too, or it is 10.
-  pub or_ten : (c : Call) (words : ℕ) → Enough c c.work_len → (searched ar (with_words c words) ≡ searched ar c) ⊎ (searched ar (with_words c words) ≡ Refused 10 0 0 0)
+  pub or_ten : (c : Call) (words : ℕ) → Enough c c.work_len → (searched ar (with_words c words) ≡ searched ar c) ⊎ (searched ar (with_words c words) ≡ Refused reason.Work no_counts)
 
 -- Who refuses by which number, whatever area is lent.
 pub record AnyRefusals (ar : Arithmetic) : Type 0 where
   -- No other number comes than 16, 1 to 9, 10 and 11.
   pub any : (c : Call) (n : ℕ) → (paper (searched ar c)).result ≡ refused n → OfQuestion n ⊎ ((n ≡ 10) ⊎ (n ≡ 11))
+  -- A call that a number refuses has the refusal of that number for an answer, with nothing counted.
+  pub number : (c : Call) → (refusal c ≡ 0 → ⊥) → (e : Refusal) × (number_of e ≡ refusal c) × (searched ar c ≡ Refused e no_counts)
 
 -- An area that is long enough in space, for this degree, count and nodes, is so for every call with no more of them, whatever its dim is.
 pub record Rooms : Type 0 where

@@ -8,6 +8,7 @@ use Rattle.math.specs.Scalars.{zero_f, union_s}
 use Rattle.model.specs.NurbCurve.{Piece}
 use Rattle.model.specs.declared.subdivide.Counts.{Counts}
 use Rattle.model.specs.declared.contains.Found.{Found}
+use Rattle.model.specs.declared.refusal.Refusal.TheVariants as reason
 use Rattle.model.specs.declared.contains.Found.TheVariants.{Nothing, Enclosed, Spent, Refused}
 
 -- What stays the same through a search.
@@ -76,16 +77,12 @@ joined (some s) t = union_s s t
 
 -- The result when every piece was visited.
 unfoldable pub complete : Option Scalar → Counts → Found
-complete none v = Nothing v.visited v.cuts v.depth
-complete (some t) v = Enclosed (positive_zero t.lo) (positive_zero t.hi) v.visited v.cuts v.depth
-
--- The result when the nodes are used up and n pieces are left.
-abbrev pub spent_with : ℕ → Counts → Found
-spent_with n v = Spent n v.visited v.cuts v.depth
+complete none v = Nothing v
+complete (some t) v = Enclosed (positive_zero t.lo) (positive_zero t.hi) v
 
 -- The result when a weight is not above zero.
 abbrev pub failed_with : Counts → Found
-failed_with v = Refused 11 v.visited v.cuts v.depth
+failed_with v = Refused reason.Piece v
 
 -- What the visit of a piece of depth d leaves, which v already counts, where cs wait behind that piece: what it hands on goes behind them. What was cut down keeps the depth, and both
 -- halves have one more (request E5). Cuts are counted here, when the piece that was cut down is handed on; nothing else adds to them (request E2).
@@ -99,7 +96,7 @@ after cs d v f bad_weight = over (failed_with v)
 -- Whether the search is over before its next visit: no piece waits, or no visit is left for the first of them. The scope: pending counts that piece and those behind it.
 unfoldable pub ended : ℕ → List Waiting → Counts → Option Scalar → Option Found
 ended nodes [] v f = some (complete f v)
-ended nodes (c ∷ cs) v f = cond (ltb v.visited nodes) none (some (spent_with (suc (length cs)) v))
+ended nodes (c ∷ cs) v f = cond (ltb v.visited nodes) none (some (Spent (suc (length cs)) v))
 
 -- The visit of the first piece that waits. It does not look at the depth.
 unfoldable pub step : (Piece → Visit) → List Waiting → Counts → Option Scalar → Step
@@ -128,4 +125,4 @@ resumed visit nodes k (going s) = advance visit nodes k s
 -- The result where a search stands. A search that may take all its nodes in one go is over.
 unfoldable pub answered : Step → Found
 answered (over r) = r
-answered (going s) = spent_with (length s.queue) s.counts
+answered (going s) = Spent (length s.queue) s.counts

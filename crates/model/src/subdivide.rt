@@ -10,3 +10,12 @@ pub struct Counts {
     // The greatest depth of a piece that was visited: the halvings between it and the whole curve.
     pub depth: usize,
 }
+
+impl Counts {
+    // Nothing counted.
+    pub const NONE: Counts = Counts {
+        visited: 0,
+        cuts: 0,
+        depth: 0,
+    };
+}

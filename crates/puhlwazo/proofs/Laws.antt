@@ -3,17 +3,19 @@ use Prim.Native.Nat.{ℕ}
 use mathlib.Core.Path.{◌≡◌, refl, sym, ◌∙◌, ap, subst}
 use mathlib.Core.List.{List}
 use lib.Ieee.{Float}
+use Rattle.model.specs.declared.refusal.Refusal.{Refusal}
 use Rattle.model.specs.declared.contains.Found.{Found}
 use Rattle.model.specs.declared.contains.Found.TheVariants.{Nothing, Enclosed, Spent, Refused}
+use Rattle.model.proofs.Numbers.{refusal-of-number}
 use Rattle.puhlwazo.specs.Answers.{number_of, counts_of, bounds_of, read_back, HandsOut}
 
 -- What is given out can be read back.
 read_back_lem : (f : Found) → f ≡ read_back (number_of f) (counts_of f) (bounds_of f)
 unfolding counts_of bounds_of
-read_back_lem (Nothing v k d) = refl
-read_back_lem (Enclosed lo hi v k d) = refl
-read_back_lem (Spent n v k d) = refl
-read_back_lem (Refused n v k d) = refl
+read_back_lem (Nothing v) = refl
+read_back_lem (Enclosed lo hi v) = refl
+read_back_lem (Spent n v) = refl
+read_back_lem (Refused e v) = ap (λ (x : Refusal). Refused x v) (sym (refusal-of-number e))
 
 -- The words of f are those of the answer r that it equals, and read back they keep what f keeps.
 pub handed : {r : Found} {Keeps : Found → Type 0} {f : Found} {number : ℕ} {counts : List ℕ} {bounds : List Float}

@@ -9,8 +9,8 @@ pub(crate) fn number_of(f: Found) -> u64
     ensures { result ≡ number_of f }
 {
     match f {
-        Found::Nothing(..) | Found::Enclosed(..) | Found::Spent(..) => 0,
-        Found::Refused(number, ..) => number,
+        Found::Nothing(_) | Found::Enclosed(..) | Found::Spent(..) => 0,
+        Found::Refused(refused, _) => refused.number(),
     }
 }
 
@@ -20,10 +20,10 @@ pub(crate) fn counts_of(f: Found) -> [u64; 5]
     ensures { result ≡ counts_of f }
 {
     match f {
-        Found::Nothing(v, k, d) => [0, v as u64, 0, k as u64, d as u64],
-        Found::Enclosed(_, _, v, k, d) => [1, v as u64, 0, k as u64, d as u64],
-        Found::Spent(n, v, k, d) => [2, v as u64, n as u64, k as u64, d as u64],
-        Found::Refused(_, v, k, d) => [3, v as u64, 0, k as u64, d as u64],
+        Found::Nothing(c) => [0, c.visited as u64, 0, c.cuts as u64, c.depth as u64],
+        Found::Enclosed(_, _, c) => [1, c.visited as u64, 0, c.cuts as u64, c.depth as u64],
+        Found::Spent(n, c) => [2, c.visited as u64, n as u64, c.cuts as u64, c.depth as u64],
+        Found::Refused(_, c) => [3, c.visited as u64, 0, c.cuts as u64, c.depth as u64],
     }
 }
 
@@ -33,7 +33,7 @@ pub(crate) fn bounds_of(f: Found) -> [f64; 2]
     ensures { result ≡ bounds_of f }
 {
     match f {
-        Found::Enclosed(lo, hi, ..) => [lo, hi],
-        Found::Nothing(..) | Found::Spent(..) | Found::Refused(..) => [0.0, 0.0],
+        Found::Enclosed(lo, hi, _) => [lo, hi],
+        Found::Nothing(_) | Found::Spent(..) | Found::Refused(..) => [0.0, 0.0],
     }
 }

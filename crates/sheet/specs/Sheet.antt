@@ -8,7 +8,10 @@ use Rattle.math.specs.Values.{value}
 use Rattle.math.specs.Encloses.{is_moderate}
 use Rattle.model.specs.Call.{Call, answer_to}
 use Rattle.model.specs.Promise.{Answers}
+use Rattle.model.specs.Numbers.{number_of}
+use Rattle.model.specs.Subdivide.{no_counts}
 use Rattle.model.specs.declared.contains.Found.{Found}
+use Rattle.model.specs.declared.refusal.Refusal.TheVariants as reason
 use Rattle.model.specs.declared.contains.Found.TheVariants.{Nothing, Enclosed, Spent, Refused}
 use Rattle.text.specs.Question.{refused_by, reading}
 use Rattle.text.specs.Respond.{answered, AnswersReading}
@@ -20,35 +23,35 @@ use Rattle.sheet.specs.declared.asking.Answered.{Answered}
 
 -- "How many were none, enclosed, spent and refused": refused by whatever number.
 abbrev pub is_none : Found → Bool
-is_none (Nothing v k d) = true
-is_none (Enclosed lo hi v k d) = false
-is_none (Spent n v k d) = false
-is_none (Refused n v k d) = false
+is_none (Nothing v) = true
+is_none (Enclosed lo hi v) = false
+is_none (Spent n v) = false
+is_none (Refused e v) = false
 
 abbrev pub is_enclosed : Found → Bool
-is_enclosed (Nothing v k d) = false
-is_enclosed (Enclosed lo hi v k d) = true
-is_enclosed (Spent n v k d) = false
-is_enclosed (Refused n v k d) = false
+is_enclosed (Nothing v) = false
+is_enclosed (Enclosed lo hi v) = true
+is_enclosed (Spent n v) = false
+is_enclosed (Refused e v) = false
 
 abbrev pub is_spent : Found → Bool
-is_spent (Nothing v k d) = false
-is_spent (Enclosed lo hi v k d) = false
-is_spent (Spent n v k d) = true
-is_spent (Refused n v k d) = false
+is_spent (Nothing v) = false
+is_spent (Enclosed lo hi v) = false
+is_spent (Spent n v) = true
+is_spent (Refused e v) = false
 
 abbrev pub is_refused : Found → Bool
-is_refused (Nothing v k d) = false
-is_refused (Enclosed lo hi v k d) = false
-is_refused (Spent n v k d) = false
-is_refused (Refused n v k d) = true
+is_refused (Nothing v) = false
+is_refused (Enclosed lo hi v) = false
+is_refused (Spent n v) = false
+is_refused (Refused e v) = true
 
 -- hi minus lo of an answer that is enclosed, exactly; any other adds nothing.
 unfoldable pub width : Found → ℚ
-width (Nothing v k d) = 0ℚ
-width (Enclosed lo hi v k d) = value hi -ℚ value lo
-width (Spent n v k d) = 0ℚ
-width (Refused n v k d) = 0ℚ
+width (Nothing v) = 0ℚ
+width (Enclosed lo hi v) = value hi -ℚ value lo
+width (Spent n v) = 0ℚ
+width (Refused e v) = 0ℚ
 
 -- "The sum of hi minus lo over the enclosed ones."
 unfoldable pub widths : List Found → ℚ
@@ -90,7 +93,7 @@ Room s = s.questions < 65535
 -- The question c was asked with the sheet s; the call found `before` in its work area and left `after`.
 pub record Asks (c : Call) (s : Sheet) (before after : List Float) (r : Answered) : Type 0 where
   -- "Question number 65,536 gets 23, before it is looked at, and the sheet keeps what it had": so does the work area.
-  pub full : 65535 ≤ s.questions → (r.found ≡ Refused 23 0 0 0) × (r.sheet ≡ s) × (after ≡ before)
+  pub full : 65535 ≤ s.questions → (r.found ≡ Refused reason.Sheet no_counts) × (r.sheet ≡ s) × (after ≡ before)
   -- Any other is "a search without a pause", with all that is promised of one,
   pub asked : Room s → Answers c before after r.found
   -- and a sheet that was kept is kept over its answer, too.
@@ -103,7 +106,7 @@ NoQuestion text = reading text ≡ refused_by 12
 -- The text was asked with the sheet s.
 pub record AsksText (text : List ℕ) (s : Sheet) (r : Answered) : Type 0 where
   -- "Question number 65,536 gets 23, before it is looked at, and the sheet keeps what it had."
-  pub full : 65535 ≤ s.questions → (r.found ≡ Refused 23 0 0 0) × (r.sheet ≡ s)
+  pub full : 65535 ≤ s.questions → (r.found ≡ Refused reason.Sheet no_counts) × (r.sheet ≡ s)
   -- Any other text has the answer of gripcheck, with all that is promised of it.
   pub answers : Room s → AnswersReading (reading text) r.found
   -- One that is no question leaves the sheet as it was;
@@ -120,10 +123,10 @@ pub record Texts : Type 0 where
 
 -- Refused by 12.
 abbrev pub is_twelve : Found → Bool
-is_twelve (Nothing v k d) = false
-is_twelve (Enclosed lo hi v k d) = false
-is_twelve (Spent n v k d) = false
-is_twelve (Refused n v k d) = eqb n 12
+is_twelve (Nothing v) = false
+is_twelve (Enclosed lo hi v) = false
+is_twelve (Spent n v) = false
+is_twelve (Refused e v) = eqb (number_of e) 12
 
 -- One more, up to what a sheet can count.
 abbrev pub one_more : ℕ → ℕ
@@ -139,10 +142,10 @@ pub record Widened (l : List ℕ) (lo hi : Float) (m : List ℕ) : Type 0 where
 
 -- What an answer does to the sum.
 abbrev pub SumAfter : List ℕ → Found → List ℕ → Type 0
-SumAfter l (Nothing v k d) m = m ≡ l
-SumAfter l (Enclosed lo hi v k d) m = Widened l lo hi m
-SumAfter l (Spent n v k d) m = m ≡ l
-SumAfter l (Refused n v k d) m = m ≡ l
+SumAfter l (Nothing v) m = m ≡ l
+SumAfter l (Enclosed lo hi v) m = Widened l lo hi m
+SumAfter l (Spent n v) m = m ≡ l
+SumAfter l (Refused e v) m = m ≡ l
 
 -- The sheet r is s with one question more, which had the answer f. This is so of any sheet, and says little of one that was not kept: what does
 -- not fit into the sum is lost.
@@ -156,7 +159,7 @@ pub record Tallied (s : Sheet) (f : Found) (r : Sheet) : Type 0 where
 
 -- The bounds of an answer are at most 2 ^ 100 in size, and in order, if it has any.
 abbrev pub BoundsKept : Found → Type 0
-BoundsKept (Nothing v k d) = Unit {0}
-BoundsKept (Enclosed lo hi v k d) = T (is_moderate lo) × T (is_moderate hi) × T (le lo hi)
-BoundsKept (Spent n v k d) = Unit {0}
-BoundsKept (Refused n v k d) = Unit {0}
+BoundsKept (Nothing v) = Unit {0}
+BoundsKept (Enclosed lo hi v) = T (is_moderate lo) × T (is_moderate hi) × T (le lo hi)
+BoundsKept (Spent n v) = Unit {0}
+BoundsKept (Refused e v) = Unit {0}

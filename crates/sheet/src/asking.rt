@@ -8,6 +8,8 @@ ghost use Rattle.sheet.specs.Sheet.{one_more, SumAfter, Tallied, Asks, AsksText}
 use crate::sum::{add_double, take_double};
 use geometry::contains::curve_could_contain;
 use model::contains::Found;
+use model::refusal::Refusal;
+use model::subdivide::Counts;
 use text::respond::answered;
 
 // How many questions there were, how many of them came to what, and the sum of hi minus lo over those that are enclosed: a
@@ -48,33 +50,33 @@ pub struct Answered {
 fn is_none(f: Found) -> bool
     ensures { result ≡ is_none f }
 {
-    matches!(f, Found::Nothing(_, _, _))
+    matches!(f, Found::Nothing(_))
 }
 
 fn is_enclosed(f: Found) -> bool
     ensures { result ≡ is_enclosed f }
 {
-    matches!(f, Found::Enclosed(_, _, _, _, _))
+    matches!(f, Found::Enclosed(_, _, _))
 }
 
 fn is_spent(f: Found) -> bool
     ensures { result ≡ is_spent f }
 {
-    matches!(f, Found::Spent(_, _, _, _))
+    matches!(f, Found::Spent(_, _))
 }
 
 // Refused by whatever number.
 fn is_refused(f: Found) -> bool
     ensures { result ≡ is_refused f }
 {
-    matches!(f, Found::Refused(_, _, _, _))
+    matches!(f, Found::Refused(_, _))
 }
 
 // Refused by 12.
 fn is_twelve(f: Found) -> bool
     ensures { result ≡ is_twelve f }
 {
-    matches!(f, Found::Refused(12, _, _, _))
+    matches!(f, Found::Refused(Refusal::Text, _))
 }
 
 // ---- one question more
@@ -99,7 +101,7 @@ fn summed(sum: [u8; 150], f: Found) -> [u8; 150]
     ensures { SumAfter sum f result }
 {
     match f {
-        Found::Enclosed(lo, hi, _, _, _) => { take_double(add_double(sum, hi), lo) }
+        Found::Enclosed(lo, hi, _) => { take_double(add_double(sum, hi), lo) }
         _ => sum,
     }
 }
@@ -145,7 +147,7 @@ pub fn ask(
     if 65535 <= s.questions {
         return Answered {
             sheet: s,
-            found: Found::Refused(23, 0, 0, 0),
+            found: Found::Refused(Refusal::Sheet, Counts::NONE),
         };
     }
     let found = curve_could_contain(
@@ -166,7 +168,7 @@ pub fn ask_text(s: Sheet, text: &[u8]) -> Answered
     if 65535 <= s.questions {
         return Answered {
             sheet: s,
-            found: Found::Refused(23, 0, 0, 0),
+            found: Found::Refused(Refusal::Sheet, Counts::NONE),
         };
     }
     let found = answered(text);

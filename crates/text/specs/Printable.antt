@@ -3,10 +3,9 @@ use Rattle.std.specs.Prelude.{ℕ, ◌+◌, ◌≤◌, ◌<◌, ◌≡◌, Bool,
 use Rattle.std.specs.Float.Ieee.{is_nan}
 use Rattle.lists.specs.Lists.{put, all}
 use Rattle.model.specs.Enclosure.{OfBounds}
-use Rattle.model.specs.Paper.{Paper, paper}
+use Rattle.model.specs.Paper.{paper}
 use Rattle.model.specs.declared.contains.Found.{Found}
 use Rattle.model.specs.declared.contains.Found.TheVariants.{Nothing, Enclosed, Spent, Refused}
-use Rattle.model.specs.declared.subdivide.Counts.{Counts}
 use Rattle.text.specs.Question.{Numbers}
 
 -- The bytes ws were written to the memory l from `at` on, which became m; they end in front of r.
@@ -30,17 +29,13 @@ pub record AllNumbers (q : Numbers) : Type 0 where
   pub points : all is_number q.points ≡ true
   pub box : all is_number q.box ≡ true
 
--- What the search counted, of an answer.
-abbrev pub counts_of : Paper → Counts
-counts_of a = record { visited = a.visited; cuts = a.cuts; depth = a.depth }
-
 -- Neither bound of an answer is a NaN.
 abbrev pub Printable : Found → Type 0
 Printable r = OfBounds (λ x. T (is_number x.lo) × T (is_number x.hi)) (paper r).bounds
 
 -- The same as a test.
 abbrev pub is_printable : Found → Bool
-is_printable (Nothing v k d) = true
-is_printable (Enclosed lo hi v k d) = is_number lo && is_number hi
-is_printable (Spent n v k d) = true
-is_printable (Refused n v k d) = true
+is_printable (Nothing v) = true
+is_printable (Enclosed lo hi v) = is_number lo && is_number hi
+is_printable (Spent n v) = true
+is_printable (Refused e v) = true

@@ -5,6 +5,9 @@ use Rattle.math.specs.declared.scalars.Scalar.{Scalar}
 use Rattle.model.specs.Call.{answer_to, area_after}
 use Rattle.model.specs.Paper.{Result, None-found, enclosed, spent, refused, Paper, paper}
 use Rattle.model.specs.Promise.{Answers}
+use Rattle.model.specs.Numbers.{number_of, refusal_of}
+use Rattle.model.specs.Subdivide.{no_counts}
+use Rattle.model.specs.declared.refusal.Refusal.{Refusal}
 use Rattle.model.specs.declared.contains.Found.{Found}
 use Rattle.model.specs.declared.contains.Found.TheVariants.{Refused}
 use Rattle.text.specs.Bytes.{bytes}
@@ -14,7 +17,7 @@ use Rattle.text.specs.Question.{Reading, refused_by, asks, call_of, reading}
 
 -- The answer to what was read: "A refusal other than 11 prints visited=0", cuts=0 (request E2) and depth=0 (request E5).
 unfoldable pub answered_by : Reading → Found
-answered_by (refused_by n) = Refused n 0 0 0
+answered_by (refused_by n) = Refused (refusal_of n) no_counts
 answered_by (asks rev s q) = answer_to (call_of rev s q)
 
 -- The answer to a text.
@@ -60,10 +63,10 @@ printed_in n f = cond (leb 192 n && is_printable f) (printed (paper f)) []
 
 -- ---- what the answer keeps
 
--- The answer r to what was read keeps its promises: a refusal is that number's, and the answer to a question keeps every promise of
+-- The answer r to what was read keeps its promises: a refusal is the one of that number, with nothing counted, and the answer to a question keeps every promise of
 -- the search, in the words of `Answers`. The work area is the program's own and nobody sees it: so they hold whatever it held.
 abbrev pub AnswersReading : Reading → Found → Type 0
-AnswersReading (refused_by n) r = r ≡ Refused n 0 0 0
+AnswersReading (refused_by n) r = (e : Refusal) × (number_of e ≡ n) × (r ≡ Refused e no_counts)
 AnswersReading (asks rev s q) r = let c = call_of rev s q in (before : List Float) → Answers c before (area_after c before) r
 
 -- The bytes w say an answer to the text, which keeps its promises.

@@ -3,10 +3,9 @@ ghost use Rattle.std.specs.Prelude.{◌≡◌, ◌++◌, ◌+◌, ◌≤◌, ◌
 ghost use Rattle.model.specs.Paper.{paper};
 ghost use Rattle.text.specs.Numerals.{digit_of, last_digits, decimal_length, decimal, hexadecimal};
 ghost use Rattle.text.specs.Respond.{result_word, count_lines, bound_lines, printed};
-ghost use Rattle.text.specs.Printable.{counts_of, Written, is_number, Printable};
+ghost use Rattle.text.specs.Printable.{Written, is_number, Printable};
 
 use model::contains::Found;
-use model::subdivide::Counts;
 
 // ---- words and numbers
 
@@ -81,41 +80,13 @@ fn put_result(out: &mut [u8], at: usize, f: Found) -> usize
         Written l at (result_word (paper f).result) m result × (result ≤ at + 28) }
 {
     match f {
-        Found::Nothing(_, _, _) => { put_word(out, at, b"none") }
-        Found::Enclosed(_, _, _, _, _) => { put_word(out, at, b"enclosed") }
-        Found::Spent(_, _, _, _) => { put_word(out, at, b"spent") }
-        Found::Refused(n, _, _, _) => {
+        Found::Nothing(_) => { put_word(out, at, b"none") }
+        Found::Enclosed(_, _, _) => { put_word(out, at, b"enclosed") }
+        Found::Spent(_, _) => { put_word(out, at, b"spent") }
+        Found::Refused(refused, _) => {
             let i = put_word(out, at, b"refused-");
-            put_decimal(out, i, n)
+            put_decimal(out, i, refused.number())
         }
-    }
-}
-
-// What the search counted.
-fn counts_of(f: Found) -> Counts
-    ensures { result ≡ counts_of (paper f) }
-{
-    match f {
-        Found::Nothing(visited, cuts, depth) => Counts {
-            visited,
-            cuts,
-            depth,
-        },
-        Found::Enclosed(_, _, visited, cuts, depth) => Counts {
-            visited,
-            cuts,
-            depth,
-        },
-        Found::Spent(_, visited, cuts, depth) => Counts {
-            visited,
-            cuts,
-            depth,
-        },
-        Found::Refused(_, visited, cuts, depth) => Counts {
-            visited,
-            cuts,
-            depth,
-        },
     }
 }
 
@@ -124,10 +95,8 @@ fn pending_of(f: Found) -> u64
     ensures { result ≡ (paper f).pending }
 {
     match f {
-        Found::Nothing(_, _, _) => 0,
-        Found::Enclosed(_, _, _, _, _) => 0,
-        Found::Spent(n, _, _, _) => n as u64,
-        Found::Refused(_, _, _, _) => 0,
+        Found::Spent(n, _) => n as u64,
+        Found::Nothing(_) | Found::Enclosed(_, _, _) | Found::Refused(_, _) => 0,
     }
 }
 
@@ -147,7 +116,7 @@ fn put_counts(out: &mut [u8], at: usize, f: Found) -> usize
     ensures { let l = out.old in let m = out.new in
         Written l at (count_lines (paper f)) m result × (result ≤ at + 112) }
 {
-    let counts = counts_of(f);
+    let counts = f.counts();
     let i = put_count(out, at, b"\nvisited=", counts.visited as u64);
     let j = put_count(out, i, b"\ncuts=", counts.cuts as u64);
     let k = put_count(out, j, b"\ndepth=", counts.depth as u64);
@@ -161,7 +130,7 @@ fn put_bounds(out: &mut [u8], at: usize, f: Found) -> usize
     ensures { let l = out.old in let m = out.new in
         Written l at (bound_lines (paper f).bounds) m result × (result ≤ at + 40) }
 {
-    let Found::Enclosed(lo, hi, _, _, _) = f else {
+    let Found::Enclosed(lo, hi, _) = f else {
         return put_word(out, at, b"lo=-\nhi=-\n");
     };
     let i = put_word(out, at, b"lo=");

@@ -12,6 +12,7 @@ use crate::reading::{read, room};
 use geometry::contains::curve_could_contain;
 use math::floats::is_nan;
 use model::contains::Found;
+use model::subdivide;
 
 // The numbers that the program lends.
 fn area() -> [f64; 8192]
@@ -52,7 +53,7 @@ pub fn answered(text: &[u8]) -> Found
     let mut lines = room();
     match read(text, &mut lines) {
         Ok(asked) => ask_lines(asked, &lines),
-        Err(refused) => Found::Refused(refused.number(), 0, 0, 0),
+        Err(refused) => Found::Refused(refused, subdivide::Counts::NONE),
     }
 }
 
@@ -84,7 +85,7 @@ fn is_printable(f: Found) -> bool
     ensures { result ≡ is_printable f }
 {
     match f {
-        Found::Enclosed(lo, hi, _, _, _) => are_numbers(lo, hi),
+        Found::Enclosed(lo, hi, _) => are_numbers(lo, hi),
         _ => true,
     }
 }

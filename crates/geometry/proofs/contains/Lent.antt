@@ -17,7 +17,7 @@ use Rattle.math.proofs.Bools.{pick_yes, pick_no}
 use Rattle.model.specs.NurbCurve.{Piece}
 use Rattle.model.specs.Layout.{area_words}
 use Rattle.model.specs.Aabb.{could_meet}
-use Rattle.model.specs.Subdivide.{advance, answered}
+use Rattle.model.specs.Subdivide.{no_counts, advance, answered}
 use Rattle.model.specs.Contains.{visit, begun, could_contain}
 use Rattle.model.specs.Call.{Call, as_piece, box_of, question, refusal, stated, stated_words, arithmetic_of, searched_by, searched, area_by, area_after}
 use Rattle.model.specs.Enclosure.{Doubles, Accepted, HitsEnclosed, BoundsInDomain, BoundsPositiveZero, BoundsInOrder}
@@ -27,8 +27,11 @@ use Rattle.geometry.specs.Call.{Searches}
 use Rattle.geometry.specs.Slots.{words_of, word, piece_at, placed, Fits, Inside, Held, DepthIs, Waits}
 use Rattle.geometry.specs.Ring.{ring_base, Ring}
 use Rattle.geometry.specs.State.{AllFit, Begins}
+use Rattle.model.specs.Numbers.{number_of, refusal_of}
+use Rattle.model.specs.declared.refusal.Refusal.{Refusal}
 use Rattle.model.specs.declared.contains.Found.{Found}
 use Rattle.model.specs.declared.contains.Found.TheVariants.{Nothing, Refused}
+use Rattle.model.proofs.Numbers.{some_number, refusal-of-number}
 use Rattle.model.proofs.Checks.{stated_is}
 use Rattle.model.proofs.Sound.Accepted.{Sizes, sizes}
 use Rattle.geometry.proofs.Lists.Numbers.{length-points, wide-points}
@@ -43,22 +46,31 @@ use Rattle.geometry.proofs.contains.Fit.{shape_of, all_fit}
 -- ---- the promises of a call
 
 -- A call that is refused gives its number, and writes nothing.
-pub refused : (c : Call) (area : List Float) (n : ℕ) → n ≡ refusal c → (n ≡ 0 → ⊥) → Answers c area area (Refused n 0 0 0)
+pub refused : (c : Call) (area : List Float) (e : Refusal) → number_of e ≡ refusal c → Answers c area area (Refused e no_counts)
 unfolding searched searched_by area_after area_by
-refused c area zero e h = absurd (h refl)
-refused c area (suc n) e h = record {
+refused c area e h = record {
   result = result;
   paper = ap paper result;
-  memory = ap (area_by c area) e;
+  memory = untouched (number_of e) (some_number e) ∙ ap (area_by c area) h;
   encloses = λ _ never. absurd never;
   within = tt;
   zeros = tt;
   order = tt;
-  debug = debug-says c _ (λ acc. absurd (h (e ∙ acc))) result;
+  debug = debug-says c _ (λ acc. absurd (some_number e (h ∙ acc))) result;
 }
   where
-    result : Refused (suc n) 0 0 0 ≡ searched_by (arithmetic_of c) c (refusal c)
-    result = ap (searched_by (arithmetic_of c) c) e
+    told : (n : ℕ) → (n ≡ 0 → ⊥) → Refused (refusal_of n) no_counts ≡ searched_by (arithmetic_of c) c n
+    told zero k = absurd (k refl)
+    told (suc n) k = refl
+
+    untouched : (n : ℕ) → (n ≡ 0 → ⊥) → area ≡ area_by c area n
+    untouched zero k = absurd (k refl)
+    untouched (suc n) k = refl
+
+    result : Refused e no_counts ≡ searched_by (arithmetic_of c) c (refusal c)
+    result =
+        ap (λ (x : Refusal). Refused x no_counts) (sym (refusal-of-number e)) ∙ told (number_of e) (some_number e)
+        ∙ ap (searched_by (arithmetic_of c) c) h
 
 -- Any other is searched, and its answer keeps demand 3.
 pub answered_by_lem : (c : Call) (before after : List Float) (r : Found) → Doubles c → Searches (arithmetic_of c) c before after r → Answers c before after r
@@ -119,7 +131,7 @@ module _ (c : Call) (acc : Accepted c) (area : List Float) (long : length area �
         behind : drop (stated c) l ≡ drop (stated c) area
         behind = unfold stated in e
 
-  pub missed : (ar : Arithmetic) (b : Bool) → b ≡ could_meet ar c.curve.dim c.curve.degree (as_piece c.curve).points (box_of c) → b ≡ false → Nothing 0 0 0 ≡ searched ar c
+  pub missed : (ar : Arithmetic) (b : Bool) → b ≡ could_meet ar c.curve.dim c.curve.degree (as_piece c.curve).points (box_of c) → b ≡ false → Nothing no_counts ≡ searched ar c
   unfolding searched searched_by could_contain
   missed ar b B e = pick_no _ _ _ (sym B ∙ e) ∙ sym (ap (searched_by ar c) acc)
 

@@ -15,13 +15,14 @@ use Rattle.math.specs.declared.scalars.Scalar.{Scalar}
 use Rattle.math.specs.Scalars.{Arithmetic}
 use Rattle.model.specs.NurbCurve.{Piece}
 use Rattle.model.specs.Layout.{scalars_of}
-use Rattle.model.specs.Subdivide.{Question, Visit, Waiting, State, going, over, at_depth, no_counts, complete, spent_with, failed_with, ended, advance, answered}
+use Rattle.model.specs.Subdivide.{Question, Visit, Waiting, State, going, over, at_depth, no_counts, complete, failed_with, ended, advance, answered}
 use Rattle.model.specs.Contains.{visit, begun}
 use Rattle.model.specs.Enclosure.{Every}
 use Rattle.model.specs.Counts.{Counted, AfterVisits}
 use Rattle.geometry.specs.Slots.{words_of, piece_at, depth_at, waits_at, Waits, Fit}
 use Rattle.geometry.specs.Ring.{base_of, ring_base, waiting, Ring}
 use Rattle.geometry.specs.State.{found_of, state_of, outcome_of, cuts_of, has_bad_weight, Next, Turned, AllFit, asked_of, Begins, Going}
+use Rattle.model.specs.declared.contains.Found.TheVariants.{Spent}
 use Rattle.model.specs.declared.subdivide.Counts.{Counts}
 use Rattle.model.specs.declared.contains.Found.{Found}
 use Rattle.geometry.specs.declared.slots.Shape.{Shape}
@@ -63,7 +64,7 @@ unfolding ended
 unended nodes [] v f h k = absurd (omega arith)
 unended nodes (c ∷ cs) v f h k = rw (lt-ltb v.visited nodes k)
 
-spent : (nodes : ℕ) (q : List Waiting) (v : Counts) (n : ℕ) (f : Option Scalar) → length q ≡ n → 0 < n → nodes ≤ v.visited → ended nodes q v f ≡ some (spent_with n v)
+spent : (nodes : ℕ) (q : List Waiting) (v : Counts) (n : ℕ) (f : Option Scalar) → length q ≡ n → 0 < n → nodes ≤ v.visited → ended nodes q v f ≡ some (Spent n v)
 unfolding ended
 spent nodes [] v n f e h k = absurd (omega (arith, e))
 spent nodes (c ∷ cs) v n f e h k = rw (le-ltb v.visited nodes k, ← e)
@@ -124,10 +125,10 @@ module _ (see : Piece → Visit) (few : (c : Piece) → OneOrTwo (see c)) (nodes
 
     module _ (some-wait : 0 < x.pending) where
       -- no visit is left
-      pub going-spent : x.counts.visited ≡ nodes → spent_with x.pending x.counts ≡ sought
-      going-spent e = at_end 0 (spent_with x.pending x.counts) (omega arith) (ends see nodes 0 here (spent_with x.pending x.counts) over-now)
+      pub going-spent : x.counts.visited ≡ nodes → Spent x.pending x.counts ≡ sought
+      going-spent e = at_end 0 (Spent x.pending x.counts) (omega arith) (ends see nodes 0 here (Spent x.pending x.counts) over-now)
         where
-          over-now : ended nodes (state_of s l (nodes + 3) x).queue (state_of s l (nodes + 3) x).counts (state_of s l (nodes + 3) x).found ≡ some (spent_with x.pending x.counts)
+          over-now : ended nodes (state_of s l (nodes + 3) x).queue (state_of s l (nodes + 3) x).counts (state_of s l (nodes + 3) x).found ≡ some (Spent x.pending x.counts)
           over-now = unfold state_of in (spent nodes (waiting s l (nodes + 3) x.head x.pending) x.counts x.pending (found_of x.found) long_queue some-wait (omega arith))
 
       one_more : x.pending ≡ suc (x.pending - 1)

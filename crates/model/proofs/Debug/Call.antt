@@ -13,7 +13,7 @@ use Rattle.math.proofs.Intervals.Instance.{geop_encloses}
 use Rattle.model.specs.NurbCurve.{Piece, start, end}
 use Rattle.model.specs.Aabb.{aabb, could_overlap, could_meet}
 use Rattle.model.specs.FatLine.{greville}
-use Rattle.model.specs.Subdivide.{Question, dropped, advance, answered}
+use Rattle.model.specs.Subdivide.{Question, no_counts, dropped, advance, answered}
 use Rattle.model.specs.Contains.{clipped, visit, begun, could_contain}
 use Rattle.model.specs.Layout.{scalar_at, scalars_of}
 use Rattle.model.specs.Call.{Call, as_piece, box_of, question, refusal, searched_by, searched, answer_to}
@@ -52,7 +52,7 @@ module _ (c : Call) (d : Doubles c) (acc : Accepted c) where
   unfolding debug.could_contain could_contain
   by Good w sees fines = rw (door_fine c.curve.dim c.curve.degree s.points (box_of c) (curve-held c d acc) (asked c d acc).long (box-bounded c d acc)) (go (could_meet geop c.curve.dim c.curve.degree s.points (box_of c)))
     where
-      go : (z : Bool) → cond z (debug.advance (debug.visit q) c.nodes c.nodes (begun s) >>= λ t. fine (answered t)) (fine (Nothing 0 0 0)) ≡ fine (cond z (answered (advance (visit geop q) c.nodes c.nodes (begun s))) (Nothing 0 0 0))
+      go : (z : Bool) → cond z (debug.advance (debug.visit q) c.nodes c.nodes (begun s) >>= λ t. fine (answered t)) (fine (Nothing no_counts)) ≡ fine (cond z (answered (advance (visit geop q) c.nodes c.nodes (begun s))) (Nothing no_counts))
       go true = rw (advance_fine (visit geop q) (debug.visit q) c.nodes (Told c d acc geop geop_encloses) Good (λ _ t. t.1) (told-union c d acc geop geop_encloses) sees fines c.nodes (begun s) (record { pieces = (w, tt); inside = tt })) refl
       go false = refl
 

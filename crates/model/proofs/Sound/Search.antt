@@ -11,10 +11,11 @@ use Rattle.math.specs.declared.scalars.Scalar.{Scalar}
 use Rattle.math.specs.Scalars.{union_s}
 use Rattle.math.proofs.Bools.{pick}
 use Rattle.model.specs.NurbCurve.{Piece}
-use Rattle.model.specs.Subdivide.{Visit, dropped, reported, restricted, halved, bad_weight, Waiting, State, Step, going, over, positive_zero, joined, complete, spent_with, after, ended, step, stop, advance, answered}
+use Rattle.model.specs.Subdivide.{Visit, dropped, reported, restricted, halved, bad_weight, Waiting, State, Step, going, over, positive_zero, joined, complete, after, ended, step, stop, advance, answered}
 use Rattle.model.specs.Enclosure.{Every}
 use Rattle.model.specs.declared.subdivide.Counts.{Counts}
 use Rattle.model.specs.declared.contains.Found.{Found}
+use Rattle.model.specs.declared.refusal.Refusal.TheVariants as reason
 use Rattle.model.specs.declared.contains.Found.TheVariants.{Nothing, Enclosed, Spent, Refused}
 use Rattle.model.proofs.Every.{every_append}
 
@@ -34,17 +35,17 @@ some_right P (x ∷ l) m h = inr (some_right P l m h)
 
 -- ---- what is asked of an answer, where In is asked of what is reported
 abbrev pub Right : (Scalar → Type 0) → Found → Type 0
-Right In (Nothing v k e) = Unit {0}
-Right In (Enclosed lo hi v k e) = (t : Scalar) × (In t × ((lo ≡ positive_zero t.lo) × (hi ≡ positive_zero t.hi)))
-Right In (Spent n v k e) = Unit {0}
-Right In (Refused n v k e) = n ≡ 11
+Right In (Nothing v) = Unit {0}
+Right In (Enclosed lo hi v) = (t : Scalar) × (In t × ((lo ≡ positive_zero t.lo) × (hi ≡ positive_zero t.hi)))
+Right In (Spent n v) = Unit {0}
+Right In (Refused e v) = e ≡ reason.Piece
 
 -- and what is asked of it besides, where there is a hit
 abbrev pub Hit : (Scalar → Type 0) → Found → Type 0
-Hit At (Nothing v k e) = ⊥
-Hit At (Enclosed lo hi v k e) = (t : Scalar) × (At t × ((lo ≡ positive_zero t.lo) × (hi ≡ positive_zero t.hi)))
-Hit At (Spent n v k e) = Unit {0}
-Hit At (Refused n v k e) = Unit {0}
+Hit At (Nothing v) = ⊥
+Hit At (Enclosed lo hi v) = (t : Scalar) × (At t × ((lo ≡ positive_zero t.lo) × (hi ≡ positive_zero t.hi)))
+Hit At (Spent n v) = Unit {0}
+Hit At (Refused e v) = Unit {0}
 
 -- ---- what is asked of a visit
 abbrev pub Fine : (Scalar → Type 0) → (Piece → Type 0) → Visit → Type 0
@@ -105,7 +106,7 @@ module _ (visit : Piece → Visit) (nodes : ℕ) (In : Scalar → Type 0) (Ok : 
   ends : (l : List Waiting) (v : Counts) (f : Option Scalar) → Ready l f → Ends (ended nodes l v f)
   unfolding ended Ends
   ends [] v f r = completes f v r.inside
-  ends (c ∷ cs) v f r = pick Ends (ltb v.visited nodes) none (some (spent_with (suc (length cs)) v)) (λ _. tt) (λ _. tt)
+  ends (c ∷ cs) v f r = pick Ends (ltb v.visited nodes) none (some (Spent (suc (length cs)) v)) (λ _. tt) (λ _. tt)
 
   afters : (cs : List Waiting) (d : ℕ) (v : Counts) (f : Option Scalar) (w : Visit) → Every (λ w. Ok w.piece) cs → Reported In (Unit {0}) f → Fine In Ok w → Stands (after cs d v f w)
   unfolding after
@@ -180,7 +181,7 @@ module _ (visit : Piece → Visit) (nodes : ℕ) (In : Scalar → Type 0) (Ok : 
     unfolding ended Ended
     last [] v f (inl h) = absurd h
     last [] v f (inr h) = completed f v h
-    last (c ∷ cs) v f h = pick Ended (ltb v.visited nodes) none (some (spent_with (suc (length cs)) v)) (λ _. tt) (λ _. tt)
+    last (c ∷ cs) v f h = pick Ended (ltb v.visited nodes) none (some (Spent (suc (length cs)) v)) (λ _. tt) (λ _. tt)
 
     -- the visit of a piece that may hold the hit, where another piece or a report may hold it too
     next : (cs : List Waiting) (d : ℕ) (v : Counts) (f : Option Scalar) (w : Visit) → Kept At Has w ⊎ Alive cs f → Lives (after cs d v f w)

@@ -22,6 +22,7 @@ use Rattle.math.specs.Encloses.{is_moderate}
 use Rattle.math.proofs.Laws.{le→value, reading}
 use Rattle.model.specs.Call.{Call, area_after}
 use Rattle.model.specs.Promise.{Answers}
+use Rattle.model.specs.declared.subdivide.Counts.{Counts}
 use Rattle.model.specs.declared.contains.Found.{Found}
 use Rattle.model.specs.declared.contains.Found.TheVariants.{Nothing, Enclosed, Spent, Refused}
 use Rattle.model.proofs.Moderate.{moderate}
@@ -107,9 +108,9 @@ room n c u h g f = lt_of_le_of_lt (le_trans (plain n u (c * 2 ^ 1175) (2 ^ 1175)
         more c p = omega arith
 
 -- an enclosed answer, of finite bounds
-module _ (s : Bool) (m : ℕ) (e : ℤ) (t : Bool) (n : ℕ) (f : ℤ) (v k d : ℕ) where
+module _ (s : Bool) (m : ℕ) (e : ℤ) (t : Bool) (n : ℕ) (f : ℤ) (v : Counts) where
   finite-sum : (l : List ℕ) (rs : List Found) (q : List ℕ) → length l ≡ 150 → length rs < 65535 → number l ÷ 2 ^ 1074 ≡ widths rs → number l ≤ count is_enclosed rs * 2 ^ 1175
-      → Widened l (fin t n f) (fin s m e) q → length q ≡ 150 → AllBytes q → BoundsKept (Enclosed (fin t n f) (fin s m e) v k d) → Summed l (Enclosed (fin t n f) (fin s m e) v k d) rs q
+      → Widened l (fin t n f) (fin s m e) q → length q ≡ 150 → AllBytes q → BoundsKept (Enclosed (fin t n f) (fin s m e) v) → Summed l (Enclosed (fin t n f) (fin s m e) v) rs q
   unfolding width count
   finite-sum l rs q h g told most w long bytes b =
       let H = reading s m e w.hi_double in
@@ -145,19 +146,19 @@ module _ (s : Bool) (m : ℕ) (e : ℤ) (t : Bool) (n : ℕ) (f : ℤ) (v k d : 
 -- any answer
 summed : (f : Found) (l : List ℕ) (rs : List Found) (q : List ℕ) → length l ≡ 150 → length rs < 65535 → number l ÷ 2 ^ 1074 ≡ widths rs → number l ≤ count is_enclosed rs * 2 ^ 1175
     → SumAfter l f q → length q ≡ 150 → AllBytes q → BoundsKept f → Summed l f rs q
-summed (Nothing v k d) l rs q h g t m a long bytes b = same_sum l (Nothing v k d) rs q h t m a refl (unfold width in refl)
-summed (Spent n v k d) l rs q h g t m a long bytes b = same_sum l (Spent n v k d) rs q h t m a refl (unfold width in refl)
-summed (Refused n v k d) l rs q h g t m a long bytes b = same_sum l (Refused n v k d) rs q h t m a refl (unfold width in refl)
-summed (Enclosed lo hi v k d) l rs q h g t m a long bytes b = by (finite lo b.0) (finite hi b.1)
+summed (Nothing v) l rs q h g t m a long bytes b = same_sum l (Nothing v) rs q h t m a refl (unfold width in refl)
+summed (Spent n v) l rs q h g t m a long bytes b = same_sum l (Spent n v) rs q h t m a refl (unfold width in refl)
+summed (Refused e v) l rs q h g t m a long bytes b = same_sum l (Refused e v) rs q h t m a refl (unfold width in refl)
+summed (Enclosed lo hi v) l rs q h g t m a long bytes b = by (finite lo b.0) (finite hi b.1)
   where
     Goal : Float → Float → Type 0
-    Goal x y = Widened l x y q → BoundsKept (Enclosed x y v k d) → Summed l (Enclosed x y v k d) rs q
+    Goal x y = Widened l x y q → BoundsKept (Enclosed x y v) → Summed l (Enclosed x y v) rs q
 
-    by : Finite lo → Finite hi → Summed l (Enclosed lo hi v k d) rs q
+    by : Finite lo → Finite hi → Summed l (Enclosed lo hi v) rs q
     by L H =
         subst (λ (x : Float). Goal x hi) (sym L.is)
         (subst (λ (y : Float). Goal (fin L.sign L.digits L.power) y) (sym H.is)
-        (λ w c. finite-sum H.sign H.digits H.power L.sign L.digits L.power v k d l rs q h g t m w long bytes c))
+        (λ w c. finite-sum H.sign H.digits H.power L.sign L.digits L.power v l rs q h g t m w long bytes c))
         a b
 
 -- ---- THE LAW: one question more
@@ -200,11 +201,11 @@ kept_empty = record {
 -- ---- the bounds of an answer
 
 pub bounds_kept : (c : Call) (before after : List Float) (f : Found) → Answers c before after f → BoundsKept f
-bounds_kept c before after (Nothing v k d) A = tt
-bounds_kept c before after (Spent n v k d) A = tt
-bounds_kept c before after (Refused n v k d) A = tt
-bounds_kept c before after (Enclosed lo hi v k d) A =
-    let small = moderate.bounds c before after (Enclosed lo hi v k d) A in
+bounds_kept c before after (Nothing v) A = tt
+bounds_kept c before after (Spent n v) A = tt
+bounds_kept c before after (Refused e v) A = tt
+bounds_kept c before after (Enclosed lo hi v) A =
+    let small = moderate.bounds c before after (Enclosed lo hi v) A in
     (small.0, small.1, middle (lt (inf true) lo) (le lo hi) (lt hi (inf false)) A.order)
   where
     middle : (a b d : Bool) → T (a && b && d) → T b
@@ -214,5 +215,5 @@ bounds_kept c before after (Enclosed lo hi v k d) A =
 
 -- of one to a text
 pub text-bounds : (a : Reading) (f : Found) → AnswersReading a f → BoundsKept f
-text-bounds (refused_by n) f h = subst BoundsKept (sym h) tt
+text-bounds (refused_by n) f (r, number, h) = subst BoundsKept (sym h) tt
 text-bounds (asks rev q p) f h = bounds_kept (call_of rev q p) [] (area_after (call_of rev q p) []) f (h [])

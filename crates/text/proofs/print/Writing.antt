@@ -162,15 +162,15 @@ written_as of {l = l} {m = m} {at = at} {r = r} e w h = (subst (λ (x : Found). 
 -- an answer that is not Enclosed has no bounds
 unbounded : (f : Found) → (tag_of the_type f ≡ 0) ⊎ ((tag_of the_type f ≡ 2) ⊎ (tag_of the_type f ≡ 3))
     → (paper f).bounds ≡ none
-unbounded (Nothing v k d) h = refl
-unbounded (Enclosed lo hi v c d) h = absurd (other 1 (omega arith) (omega arith) h)
+unbounded (Nothing v) h = refl
+unbounded (Enclosed lo hi v) h = absurd (other 1 (omega arith) (omega arith) h)
   where
     other : (k : ℕ) → 0 < k → k < 2 → (k ≡ 0) ⊎ ((k ≡ 2) ⊎ (k ≡ 3)) → ⊥
     other k a b h =
         ⊎_elim (λ (e : k ≡ 0). omega arith)
         (λ (g : (k ≡ 2) ⊎ (k ≡ 3)). ⊎_elim (λ (e : k ≡ 2). omega arith) (λ (e : k ≡ 3). omega arith) g) h
-unbounded (Spent n v k d) h = refl
-unbounded (Refused n v k d) h = refl
+unbounded (Spent n v) h = refl
+unbounded (Refused e v) h = refl
 
 -- their lines
 pub dashes_written : (f : Found) {l m : List ℕ} {at r : ℕ}

@@ -1,5 +1,5 @@
 -- The numbers of a question, as they are lent to the search, and what its promises say. Leans on the contract of the search.
-use mathlib.Core.Path.{◌≡◌, refl, sym, subst}
+use mathlib.Core.Path.{◌≡◌, refl, sym, ap, ◌∙◌, subst}
 use mathlib.Core.List.{List, []}
 use Prim.Native.Nat.{ℕ}
 use lib.ListN.{length, get_or}
@@ -14,7 +14,12 @@ use Rattle.model.specs.Paper.{paper}
 use Rattle.model.specs.Promise.{Answers}
 use Rattle.math.specs.declared.scalars.Scalar.{Scalar}
 use mathlib.Core.Option.{Option, none, some}
+use Rattle.model.specs.Numbers.{refusal_of}
+use Rattle.model.specs.Subdivide.{no_counts}
+use Rattle.model.specs.declared.refusal.Refusal.{Refusal}
 use Rattle.model.specs.declared.contains.Found.{Found}
+use Rattle.model.specs.declared.contains.Found.TheVariants.{Refused}
+use Rattle.model.proofs.Numbers.{refusal-of-number}
 use Rattle.text.specs.Question.{Sizes, Reading, refused_by, asks, call_of}
 use Rattle.text.specs.Cursor.{numbers_in}
 use Rattle.text.specs.Respond.{answered_by, AnswersReading}
@@ -68,11 +73,12 @@ printable v r = by (paper r).bounds
 
 -- so the answer can be printed
 pub answer_printable : (a : Reading) (r : Found) → AnswersReading a r → Printable r
-answer_printable (refused_by n) r h = subst Printable (sym h) tt
+answer_printable (refused_by n) r (e, number, h) = subst Printable (sym h) tt
 answer_printable (asks rev s q) r h = printable (call_of rev s q).curve r (h []).within
 
 -- and it is that of the definition
 pub answer_same : (a : Reading) (r : Found) → AnswersReading a r → r ≡ answered_by a
 unfolding answered_by
-answer_same (refused_by n) r h = h
+answer_same (refused_by n) r (e, number, h) =
+    h ∙ ap (λ (x : Refusal). Refused x no_counts) (sym (refusal-of-number e) ∙ ap refusal_of number)
 answer_same (asks rev s q) r h = (h []).result

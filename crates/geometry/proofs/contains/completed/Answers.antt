@@ -14,4 +14,4 @@ pub returns-in-Some : goal.returns-in-Some
 unfolding complete
 returns-in-Some c =
     let v = c.args.v in
-    (λ i. Enclosed (c.positive_zero-lo.ensures i) (c.positive_zero-hi.ensures i) v.visited v.cuts v.depth) ∙ sym (ap (λ (f : Hat). complete (found_of f) v) c.in-Some.is)
+    (λ i. Enclosed (c.positive_zero-lo.ensures i) (c.positive_zero-hi.ensures i) v) ∙ sym (ap (λ (f : Hat). complete (found_of f) v) c.in-Some.is)

@@ -1,21 +1,19 @@
 -- `curve_could_contain` keeps its promises: a refused call gives its number and writes nothing; any other is searched in its revision.
-use mathlib.Core.Path.{sym, subst, ◌∙◌}
+use mathlib.Core.Path.{sym, subst}
 use mathlib.Core.Bool.{Bool}
 use borrow.Author.Tests.{eq-eqb, ne_eqb}
 use lib.ListN.{length}
 use Rattle.math.specs.Revision.{arithmetic}
 use Rattle.model.specs.Call.{lent}
 use Rattle.geometry.specs.Call.{Searches}
-use Rattle.model.proofs.Numbers.{some_number}
 use Rattle.geometry.proofs.contains.Lent.{refused, answered_by_lem}
 use Rattle.geometry.proofs.contains.curve_could_contain.Goals as goal
 
 pub returns-in-Err : goal.returns-in-Err
 returns-in-Err c =
-    let some = some_number _ in
     let g = c.args in
     let call = lent g.rev g.dim g.degree g.count g.knots.now g.points.now g.point_box.now g.resolution g.nodes (length g.work.now) in
-    refused call c.args.work.now _ (c.number.ensures ∙ c.in-Err.ensures) (λ z. some (sym c.number.ensures ∙ z))
+    refused call c.args.work.now _ c.in-Err.ensures
 
 pub returns-then-rev-eq2 : goal.returns-then-rev-eq2
 returns-then-rev-eq2 c =

@@ -2,11 +2,12 @@
 use Rattle.text.proofs.print.Writing.{written_as, dashes_written, five-joined}
 use Rattle.text.specs.Bytes.{bytes}
 use Rattle.text.specs.Respond.{bound_lines}
-use Prim.Native.Nat.{ℕ, ◌+◌, ◌≤◌}
+use Prim.Native.Nat.{◌+◌, ◌≤◌}
 use mathlib.Core.Logic.{◌⊎◌, inl, inr}
 use lib.Ieee.{Float}
 use denote.Enum.Declared.{tag_of}
 use Rattle.model.specs.contracts.contains.Found.{the_type}
+use Rattle.model.specs.declared.subdivide.Counts.{Counts}
 use Rattle.model.specs.declared.contains.Found.{Found}
 use Rattle.model.specs.declared.contains.Found.TheVariants.{Nothing, Enclosed, Spent, Refused}
 use Rattle.model.specs.Paper.{paper}
@@ -15,11 +16,11 @@ use native.Mathlib.Omega.{arith}
 use Rattle.text.proofs.print.put_bounds.Goals as goal
 
 -- An answer that is not Enclosed is one of the other three.
-others : (f : Found) → ((lo hi : Float) (v k d : ℕ) → f ≡ Enclosed lo hi v k d → ⊥) → (tag_of the_type f ≡ 0) ⊎ ((tag_of the_type f ≡ 2) ⊎ (tag_of the_type f ≡ 3))
-others (Nothing v k d) h = inl refl
-others (Enclosed lo hi v k d) h = absurd (h lo hi v k d refl)
-others (Spent n v k d) h = inr (inl refl)
-others (Refused n v k d) h = inr (inr refl)
+others : (f : Found) → ((lo hi : Float) (v : Counts) → f ≡ Enclosed lo hi v → ⊥) → (tag_of the_type f ≡ 0) ⊎ ((tag_of the_type f ≡ 2) ⊎ (tag_of the_type f ≡ 3))
+others (Nothing v) h = inl refl
+others (Enclosed lo hi v) h = absurd (h lo hi v refl)
+others (Spent n v) h = inr (inl refl)
+others (Refused e v) h = inr (inr refl)
 
 pub returns-in_default : goal.returns-in_default
 unfolding bytes

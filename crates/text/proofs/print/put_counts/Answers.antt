@@ -10,7 +10,7 @@ use Rattle.text.proofs.print.put_counts.Goals as goal
 pub returns : goal.returns
 unfolding bytes
 returns c =
-    let e = c.counts_of-counts.ensures in
+    let e = c.counts-counts.ensures in
     let x = c.put_count-i.ensures in
     let y = c.put_count-j.ensures in
     let u = c.put_count-k.ensures in
