@@ -139,12 +139,7 @@ NumbersRead spec s l m (Some (nodes, rest)) = NumbersAt spec s l m nodes rest.no
 abbrev pub question_in : Asked → List Float → Reading
 question_in a l = asks a.rev a.sizes (numbers_in a.sizes a.nodes l)
 
--- The text comes to a question of small sizes, whose doubles were written to the front of the memory m.
-pub record QuestionAt (r : Reading) (m : List Float) (a : Asked) : Type 0 where
-  pub says : r ≡ question_in a m
-  pub small : Small a.sizes
-
--- It was read.
+-- The text comes to a question, whose doubles were written to the front of the memory m, or it is refused.
 abbrev pub TextRead : Reading → List Float → Result Asked Refusal → Type 0
-TextRead r m (Ok a) = QuestionAt r m a
+TextRead r m (Ok a) = r ≡ question_in a m
 TextRead r m (Err e) = r ≡ refused_by (number_of e)

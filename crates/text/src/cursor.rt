@@ -1,4 +1,5 @@
 // What a text asks.
+ghost use Rattle.std.specs.Prelude.{◌≤◌};
 
 // The sizes of a curve.
 #[derive(Clone, Copy)]
@@ -8,10 +9,11 @@ pub struct Sizes {
     pub count: usize,
 }
 
-// The numbers of a question, but for its doubles.
+// The numbers of a question, but for its doubles. Its sizes are in range.
 #[derive(Clone, Copy)]
 pub struct Asked {
     pub rev: usize,
     pub sizes: Sizes,
     pub nodes: usize,
+    ghost small: { (sizes.dim ≤ 3) × (sizes.degree ≤ 7) × (sizes.count ≤ 32) },
 }

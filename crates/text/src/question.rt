@@ -126,8 +126,8 @@ fn limits<'a>(rest: &'a [u8], out: &mut [f64]) -> Option<(usize, &'a [u8])>
 }
 
 // The lines of the knots, the points and the box, written to `out` from its second place on.
-fn shape<'a>(rest: &'a [u8], s: Sizes, out: &mut [f64]) -> Option<&'a [u8]>
-    requires { Small s × (303 ≤ length out.old) }
+fn shape<'a>(rest: &'a [u8], s: Sizes, out: &mut [f64; 303]) -> Option<&'a [u8]>
+    requires { Small s }
     ensures { ShapeRead rest.now s out.old out.new result }
 {
     let k = s.count + s.degree + 1;
@@ -138,8 +138,12 @@ fn shape<'a>(rest: &'a [u8], s: Sizes, out: &mut [f64]) -> Option<&'a [u8]>
 }
 
 // All the other lines.
-pub(crate) fn numbers<'a>(rest: &'a [u8], s: Sizes, out: &mut [f64]) -> Option<(usize, &'a [u8])>
-    requires { Small s × (303 ≤ length out.old) }
+pub(crate) fn numbers<'a>(
+    rest: &'a [u8],
+    s: Sizes,
+    out: &mut [f64; 303],
+) -> Option<(usize, &'a [u8])>
+    requires { Small s }
     ensures { NumbersRead (numbers s rest.now) s out.old out.new result }
 {
     let (n, a) = limits(rest, out)?;

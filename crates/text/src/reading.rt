@@ -22,9 +22,9 @@ fn read_numbers(
     n: usize,
     rev: usize,
     s: Sizes,
-    lines: &mut [f64],
+    lines: &mut [f64; 303],
 ) -> Result<Asked, Refusal>
-    requires { Small s × (303 ≤ length lines.old) }
+    requires { Small s }
     ensures { TextRead (complete_by rev s n (numbers s rest.now)) lines.new result }
 {
     let Some((nodes, left)) = numbers(rest, s, lines) else {
@@ -44,8 +44,7 @@ fn read_numbers(
 }
 
 // What a text of n bytes in this revision comes to, of which the lines behind that of the revision are left.
-fn read_sizes(rest: &[u8], n: usize, rev: usize, lines: &mut [f64]) -> Result<Asked, Refusal>
-    requires { 303 ≤ length lines.old }
+fn read_sizes(rest: &[u8], n: usize, rev: usize, lines: &mut [f64; 303]) -> Result<Asked, Refusal>
     ensures { TextRead (read_by rev n (sizes rest.now)) lines.new result }
 {
     let Some((s, left)) = sizes(rest) else {
@@ -56,8 +55,7 @@ fn read_sizes(rest: &[u8], n: usize, rev: usize, lines: &mut [f64]) -> Result<As
 }
 
 // What a text comes to.
-pub(crate) fn read(text: &[u8], lines: &mut [f64]) -> Result<Asked, Refusal>
-    requires { 303 ≤ length lines.old }
+pub(crate) fn read(text: &[u8], lines: &mut [f64; 303]) -> Result<Asked, Refusal>
     ensures { TextRead (reading text.now) lines.new result }
 {
     let Some((rev, rest)) = revision(text) else {

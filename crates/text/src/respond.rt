@@ -23,8 +23,7 @@ fn area() -> [f64; 8192]
 
 // The answer of the search to the question whose numbers stand in `lines`: the resolution, the knots, the points, the box.
 // It keeps every promise of the search.
-fn ask_lines(asked: Asked, lines: &[f64]) -> Found
-    requires { (303 ≤ length lines.now) × Small asked.sizes }
+fn ask_lines(asked: Asked, lines: &[f64; 303]) -> Found
     ensures { AnswersReading (question_in asked lines.now) result }
 {
     let mut work = area();

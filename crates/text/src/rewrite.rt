@@ -96,8 +96,8 @@ fn put_limits(out: &mut [u8], at: usize, nodes: usize, lines: &[f64]) -> usize
 }
 
 // The lines of the knots, the points and the box, which stand in `lines` from its second place on, from `at` on.
-fn put_shape(out: &mut [u8], at: usize, s: Sizes, lines: &[f64]) -> usize
-    requires at_in_bounds { (at + 5336 ≤ length out.old) × Small s × (303 ≤ length lines.now) }
+fn put_shape(out: &mut [u8], at: usize, s: Sizes, lines: &[f64; 303]) -> usize
+    requires at_in_bounds { (at + 5336 ≤ length out.old) × Small s }
     requires all_numbers { AllNumbers (numbers_in s 0 lines.now) }
     ensures { let q = numbers_in s 0 lines.now in
         Written out.old at (shape_text s q.knots q.points q.box) out.new result × (result ≤ at + 5336) }
@@ -110,8 +110,8 @@ fn put_shape(out: &mut [u8], at: usize, s: Sizes, lines: &[f64]) -> usize
 }
 
 // The one form of the question whose doubles stand in `lines`, at the front. The result is how many bytes it has.
-fn put_form(out: &mut [u8], asked: Asked, lines: &[f64]) -> usize
-    requires in_bounds { (5496 ≤ length out.old) × Small asked.sizes × (303 ≤ length lines.now) }
+fn put_form(out: &mut [u8], asked: Asked, lines: &[f64; 303]) -> usize
+    requires in_bounds { 5496 ≤ length out.old }
     requires all_numbers { AllNumbers (numbers_in asked.sizes 0 lines.now) }
     ensures written { let s = asked.sizes in let q = numbers_in s asked.nodes lines.now in
         Written out.old 0 (form asked.rev s q) out.new result }
@@ -154,8 +154,7 @@ pub fn give(text: &[u8], out: &mut [u8]) -> Result<usize, Refusal>
 }
 
 // By what the question whose doubles stand in `lines` is refused.
-fn lines_refusal(asked: Asked, lines: &[f64]) -> Result<(), Refusal>
-    requires { (303 ≤ length lines.now) × Small asked.sizes }
+fn lines_refusal(asked: Asked, lines: &[f64; 303]) -> Result<(), Refusal>
     ensures { let s = asked.sizes in
         code_of result ≡ refusal_of asked.rev s (numbers_in s asked.nodes lines.now) }
 {
@@ -177,8 +176,7 @@ fn lines_refusal(asked: Asked, lines: &[f64]) -> Result<(), Refusal>
 }
 
 // What is given for the question whose doubles stand in `lines`.
-fn rewrite_lines(asked: Asked, lines: &[f64], out: &mut [u8]) -> Result<usize, Refusal>
-    requires { (303 ≤ length lines.now) × Small asked.sizes }
+fn rewrite_lines(asked: Asked, lines: &[f64; 303], out: &mut [u8]) -> Result<usize, Refusal>
     ensures { Rewrites (accepted_by (question_in asked lines.now)) out.old out.new result }
 {
     lines_refusal(asked, lines)?;

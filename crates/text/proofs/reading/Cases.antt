@@ -14,7 +14,7 @@ use Rattle.model.specs.declared.refusal.Refusal.{Refusal}
 use Rattle.text.specs.Bytes.{Read}
 use Rattle.text.specs.Question.{revision, Sizes, sizes, Numbers, numbers}
 use Rattle.text.specs.Question.{Reading, refused_by, asks, complete_by, opened_by, read_by, named_by, begun_by, reading}
-use Rattle.text.specs.Cursor.{Small, read_of, SmallRead, NumbersAt, NumbersRead, QuestionAt, TextRead}
+use Rattle.text.specs.Cursor.{Small, read_of, SmallRead, NumbersAt, NumbersRead, question_in, TextRead}
 use Rattle.text.specs.declared.cursor.Asked.{Asked}
 use Rattle.text.proofs.question.Words.{nothing_read, was_read}
 use Rattle.text.proofs.reading.Back.{numbers_back}
@@ -56,14 +56,11 @@ module _ (rev : ℕ) (s : Sizes) (n : ℕ) (spec : Read Numbers) (l m : List Flo
     numbers_more a b = by_tests (le-leb n 65536 a) b
 
     -- a question is asked
-    pub numbers_all : n ≤ 65536 → eqb (length left.now) 0 ≡ true → Small s
-        → QuestionAt (after spec) m (record { rev = rev; sizes = s; nodes = nodes })
-    numbers_all a b small = record {
-      says =
-          by_tests (le-leb n 65536 a) b
-          ∙ ap (asks rev s) (sym (numbers_back s seen.says l m seen.long seen.wrote nodes seen.nodes_same));
-      small = small;
-    }
+    pub numbers_all : n ≤ 65536 → eqb (length left.now) 0 ≡ true → (small : Small s)
+        → after spec ≡ question_in (record { rev = rev; sizes = s; nodes = nodes; small = small }) m
+    numbers_all a b small =
+        by_tests (le-leb n 65536 a) b
+        ∙ ap (asks rev s) (sym (numbers_back s seen.says l m seen.long seen.wrote nodes seen.nodes_same))
 
 -- ---- the three lines of the sizes, at the front of t, of a text of n bytes
 

@@ -15,5 +15,5 @@ returns-in_err-revision_refusal c =
 
 pub returns : goal.returns
 returns c =
-    revision-named _ _ c.revision.ensures _ _ c.in-Some.is _ _ c.read_sizes.result
+    revision-named _ _ c.revision.ensures _ _ c.in-Some.is _ c.read_sizes.new.lines c.read_sizes.result
     c.in_ok-revision_refusal.ensures refl c.read_sizes.ensures

@@ -26,4 +26,4 @@ pub returns : goal.returns
 returns c =
     let others : Read Numbers = numbers c.args.s c.args.rest.now in
     numbers_all c.args.rev _ _ others _ _ _ c.numbers.ensures _ _ c.in-Some.is
-    c.if-n-gt65536.false (sym c.is_empty.ensures ∙ c.if-not-is_empty.false) c.requires.0
+    c.if-n-gt65536.false (sym c.is_empty.ensures ∙ c.if-not-is_empty.false) c.requires

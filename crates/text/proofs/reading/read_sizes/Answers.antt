@@ -1,6 +1,5 @@
 -- `read_sizes` equals its definition: the three lines of the sizes are bad, or refused, or the other lines say it.
 use mathlib.Core.Path.{refl, sym}
-use native.Mathlib.Omega.{arith}
 use Rattle.model.proofs.Numbers.{some_number}
 use Rattle.model.proofs.Checks.{small-sizes}
 use Rattle.text.proofs.reading.Cases.{handed_on, head-bad, head-refused, head-asked}
@@ -21,10 +20,10 @@ returns-in_err-sizes_refusal c =
 pub read_numbers-requires : goal.read_numbers-requires
 read_numbers-requires c =
     let small = small-sizes _ _ _ (sym c.in_ok-sizes_refusal.ensures) in
-    ((small.dim, small.degree, small.count), omega arith)
+    (small.dim, small.degree, small.count)
 
 pub returns : goal.returns
 returns c =
     let a = c.args in
-    head-asked a.rev a.n a.rest.now _ c.sizes.ensures _ _ c.in-Some.is _ _
+    head-asked a.rev a.n a.rest.now _ c.sizes.ensures _ _ c.in-Some.is _ c.read_numbers.new.lines
     c.read_numbers.result c.in_ok-sizes_refusal.ensures refl c.read_numbers.ensures

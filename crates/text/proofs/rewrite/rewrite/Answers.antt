@@ -13,5 +13,5 @@ pub returns : goal.returns
 returns c =
     let g = c.args in
     let q = c.in_ok-asked.ensures in
-    let all = rewrites_asked g.text.now g.out.now _ _ _ _ c.rewrite_lines.result q.says c.rewrite_lines.ensures in
+    let all = rewrites_asked g.text.now g.out.now _ _ _ _ c.rewrite_lines.result q c.rewrite_lines.ensures in
     record { rewrites = all; within = within _ _ _ c.rewrite_lines.result all }

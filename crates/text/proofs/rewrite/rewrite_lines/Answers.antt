@@ -25,7 +25,7 @@ put_form-n-requires c =
     let a = c.args.asked in
     let q : Numbers = numbers_in a.sizes a.nodes c.args.lines.now in
     let n = all_numbers a.rev a.sizes q (sym c.in_ok-lines_refusal.ensures) in record {
-      in_bounds = (omega arith, c.requires.1, omega arith);
+      in_bounds = omega arith;
       all_numbers = record { resolution = n.resolution; knots = n.knots; points = n.points; box = n.box };
     }
 
