@@ -30,4 +30,3 @@ scalar_at-flat (x ∷ xs) (suc i) h =
     let g : suc (suc (2 * i)) + 1 ≡ suc (suc (2 * i + 1)) = omega arith in
     let r : scalar_at (flat xs) i ≡ get_or xs i absent = scalar_at-flat xs i (omega arith) in
     rw (e, g) r
-

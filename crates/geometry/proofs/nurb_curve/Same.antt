@@ -41,4 +41,3 @@ module _ (a b : Scalar) where
 
   pub repeats-yes : (r p : Bool) → eq a.lo b.lo ≡ true → eq a.hi b.hi ≡ true → r ≡ p → r ≡ (is_same a b && p)
   repeats-yes r p e f R = rw (e, f) R
-
