@@ -413,7 +413,7 @@ pub(crate) fn halves(p: Polygon<'_>, a: f64, b: f64, carried: f64, resolution: f
     if !(resolution < domain(a, b).width().lo) {
         return false;
     }
-    if carried != carried {
+    if carried.is_nan() {
         return false;
     }
     exceeds(p, max(carried, resolution))

@@ -24,6 +24,7 @@ pub(crate) fn scalar_at(l: &[f64], j: usize) -> Scalar
 
 // The control points of a piece: `count` of them, of dim + 1 intervals each, the weight's last. In `words` their numbers
 // stand one behind the other, lo and hi side by side.
+// (There may be none, where only weights are looked at: what needs a point says `1 ≤ p.count`.)
 #[derive(Clone, Copy)]
 pub(crate) struct Polygon<'a> {
     pub(crate) words: &'a [f64],

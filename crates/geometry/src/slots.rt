@@ -1,4 +1,7 @@
 // The slots of the work area: a piece of the curve in each, as specs/Slots.antt lays it out.
+// A slot is named by its base (and `Held` says that it is one), and no type of its own: of the one slice that is lent a cut
+// writes two slots, in either order, and what it promises is of the whole slice (`SplitAt`).
+// Counts stand there as doubles, by `as`: the library has no other way from the one to the other.
 ghost use Rattle.std.specs.Prelude.{◌≡◌, ◌⊎◌, [], ◌∷◌, suc, ◌+◌, ◌-◌, ◌*◌, ◌≤◌, ◌<◌, length, get_or, replicate, T};
 ghost use Rattle.std.specs.Float.{nan, binary64};
 ghost use Rattle.std.specs.Float.Ieee.{in_unsigned};

@@ -90,6 +90,7 @@ fn polygon_zeros<R: Revision>(xi: &[Scalar], d: &[Scalar]) -> Option<Scalar>
     end::<R>(l)
 }
 
+// (Beside that of the search, which keeps how far each abscissa lies from the first in an array: here they may be any number.)
 // Where the spline could be zero whose graph has the control polygon (xi i, d i), in a revision: anywhere, if the
 // slices are no polygon, or the revision is neither 1 nor 2.
 pub fn fat_line_zeros(rev: usize, xi: &[Scalar], d: &[Scalar]) -> Option<Scalar>

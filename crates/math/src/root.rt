@@ -17,6 +17,7 @@ struct Root {
     rem: u64,
 }
 
+// (m < 2^54 here and below is a bound on one number of this file, which a type would say no plainer.)
 // The whole root of m * 2^52: q, where the square of q shows that it is the one, and else one that is searched for.
 fn from_guess(m: u64, q: u64) -> Root
     requires { (m < 2 ^ 54) × (q < 2 ^ 54) }

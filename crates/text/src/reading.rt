@@ -8,7 +8,8 @@ use crate::question::{numbers, revision, sizes};
 use geometry::call::{revision_refusal, sizes_refusal};
 use model::refusal::Refusal;
 
-// Room for the numbers of a question.
+// Room for the numbers of a question. (As `area` and `blank_form`: a function for each length, since a length is computed
+// nowhere in a type, and a call keeps hundreds of zeros out of the proofs.)
 pub(crate) fn room() -> [f64; 303]
     ensures { 303 ≡ length result }
 {

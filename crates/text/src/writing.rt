@@ -1,5 +1,6 @@
 // Words and numbers, for whoever writes lines of its own. What is asked for is written where there is room for it, and else
 // nothing is: so nothing is asked of the caller.
+// (The memory and a place, and no slice of what is left: what is promised is of the whole memory, and the result is a place.)
 ghost use Rattle.std.specs.Prelude.{◌≡◌, ◌+◌, length, leb};
 ghost use Rattle.text.specs.Numerals.{last_digits, decimal};
 ghost use Rattle.text.specs.Printable.{WrittenIn};

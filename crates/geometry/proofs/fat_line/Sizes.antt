@@ -1,6 +1,6 @@
 -- Sizes of a piece, over plain values: at most three coordinates one after the other, the path from point to point, and tests that leave early.
 use mathlib.Core.Path.{◌≡◌, refl, sym, ap, ◌∙◌}
-use mathlib.Core.Bool.{Bool, true, false, cond, ◌&&◌, ◌||◌, false≢true}
+use mathlib.Core.Bool.{Bool, true, false, not, cond, ◌&&◌, ◌||◌, false≢true}
 use mathlib.Core.List.{List, [], ◌∷◌, map, zip_with}
 use Prim.Native.Nat.{ℕ, zero, suc, ◌+◌, ◌≤◌, ◌<◌}
 use native.Mathlib.Numerals.{add-one}
@@ -8,7 +8,7 @@ use native.Mathlib.Omega.{arith}
 use lib.ListN.{take, drop, drop_of_length-le}
 use lib.Seq.{drop-cons}
 use lib.Dec.{ltb}
-use lib.Ieee.{Float, nan, inf, fin, binary64, is_nan, add, sub, lt, ne, eq}
+use lib.Ieee.{Float, nan, inf, fin, binary64, is_nan, add, sub, lt}
 use lib.Ieee.Bits.{is_true}
 use Rattle.lists.specs.Lists.{tab, foldl}
 use Rattle.lists.proofs.Tab.{length-tab, tab-cons, get_or-tab, map-tab}
@@ -17,8 +17,8 @@ use Rattle.math.specs.Picks.{max_f}
 use Rattle.math.specs.Root.{sqrt_f}
 use Rattle.math.specs.Scalars.{zero_f, sharp, middle, width_s}
 use Rattle.math.specs.declared.scalars.Scalar.{Scalar}
-use Rattle.math.proofs.Bools.{yes, no}
-use Rattle.math.proofs.Laws.{le_lt, max_left, ne_nan, no_nan}
+use Rattle.math.proofs.Bools.{yes}
+use Rattle.math.proofs.Laws.{le_lt, max_left}
 use Rattle.geometry.specs.declared.fat_line.Position.{Position}
 use Rattle.model.specs.Layout.{scalar_at, scalars_of, point_at, points_of}
 use Rattle.geometry.specs.Sizes.{position_of, squared, squares_from, squares, steps}
@@ -152,23 +152,22 @@ module _ (a b c : Bool) where
 
 -- ---- what exceeds the greater of two exceeds both
 
-nan_below : (x y : Float) → ne x x ≡ true → lt x y ≡ false
-unfolding lt ne eq
+nan_below : (x y : Float) → is_nan x ≡ true → lt x y ≡ false
+unfolding lt is_nan
 nan_below nan y e = refl
-nan_below (inf true) y e = absurd (false≢true e)
-nan_below (inf false) y e = absurd (false≢true e)
-nan_below (fin s m k) y e = absurd (no (is_nan (fin s m k)) (unfold is_nan in refl) (yes _ (ne_nan (fin s m k) (unfold ne eq in e))))
+nan_below (inf s) y e = absurd (false≢true e)
+nan_below (fin s m k) y e = absurd (false≢true e)
 
 module _ (c r s : Float) (w : Bool) where
-  pub halves_nan : ne c c ≡ true → false ≡ (lt (max_f c r) s && lt c s && w)
+  pub halves_nan : is_nan c ≡ true → false ≡ (lt (max_f c r) s && lt c s && w)
   halves_nan e = middle_failed (lt (max_f c r) s) (lt c s) w (nan_below c s e)
 
-  pub halves-both : ne c c ≡ false → w ≡ true → lt (max_f c r) s ≡ (lt (max_f c r) s && lt c s && w)
+  pub halves-both : is_nan c ≡ false → w ≡ true → lt (max_f c r) s ≡ (lt (max_f c r) s && lt c s && w)
   halves-both e f = by (lt (max_f c r) s) refl
     where
       by : (b : Bool) → lt (max_f c r) s ≡ b → b ≡ (b && lt c s && w)
       by false k = refl
-      by true k = rw (is_true (lt c s) (le_lt c (max_f c r) s (max_left c r (no_nan c e)) (yes _ k)), f)
+      by true k = rw (is_true (lt c s) (le_lt c (max_f c r) s (max_left c r (yes _ (ap not e))) (yes _ k)), f)
 
 -- ---- two tests, the second made where the first failed
 pub or_yes : (a b r : Bool) → r ≡ a → r ≡ true → r ≡ (a || b)

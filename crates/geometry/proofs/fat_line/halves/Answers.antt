@@ -18,11 +18,11 @@ returns-then-not-resolution-width c =
     third_failed (lt (max_f a.carried a.resolution) s) (lt a.carried s) _
     (ap (λ (v : Scalar). lt a.resolution v.lo) (sym (c.width.ensures ∙ ap (λ (v : Scalar). sharp (width_s v)) c.domain.ensures)) ∙ c.if-not-resolution-width.true)
 
-pub returns-then-carried : goal.returns-then-carried
+pub returns-then-is_nan : goal.returns-then-is_nan
 unfolding halves
-returns-then-carried c =
+returns-then-is_nan c =
     let a = c.args in
-    halves_nan a.carried a.resolution (extent a.p.dim (points_of (suc a.p.dim) a.p.count a.p.words.now)) _ c.if-carried.true
+    halves_nan a.carried a.resolution (extent a.p.dim (points_of (suc a.p.dim) a.p.count a.p.words.now)) _ (sym c.is_nan.ensures.value ∙ c.if-is_nan.true)
 
 pub returns : goal.returns
 unfolding halves
@@ -31,5 +31,5 @@ returns c =
     let s = extent a.p.dim (points_of (suc a.p.dim) a.p.count a.p.words.now) in
     c.exceeds.ensures
     ∙ ap (λ (v : Float). lt v s) c.max.ensures
-    ∙ halves-both a.carried a.resolution s _ c.if-carried.false
+    ∙ halves-both a.carried a.resolution s _ (sym c.is_nan.ensures.value ∙ c.if-is_nan.false)
     (ap (λ (v : Scalar). lt a.resolution v.lo) (sym (c.width.ensures ∙ ap (λ (v : Scalar). sharp (width_s v)) c.domain.ensures)) ∙ c.if-not-resolution-width.false)
