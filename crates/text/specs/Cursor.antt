@@ -27,7 +27,7 @@ abbrev pub word_of : Option (Bor (List ℕ)) → Read (Unit {0})
 word_of None = bad
 word_of (Some rest) = got tt rest.now
 
--- A small number was read. It has at most nine digits.
+-- A small number was read, which has at most nine digits, or there is none.
 abbrev pub SmallRead : Read ℕ → Option (ℕ × Bor (List ℕ)) → Type 0
 SmallRead spec None = spec ≡ bad
 SmallRead spec (Some (n, rest)) = (n ≤ 999999999) × (spec ≡ got n rest.now)
@@ -45,7 +45,7 @@ pub record ValuesAt (spec : Read (List Float)) (n to : ℕ) (l m : List Float) (
   pub long : length xs ≡ n
   pub wrote : m ≡ put l to xs
 
--- So they were, or they are not there.
+-- They were read and written, or they are not there.
 abbrev pub ValuesRead : Read (List Float) → ℕ → ℕ → List Float → List Float → Option (Bor (List ℕ)) → Type 0
 ValuesRead spec n to l m None = spec ≡ bad
 ValuesRead spec n to l m (Some rest) = ValuesAt spec n to l m rest.now
@@ -65,7 +65,7 @@ pub record LimitsAt (t : List ℕ) (l m : List Float) (nodes : ℕ) (rest : List
   pub resolution_read : line (bytes "resolution=") 1 behind_nodes ≡ got (resolution ∷ []) rest
   pub wrote : m ≡ put l 0 (resolution ∷ [])
 
--- So they were, or they are not there.
+-- Both lines were read, or they are not there.
 abbrev pub LimitsRead : List ℕ → List Float → List Float → Option (ℕ × Bor (List ℕ)) → Type 0
 LimitsRead t l m None = limits t ≡ bad
 LimitsRead t l m (Some (nodes, rest)) = LimitsAt t l m nodes rest.now
@@ -97,7 +97,7 @@ pub record ShapeAt (t : List ℕ) (s : Sizes) (l m : List Float) (rest : List �
   pub long : Long s knots points box
   pub wrote : m ≡ put l 1 (knots ++ points ++ box)
 
--- So they were, or they are not there.
+-- The three lines were read, or they are not there.
 abbrev pub ShapeRead : List ℕ → Sizes → List Float → List Float → Option (Bor (List ℕ)) → Type 0
 ShapeRead t s l m None = shape s t ≡ bad
 ShapeRead t s l m (Some rest) = ShapeAt t s l m rest.now
@@ -128,7 +128,7 @@ pub record NumbersAt (spec : Read Numbers) (s : Sizes) (l m : List Float) (nodes
   pub long : Long s says.knots says.points says.box
   pub wrote : m ≡ put l 0 (laid says)
 
--- So they were, or they are not there.
+-- All of them were read, or they are not there.
 abbrev pub NumbersRead : Read Numbers → Sizes → List Float → List Float → Option (ℕ × Bor (List ℕ)) → Type 0
 NumbersRead spec s l m None = spec ≡ bad
 NumbersRead spec s l m (Some (nodes, rest)) = NumbersAt spec s l m nodes rest.now
