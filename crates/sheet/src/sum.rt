@@ -70,7 +70,7 @@ pub(crate) fn add_double(sum: [u8; 150], x: f64) -> [u8; 150]
     requires { T (is_number x) }
     ensures { More sum (to_bits binary64 x) result × T (fits binary64 x) }
 {
-    let b = f64::to_bits(x);
+    let b = x.to_bits();
     if b < 0x8000_0000_0000_0000 {
         return add_size(sum, b);
     }
@@ -82,7 +82,7 @@ pub(crate) fn take_double(sum: [u8; 150], x: f64) -> [u8; 150]
     requires { T (is_number x) }
     ensures { Fewer sum (to_bits binary64 x) result × T (fits binary64 x) }
 {
-    let b = f64::to_bits(x);
+    let b = x.to_bits();
     if b < 0x8000_0000_0000_0000 {
         return take_size(sum, b);
     }

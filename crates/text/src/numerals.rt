@@ -14,7 +14,7 @@ fn leading(s: &[u8]) -> usize
     s.iter().take_while(|b| b.is_ascii_digit()).count()
 }
 
-// How many digits the text begins with: these are digits.
+// How many digits the text begins with: these are digits. (Beside `leading`, whose promise the check finds by itself.)
 fn digits(rest: &[u8]) -> usize
     ensures { let t = rest.now in
         (result ≡ digits t) × (result ≤ length t) × (all is_digit (take result t) ≡ true) }

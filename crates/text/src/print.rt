@@ -68,7 +68,7 @@ pub(crate) fn put_double(out: &mut [u8], at: usize, x: f64) -> usize
     requires { (at + 16 ≤ length out.old) × T (is_number x) }
     ensures { Written out.old at (hexadecimal x) out.new result × (result ≡ at + 16) }
 {
-    put_digits(out, at, 16, 16, f64::to_bits(x))
+    put_digits(out, at, 16, 16, x.to_bits())
 }
 
 // ---- lines
