@@ -24,6 +24,7 @@ fn add_at(sum: [u8; 150], at: usize, x: u64) -> [u8; 150]
 
 // x, taken away from the bytes from number `at` on. What is missing is borrowed from behind the last byte.
 // It stays beside `add_at`: one loop for both would look at each byte whether it carries or borrows.
+// So add_size and take_size, add_double and take_double are pairs as well, over the one and over the other.
 fn take_at(sum: [u8; 150], at: usize, x: u64) -> [u8; 150]
     ensures { Taken sum at x result }
 {
