@@ -181,11 +181,13 @@ module _ (ar : Arithmetic) where
       by (suc m) (inr (inr h)) e = inr (inl (sym (sym (numbered (suc m) (inr h)) ∙ one_number e) ∙ h))
 
   -- of one that is refused
-  refused_number : (c : Call) → (refusal c ≡ 0 → ⊥) → (e : Refusal) × (number_of e ≡ refusal c) × (searched ar c ≡ Refused e no_counts)
+  refused_number : (c : Call) → (refusal c ≡ 0 → ⊥)
+      → (e : Refusal) × (number_of e ≡ refusal c) × (searched ar c ≡ Refused e no_counts)
   unfolding searched searched_by
   refused_number c some = by (refusal c) (call_number c) some
     where
-      by : (m : ℕ) → (m ≡ 0) ⊎ (OfQuestion m ⊎ (m ≡ 10)) → (m ≡ 0 → ⊥) → (e : Refusal) × (number_of e ≡ m) × (searched_by ar c m ≡ Refused e no_counts)
+      by : (m : ℕ) → (m ≡ 0) ⊎ (OfQuestion m ⊎ (m ≡ 10)) → (m ≡ 0 → ⊥)
+          → (e : Refusal) × (number_of e ≡ m) × (searched_by ar c m ≡ Refused e no_counts)
       by zero h k = absurd (k refl)
       by (suc m) (inl h) k = absurd (k h)
       by (suc m) (inr h) k = (refusal_of (suc m), numbered (suc m) h, refl)

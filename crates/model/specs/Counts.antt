@@ -16,7 +16,8 @@ pub record DepthWithin (v d : ℕ) : Type 0 where
   pub most : d ≤ v
   pub below : 0 < v → d < v
 
--- The counts of a search of so many nodes: there are no more visits than nodes, and at most two cuts a visit; so none where nothing was visited.
+-- The counts of a search of so many nodes: there are no more visits than nodes, and at most two cuts a visit; so none
+-- where nothing was visited.
 pub record CountsWithin (nodes : ℕ) (v : Counts) : Type 0 where
   pub visits : v.visited ≤ nodes
   pub cuts : v.cuts ≤ 2 * v.visited

@@ -25,12 +25,16 @@ pub record Paper : Type 0 where
   -- lo and hi, which are `-` unless enclosed
   pub bounds : Option Scalar
 
+-- An answer with these counts.
+abbrev pub on_paper : Result → Counts → ℕ → Option Scalar → Paper
+on_paper r v n b = record { result = r; visited = v.visited; cuts = v.cuts; depth = v.depth; pending = n; bounds = b }
+
 -- The answer of a search.
 abbrev pub paper : Found → Paper
-paper (Nothing v) = record { result = None-found; visited = v.visited; cuts = v.cuts; depth = v.depth; pending = 0; bounds = none }
-paper (Enclosed lo hi v) = record { result = enclosed; visited = v.visited; cuts = v.cuts; depth = v.depth; pending = 0; bounds = some (record { lo = lo; hi = hi }) }
-paper (Spent n v) = record { result = spent; visited = v.visited; cuts = v.cuts; depth = v.depth; pending = n; bounds = none }
-paper (Refused e v) = record { result = refused (number_of e); visited = v.visited; cuts = v.cuts; depth = v.depth; pending = 0; bounds = none }
+paper (Nothing v) = on_paper None-found v 0 none
+paper (Enclosed lo hi v) = on_paper enclosed v 0 (some (record { lo = lo; hi = hi }))
+paper (Spent n v) = on_paper spent v n none
+paper (Refused e v) = on_paper (refused (number_of e)) v 0 none
 
 -- What the search counted, of an answer.
 abbrev pub counts_of : Paper → Counts

@@ -50,7 +50,8 @@ pub record AnyRefusals (ar : Arithmetic) : Type 0 where
   -- No other number comes than 16, 1 to 9, 10 and 11.
   pub any : (c : Call) (n : ℕ) → (paper (searched ar c)).result ≡ refused n → OfQuestion n ⊎ ((n ≡ 10) ⊎ (n ≡ 11))
   -- A call that a number refuses has the refusal of that number for an answer, with nothing counted.
-  pub number : (c : Call) → (refusal c ≡ 0 → ⊥) → (e : Refusal) × (number_of e ≡ refusal c) × (searched ar c ≡ Refused e no_counts)
+  pub number : (c : Call) → (refusal c ≡ 0 → ⊥)
+      → (e : Refusal) × (number_of e ≡ refusal c) × (searched ar c ≡ Refused e no_counts)
 
 -- An area that is long enough in space, for this degree, count and nodes, is so for every call with no more of them, whatever its dim is.
 pub record Rooms : Type 0 where

@@ -56,20 +56,20 @@ fn is_none(f: Found) -> bool
 fn is_enclosed(f: Found) -> bool
     ensures { result ≡ is_enclosed f }
 {
-    matches!(f, Found::Enclosed(_, _, _))
+    matches!(f, Found::Enclosed(..))
 }
 
 fn is_spent(f: Found) -> bool
     ensures { result ≡ is_spent f }
 {
-    matches!(f, Found::Spent(_, _))
+    matches!(f, Found::Spent(..))
 }
 
 // Refused by whatever number.
 fn is_refused(f: Found) -> bool
     ensures { result ≡ is_refused f }
 {
-    matches!(f, Found::Refused(_, _))
+    matches!(f, Found::Refused(..))
 }
 
 // Refused by 12.

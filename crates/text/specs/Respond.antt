@@ -63,8 +63,9 @@ printed_in n f = cond (leb 192 n && is_printable f) (printed (paper f)) []
 
 -- ---- what the answer keeps
 
--- The answer r to what was read keeps its promises: a refusal is the one of that number, with nothing counted, and the answer to a question keeps every promise of
--- the search, in the words of `Answers`. The work area is the program's own and nobody sees it: so they hold whatever it held.
+-- The answer r to what was read keeps its promises: a refusal is the one of that number, with nothing counted; and the
+-- answer to a question keeps every promise of the search, in the words of `Answers`. The work area is the program's own
+-- and nobody sees it: so they hold whatever it held.
 abbrev pub AnswersReading : Reading → Found → Type 0
 AnswersReading (refused_by n) r = (e : Refusal) × (number_of e ≡ n) × (r ≡ Refused e no_counts)
 AnswersReading (asks rev s q) r = let c = call_of rev s q in (before : List Float) → Answers c before (area_after c before) r

@@ -81,8 +81,8 @@ fn put_result(out: &mut [u8], at: usize, f: Found) -> usize
 {
     match f {
         Found::Nothing(_) => { put_word(out, at, b"none") }
-        Found::Enclosed(_, _, _) => { put_word(out, at, b"enclosed") }
-        Found::Spent(_, _) => { put_word(out, at, b"spent") }
+        Found::Enclosed(..) => { put_word(out, at, b"enclosed") }
+        Found::Spent(..) => { put_word(out, at, b"spent") }
         Found::Refused(refused, _) => {
             let i = put_word(out, at, b"refused-");
             put_decimal(out, i, refused.number())
@@ -96,7 +96,7 @@ fn pending_of(f: Found) -> u64
 {
     match f {
         Found::Spent(n, _) => n as u64,
-        Found::Nothing(_) | Found::Enclosed(_, _, _) | Found::Refused(_, _) => 0,
+        Found::Nothing(_) | Found::Enclosed(..) | Found::Refused(..) => 0,
     }
 }
 
