@@ -77,7 +77,8 @@ fn end<R: Revision>(l: Line) -> Option<Scalar>
     }
 }
 
-// The zeros of a polygon.
+// The zeros of a polygon, of any number of points. (The search has its own: for all axes it takes once, in an array of 32,
+// how far each abscissa lies from the first.)
 fn polygon_zeros<R: Revision>(xi: &[Scalar], d: &[Scalar]) -> Option<Scalar>
     requires { paired (length xi.now) (length d.now) ≡ true }
     ensures { result ≡ fat_line_zeros (arithmetic R.second) xi.now d.now }
@@ -90,7 +91,6 @@ fn polygon_zeros<R: Revision>(xi: &[Scalar], d: &[Scalar]) -> Option<Scalar>
     end::<R>(l)
 }
 
-// (Beside that of the search, which keeps how far each abscissa lies from the first in an array: here they may be any number.)
 // Where the spline could be zero whose graph has the control polygon (xi i, d i), in a revision: anywhere, if the
 // slices are no polygon, or the revision is neither 1 nor 2.
 pub fn fat_line_zeros(rev: usize, xi: &[Scalar], d: &[Scalar]) -> Option<Scalar>
