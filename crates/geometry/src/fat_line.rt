@@ -279,7 +279,7 @@ pub(crate) fn exceeds(p: Polygon<'_>, limit: f64) -> bool
     let next = next_up(limit);
     let s = steps(p);
     if next * next < s.top {
-        if s.total == s.total {
+        if !s.total.is_nan() {
             return true;
         }
     }

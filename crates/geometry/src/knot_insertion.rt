@@ -304,7 +304,7 @@ fn missing_in(work: &[f64], base: usize, s: Shape, t: f64) -> usize
 {
     let m = multiplicity_of(knots_in(work, base, s), t);
     let full = s.degree + 1;
-    if m < full { full - m } else { 0 }
+    full.saturating_sub(m)
 }
 
 // The number of the first knot of the slot at base that is t.
