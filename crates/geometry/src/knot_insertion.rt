@@ -82,12 +82,7 @@ pub(crate) fn position_of(knots: &[f64], t: f64) -> usize
 pub(crate) fn all_are(knots: &[f64], v: f64) -> bool
     ensures { result ≡ all (λ u. eq u v) knots.now }
 {
-    for &u in knots {
-        if !(u == v) {
-            return false;
-        }
-    }
-    true
+    knots.iter().all(|u| *u == v)
 }
 
 // degree + 1 points, and only two values among the knots, degree + 1 times each.
