@@ -59,17 +59,14 @@ pub(crate) fn alpha_at<R: Revision>(knots: &[f64], degree: usize, t: f64, i: usi
 pub(crate) fn multiplicity_of(knots: &[f64], t: f64) -> usize
     ensures { result ≡ multiplicity t knots.now }
 {
-    let mut n = 0;
-    for &u in knots {
-        n += usize::from(u == t);
-    }
-    n
+    knots.iter().filter(|u| **u == t).count()
 }
 
 // The number of the first knot that is t, or the number of the knots where none is.
 pub(crate) fn position_of(knots: &[f64], t: f64) -> usize
     ensures { result ≡ position (λ u. eq u t) knots.now }
 {
+    // by hand: `search` does not close the promise of `position` here
     for i in 0..knots.len() {
         if knots[i] == t {
             return i;
