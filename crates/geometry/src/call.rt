@@ -1,7 +1,7 @@
 // What a call may lend: the check 16 of request E8 and 1 to 10 of the scope, each equal to its definition. 16 looks at
 // the revision, 1 to 3 at the sizes, 1 to 8 at a curve, 9 and 10 at the nodes and the work area.
 ghost use Rattle.std.specs.Prelude.{◌≡◌, suc, ◌+◌, ◌*◌, ◌≤◌, ◌<◌, length, leb, eqb, true, ◌&&◌, ◌||◌};
-ghost use Rattle.std.specs.Float.Ieee.{lt, eq};
+ghost use Rattle.std.specs.Float.Ieee.{eq};
 ghost use Rattle.lists.specs.Lists.{all};
 ghost use Rattle.math.specs.Scalars.{zero_f};
 ghost use Rattle.model.specs.Layout.{points_of, scalars_of, slot_words};
@@ -13,7 +13,7 @@ ghost use Rattle.model.specs.Numbers.{code_of};
 ghost use Rattle.geometry.specs.Call.{curve_in, call_in, QuestionRefused};
 ghost use Rattle.geometry.specs.Multiplicity.{repeats_at, multiplicity_ok_at};
 
-use crate::nurb_curve::Polygon;
+use crate::nurb_curve::{Polygon, in_domain};
 use model::refusal::Refusal;
 
 // A number, and at most 2^100 in size.
@@ -53,13 +53,6 @@ fn is_end(a: f64, b: f64, u: f64) -> bool
     u == a || u == b
 }
 
-// The knot u lies strictly inside the domain from a to b.
-fn is_inner(a: f64, b: f64, u: f64) -> bool
-    ensures { result ≡ (lt a u && lt u b) }
-{
-    a < u && u < b
-}
-
 // Knot number i is followed by an equal one, k places on.
 fn repeats_at(knots: &[f64], i: usize, k: usize) -> bool
     requires { (i < length knots.now) × (k ≤ 8) }
@@ -77,7 +70,7 @@ fn multiplicity_ok(degree: usize, a: f64, b: f64, knots: &[f64], i: usize) -> bo
     if is_end(a, b, u) {
         return !repeats_at(knots, i, degree + 1);
     }
-    if is_inner(a, b, u) {
+    if in_domain(a, b, u) {
         return !repeats_at(knots, i, degree.max(1));
     }
     true

@@ -279,7 +279,7 @@ pub(crate) fn exceeds(p: Polygon<'_>, limit: f64) -> bool
     let next = next_up(limit);
     let s = steps(p);
     if next * next < s.top {
-        if s.total == s.total {
+        if !s.total.is_nan() {
             return true;
         }
     }
@@ -343,6 +343,7 @@ pub(crate) fn carried(p: Polygon<'_>, point_box: &[f64]) -> f64
 }
 
 // ---- restriction and stalled, on a domain from a to b
+// (The search calls `restricts` and `halves`; these two stay under the Rust's names, since oracle/kernels compares them.)
 
 // The hat is definitely below four fifths of the domain.
 fn narrow<R: Revision>(a: f64, b: f64, hat: Scalar) -> bool

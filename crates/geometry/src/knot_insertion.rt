@@ -59,17 +59,14 @@ pub(crate) fn alpha_at<R: Revision>(knots: &[f64], degree: usize, t: f64, i: usi
 pub(crate) fn multiplicity_of(knots: &[f64], t: f64) -> usize
     ensures { result ≡ multiplicity t knots.now }
 {
-    let mut n = 0;
-    for &u in knots {
-        n += usize::from(u == t);
-    }
-    n
+    knots.iter().filter(|u| **u == t).count()
 }
 
 // The number of the first knot that is t, or the number of the knots where none is.
 pub(crate) fn position_of(knots: &[f64], t: f64) -> usize
     ensures { result ≡ position (λ u. eq u t) knots.now }
 {
+    // by hand: `search` does not close the promise of `position` here
     for i in 0..knots.len() {
         if knots[i] == t {
             return i;
@@ -82,12 +79,7 @@ pub(crate) fn position_of(knots: &[f64], t: f64) -> usize
 pub(crate) fn all_are(knots: &[f64], v: f64) -> bool
     ensures { result ≡ all (λ u. eq u v) knots.now }
 {
-    for &u in knots {
-        if !(u == v) {
-            return false;
-        }
-    }
-    true
+    knots.iter().all(|u| *u == v)
 }
 
 // degree + 1 points, and only two values among the knots, degree + 1 times each.
@@ -304,7 +296,7 @@ fn missing_in(work: &[f64], base: usize, s: Shape, t: f64) -> usize
 {
     let m = multiplicity_of(knots_in(work, base, s), t);
     let full = s.degree + 1;
-    if m < full { full - m } else { 0 }
+    full.saturating_sub(m)
 }
 
 // The number of the first knot of the slot at base that is t.

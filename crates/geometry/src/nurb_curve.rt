@@ -8,6 +8,7 @@ ghost use Rattle.model.specs.Vector.{coordinate};
 ghost use Rattle.model.specs.Layout.{scalar_at};
 ghost use Rattle.model.specs.NurbCurve.{domain, in_domain, mid_parameter, weights_positive};
 
+use crate::vector::scalar_from;
 use math::revision::Revision;
 use math::scalars::Scalar;
 
@@ -16,10 +17,7 @@ pub(crate) fn scalar_at(l: &[f64], j: usize) -> Scalar
     requires { 2 * j + 2 ≤ length l.now }
     ensures { result ≡ scalar_at l.now j }
 {
-    Scalar {
-        lo: l[2 * j],
-        hi: l[2 * j + 1],
-    }
+    scalar_from(l, 2 * j)
 }
 
 // The control points of a piece: `count` of them, of dim + 1 intervals each, the weight's last. In `words` their numbers
@@ -57,12 +55,7 @@ impl Polygon<'_> {
         ensures { let p = self.entry in
             result ≡ weights_positive p.dim (vectors p) }
     {
-        for i in 0..self.count {
-            if !(0.0 < self.weight(i).lo) {
-                return false;
-            }
-        }
-        true
+        (0..self.count).all(|i| 0.0 < self.weight(i).lo)
     }
 }
 

@@ -40,8 +40,10 @@ impl Bounds {
     fn whole() -> Bounds
         ensures { result ≡ whole_b }
     {
-        let inf = f64::from_bits(0x7ff0_0000_0000_0000);
-        Bounds { lo: -inf, hi: inf }
+        Bounds {
+            lo: f64::NEG_INFINITY,
+            hi: f64::INFINITY,
+        }
     }
 
     // The least and the greatest of the four products of the bounds of x and y.
@@ -52,9 +54,8 @@ impl Bounds {
         let b = x.lo * y.hi;
         let c = x.hi * y.lo;
         let d = x.hi * y.hi;
-        let inf = f64::from_bits(0x7ff0_0000_0000_0000);
-        let lo = lesser(lesser(lesser(lesser(inf, a), b), c), d);
-        let hi = greater(greater(greater(greater(-inf, a), b), c), d);
+        let lo = lesser(lesser(lesser(lesser(f64::INFINITY, a), b), c), d);
+        let hi = greater(greater(greater(greater(f64::NEG_INFINITY, a), b), c), d);
         Bounds { lo, hi }
     }
 

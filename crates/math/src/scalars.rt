@@ -32,8 +32,10 @@ impl Scalar {
     pub fn entire() -> Scalar
         ensures { result ≡ ENTIRE }
     {
-        let inf = f64::from_bits(0x7ff0_0000_0000_0000);
-        Scalar { lo: -inf, hi: inf }
+        Scalar {
+            lo: f64::NEG_INFINITY,
+            hi: f64::INFINITY,
+        }
     }
 
     // The interval of one value.
@@ -50,7 +52,7 @@ impl Scalar {
         if den == 0 {
             return None;
         }
-        let exact = (num as f64) / (den as f64);
+        let exact = f64::from(num) / f64::from(den);
         Some(Scalar {
             lo: next_down(exact),
             hi: next_up(exact),
@@ -181,7 +183,7 @@ impl Scalar {
     fn is_factor(self) -> bool
         ensures { result ≡ is_factor self }
     {
-        self.lo > 0.0 && self.lo <= self.hi && self.hi < f64::from_bits(0x7ff0_0000_0000_0000)
+        self.lo > 0.0 && self.lo <= self.hi && self.hi < f64::INFINITY
     }
 
     // Its bounds are in order, and no NaN.

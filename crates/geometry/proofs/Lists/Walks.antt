@@ -1,14 +1,15 @@
 -- A walk over a list that leaves at the first element that fails a test. Assumes nothing.
 use mathlib.Core.Path.{◌≡◌, refl, sym, ap, ap₂, ◌∙◌, subst}
-use mathlib.Core.Bool.{Bool, true, false, ◌&&◌, true≢false}
+use mathlib.Core.Bool.{Bool, true, false, cond, ◌&&◌, true≢false}
 use mathlib.Core.List.{List, [], ◌∷◌}
 use Prim.Native.Nat.{ℕ, suc, ◌+◌, ◌≤◌, ◌<◌}
 use native.Mathlib.Omega.{arith}
 use lib.ListN.{length, drop, get_or}
 use Rattle.std.specs.Bool.{MatchBool}
-use Rattle.std.specs.List.{range_with_len, AllWithin, HoldsAt}
+use Rattle.std.specs.List.{range_with_len, count_by, AllWithin, HoldsAt}
 use Rattle.std.proofs.lemmas.List.FromFn.{length-range_with_len, get_or-range_with_len}
-use Rattle.lists.specs.Lists.{all, tab}
+use Rattle.std.proofs.lemmas.List.Recursion.{is_count_by}
+use Rattle.lists.specs.Lists.{all, count, tab}
 use Rattle.lists.proofs.Fold.{all_turn, all_done, all_get_or}
 use Rattle.lists.proofs.Tab.{length-tab, get_or-tab}
 
@@ -84,3 +85,19 @@ module _ (q : ℕ → Bool) (n : ℕ) where
   some_below false m e =
       let h : m.0 < n = omega (arith, m.1, length-range_with_len 0 n) in
       (m.0, h, subst (λ (i : ℕ). q i ≡ false) (is_own m.0 h) (m.2 0))
+
+-- ---- a count, as the library spells it
+module _ {A : Type 0} (p : A → Bool) where
+  pub count_is : (l : List A) → count_by p l ≡ count p l
+  unfolding count
+  count_is l = sym (is_count_by (count p) p none one l)
+    where
+      none : count p [] ≡ 0
+      none = refl
+
+      by : (b : Bool) (n : ℕ) → cond b 1 0 + n ≡ cond b (1 + n) n
+      by true n = refl
+      by false n = omega arith
+
+      one : (x : A) (xs : List A) → count p (x ∷ xs) ≡ cond (p x) (1 + count p xs) (count p xs)
+      one x xs = by (p x) (count p xs)

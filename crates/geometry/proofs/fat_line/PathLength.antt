@@ -1,12 +1,12 @@
 -- That a path is longer than some limit shows in the squares of its steps, with no root taken: where no square is a NaN and one of them exceeds the square of the double above
 -- the limit, the sum of the roots exceeds the limit. Sums and roots of doubles that are not negative are not negative, and a sum is at least each of its parts.
 use mathlib.Core.Path.{◌≡◌, refl, sym, ap, ◌∙◌, subst}
-use mathlib.Core.Bool.{true, false≢true}
+use mathlib.Core.Bool.{true, false, not}
 use mathlib.Core.List.{List, [], ◌∷◌, map, zip_with}
 use Prim.Native.Nat.{ℕ, zero, suc, ◌≤◌}
 use native.Mathlib.Omega.{arith}
 use lib.Dec.{T}
-use lib.Ieee.{Float, nan, inf, fin, binary64, fits, is_nan, add, sub, mul, lt, le, eq}
+use lib.Ieee.{Float, binary64, fits, is_nan, add, sub, mul, lt, le}
 use lib.Ieee.Fits.{add-fits, mul-fits}
 use lib.Ieee.Bits.{is_true}
 use Rattle.lists.specs.Lists.{tab, foldl}
@@ -121,15 +121,8 @@ pub squares-tab : (n : ℕ) (f : ℕ → List Float) → squares (tab (suc n) f)
 unfolding squares
 squares-tab n f = rw (tab-cons n f) (between-squares n f)
 
--- a double that equals itself is a number
-same_number : (x : Float) → eq x x ≡ true → T (number x)
-unfolding eq is_nan
-same_number nan e = absurd (false≢true e)
-same_number (inf s) e = tt
-same_number (fin s m e) h = tt
-
 pub exceeds-yes : (dim n : ℕ) (points : List Vector) (f : ℕ → List Float) (l t : Float) (s : Squares) → 1 ≤ n → map (λ q. cartesian dim q) points ≡ tab n f → T (fits binary64 l)
-    → t ≡ next_up l → s ≡ steps dim points → lt (mul binary64 t t) s.top ≡ true → eq s.total s.total ≡ true → true ≡ lt l (extent dim points)
+    → t ≡ next_up l → s ≡ steps dim points → lt (mul binary64 t t) s.top ≡ true → is_nan s.total ≡ false → true ≡ lt l (extent dim points)
 unfolding steps extent
 exceeds-yes dim zero points f l t s h m L p e a b = absurd (omega arith)
 exceeds-yes dim (suc n) points f l t s h m L p e a b =
@@ -140,6 +133,6 @@ exceeds-yes dim (suc n) points f l t s h m L p e a b =
     let g : path_length (map (λ q. cartesian dim q) points) ≡ y = path_roots (map (λ q. cartesian dim q) points) ∙ ap (foldl with_root zero_f) w in
     let o : s.total ≡ total_of q good n = ap (λ (z : Squares). z.total) e ∙ ap (foldl (λ s x. add binary64 s x) zero_f) w in
     let u : s.top ≡ top_of q good n = ap (λ (z : Squares). z.top) e ∙ ap (foldl max_f zero_f) w in
-    let k : T (lt l y) = path-over q good l L n (subst (λ (x : Float). T (number x)) o (same_number s.total b))
+    let k : T (lt l y) = path-over q good l L n (subst (λ (x : Float). T (number x)) o (yes _ (ap not b)))
     (subst (λ (x : Float). T (lt (mul binary64 x x) (top_of q good n))) p (subst (λ (x : Float). T (lt (mul binary64 t t) x)) u (yes _ a))) in
     rw g (sym (is_true (lt l (max_f zero_f y)) (lt_le l y (max_f zero_f y) k (max_second zero_f y (le_number_r l y (lt→le_f l y k))))))

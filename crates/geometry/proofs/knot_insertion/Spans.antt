@@ -11,7 +11,6 @@ use lib.ListN.{length, take, drop, get_or, length-drop}
 use lib.Seq.{take_all}
 use lib.Ieee.{Float, nan, eq}
 use Rattle.lists.specs.Lists.{all}
-use Rattle.lists.proofs.Fold.{all_turn}
 use Rattle.math.specs.declared.scalars.Scalar.{Scalar}
 use Rattle.math.specs.Divided.{Divided}
 use Rattle.math.specs.Scalars.{Arithmetic, sharp, ZERO, ONE, value_or}
@@ -61,17 +60,6 @@ module _ (ar : Arithmetic) (p : ℕ) (ks : List Float) (t : Float) (i : ℕ) whe
       let v : y ≡ ar.sub (sharp (knot ks (i + p))) (sharp (knot ks i)) = ey ∙ (λ j. ar.sub (eb j) (ea j)) in
       let q : r ≡ ar.div (ar.sub (sharp t) (sharp (knot ks i))) (ar.sub (sharp (knot ks (i + p))) (sharp (knot ks i))) = er ∙ (λ j. ar.div (u j) (v j)) in
       ap (λ (d : Divided). value_or d ONE) q ∙ pick_no _ _ _ f ∙ pick_no _ _ _ e
-
--- ---- walks over the knots
-
-module _ (ks : List Float) (t : Float) (i : ℕ) where
-  -- a knot that is not t
-  pub all_off : i < length ks → not (eq (get_or ks i nan) t) ≡ true → false ≡ all (λ u. eq u t) (drop i ks)
-  all_off h e = rw (all_turn (λ u. eq u t) ks i nan h, not-true (eq (get_or ks i nan) t) e)
-
-  -- one that is
-  pub all_on : i < length ks → not (eq (get_or ks i nan) t) ≡ false → all (λ u. eq u t) (drop (i + 1) ks) ≡ all (λ u. eq u t) (drop i ks)
-  all_on h e = rw (all_turn (λ u. eq u t) ks i nan h, not-false (eq (get_or ks i nan) t) e)
 
 -- ---- a Bezier span
 

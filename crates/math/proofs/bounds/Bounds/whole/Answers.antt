@@ -1,12 +1,8 @@
--- `whole` equals its definition: the pattern in the code is the infinity's.
+-- `whole` equals its definition: the patterns of the two constants are the infinities'.
 use mathlib.Core.Path.{refl}
-use lib.Ieee.{nan_bits, of_bits, neg}
+use lib.Ieee.{of_bits}
 use Rattle.math.proofs.bounds.Bounds.whole.Goals as goal
 
-pub float_from_bits-inf : goal.float_from_bits-inf
-unfolding nan_bits
-float_from_bits-inf c = tt
-
 pub returns : goal.returns
-unfolding of_bits neg
+unfolding of_bits
 returns c = refl

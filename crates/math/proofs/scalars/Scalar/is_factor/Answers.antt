@@ -1,15 +1,11 @@
 -- `is_factor` equals its definition: of each two tests the second where the first passed, and else the first.
 use mathlib.Core.Path.{◌≡◌, sym, ◌∙◌}
 use mathlib.Core.Bool.{◌&&◌}
-use lib.Ieee.{lt, le, of_bits, nan_bits}
+use lib.Ieee.{lt, le, of_bits}
 use Rattle.math.specs.Scalars.{zero_f}
 use Rattle.math.proofs.Bools.{and_yes, and_no}
 use Rattle.math.proofs.scalars.Scalar.is_factor.Goals as goal
 use Rattle.math.proofs.scalars.Scalar.is_factor.Goals.{then-self, else-self}
-
-pub float_from_bits-result : goal.float_from_bits-result
-unfolding nan_bits
-float_from_bits-result c = tt
 
 pub returns-then-self-2 : goal.returns-then-self-2
 unfolding of_bits
