@@ -13,7 +13,7 @@ ghost use Rattle.text.specs.Form.{refusal_of, accepted_by, accepted, count_for, 
 use crate::cursor::{Asked, Sizes};
 use crate::print::{put_count, put_double, put_word};
 use crate::question::behind;
-use crate::reading::{read, room};
+use crate::reading::{read, zeros};
 use geometry::call::question_refusal;
 use geometry::contains::positive_zero;
 use model::refusal::Refusal;
@@ -197,7 +197,7 @@ pub fn rewrite(text: &[u8], out: &mut [u8]) -> Result<usize, Refusal>
     ensures rewrites { Rewrites (accepted text.now) out.old out.new result }
     ensures within { Within result out.new }
 {
-    let mut lines = room();
+    let mut lines = zeros::<303>();
     let asked = read(text, &mut lines)?;
     rewrite_lines(asked, &lines, out)
 }

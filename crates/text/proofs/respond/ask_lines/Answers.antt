@@ -10,7 +10,7 @@ returns c =
     let l = c.args.lines.now in
     let q = c.args.asked in
     let s = q.sizes in
-    let work = c.area-work.result in
+    let work = c.zeros-work.result in
     let K : ℕ = s.count + s.degree + 1 in
     let P : ℕ = 2 * (s.dim + 1) * s.count in
     let ks = part l 1 (1 + K - 1) in
@@ -18,4 +18,4 @@ returns c =
     let bs = part l (1 + K + P) (1 + K + P + 2 * s.dim - (1 + K + P)) in
     let parts = parts-lent s l in
     lines-answer c.curve_could_contain.result q.rev s q.nodes l work _ ks ps bs
-    parts.knots parts.points parts.box c.area-work.ensures c.curve_could_contain.ensures
+    parts.knots parts.points parts.box c.zeros-work.ensures c.curve_could_contain.ensures
