@@ -21,18 +21,16 @@ fn ask_lines(asked: Asked, lines: &[f64; 303]) -> Found
 {
     let mut work = zeros::<8192>();
     let s = asked.sizes;
-    let k = 1 + (s.count + s.degree + 1);
-    let p = k + 2 * (s.dim + 1) * s.count;
-    let b = p + 2 * s.dim;
+    let d = asked.doubles(lines);
     curve_could_contain(
         asked.rev,
         s.dim,
         s.degree,
         s.count,
-        &lines[1..k],
-        &lines[k..p],
-        &lines[p..b],
-        lines[0],
+        d.knots,
+        d.points,
+        d.sides,
+        d.resolution,
         asked.nodes,
         &mut work,
     )

@@ -159,18 +159,16 @@ fn lines_refusal(asked: Asked, lines: &[f64; 303]) -> Result<(), Refusal>
         code_of result ≡ refusal_of asked.rev s (numbers_in s asked.nodes lines.now) }
 {
     let s = asked.sizes;
-    let k = 1 + (s.count + s.degree + 1);
-    let p = k + 2 * (s.dim + 1) * s.count;
-    let b = p + 2 * s.dim;
+    let d = asked.doubles(lines);
     question_refusal(
         asked.rev,
         s.dim,
         s.degree,
         s.count,
-        &lines[1..k],
-        &lines[k..p],
-        &lines[p..b],
-        lines[0],
+        d.knots,
+        d.points,
+        d.sides,
+        d.resolution,
         asked.nodes,
     )
 }
