@@ -100,7 +100,7 @@ fn double_of(bits: u64) -> f64
     ensures { result ≡ double_of bits }
 {
     if 0x7ff0_0000_0000_0000 < bits % 0x8000_0000_0000_0000 {
-        return 0.0 / 0.0;
+        return f64::NAN;
     }
     f64::from_bits(bits)
 }

@@ -8,12 +8,11 @@ use crate::question::{numbers, revision, sizes};
 use geometry::call::{revision_refusal, sizes_refusal};
 use model::refusal::Refusal;
 
-// Room for the numbers of a question. (As `area` and `blank_form`: a function for each length, since a length is computed
-// nowhere in a type, and a call keeps hundreds of zeros out of the proofs.)
-pub(crate) fn room() -> [f64; 303]
-    ensures { 303 ≡ length result }
+// So many zeros: room for doubles. (A call keeps them out of the proofs.)
+pub(crate) fn zeros<const N: usize>() -> [f64; N]
+    ensures { N ≡ length result }
 {
-    [0.0; 303]
+    [0.0; N]
 }
 
 // What a text of n bytes and these sizes comes to, of which the other lines are left. As of all that read here, the

@@ -8,38 +8,29 @@ ghost use Rattle.text.specs.Counts.{Counts};
 
 use crate::cursor::Asked;
 use crate::print::write;
-use crate::reading::{read, room};
+use crate::reading::{read, zeros};
 use geometry::contains::curve_could_contain;
 use math::floats::is_nan;
 use model::contains::Found;
 use model::subdivide;
-
-// The numbers that the program lends.
-fn area() -> [f64; 8192]
-    ensures { 8192 ≡ length result }
-{
-    [0.0; 8192]
-}
 
 // The answer of the search to the question whose numbers stand in `lines`: the resolution, the knots, the points, the box.
 // It keeps every promise of the search.
 fn ask_lines(asked: Asked, lines: &[f64; 303]) -> Found
     ensures { AnswersReading (question_in asked lines.now) result }
 {
-    let mut work = area();
+    let mut work = zeros::<8192>();
     let s = asked.sizes;
-    let k = 1 + (s.count + s.degree + 1);
-    let p = k + 2 * (s.dim + 1) * s.count;
-    let b = p + 2 * s.dim;
+    let d = asked.doubles(lines);
     curve_could_contain(
         asked.rev,
         s.dim,
         s.degree,
         s.count,
-        &lines[1..k],
-        &lines[k..p],
-        &lines[p..b],
-        lines[0],
+        d.knots,
+        d.points,
+        d.sides,
+        d.resolution,
         asked.nodes,
         &mut work,
     )
@@ -49,7 +40,7 @@ fn ask_lines(asked: Asked, lines: &[f64; 303]) -> Found
 pub fn answered(text: &[u8]) -> Found
     ensures { AnswersReading (reading text.now) result }
 {
-    let mut lines = room();
+    let mut lines = zeros::<303>();
     match read(text, &mut lines) {
         Ok(asked) => ask_lines(asked, &lines),
         Err(refused) => Found::Refused(refused, subdivide::Counts::NONE),

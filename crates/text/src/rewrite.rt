@@ -1,19 +1,18 @@
 // The one form of a text.
-ghost use Rattle.std.specs.Prelude.{◌≡◌, true, cond, ◌+◌, ◌*◌, ◌≤◌, length, get_or, leb};
-ghost use Rattle.std.specs.Float.{nan};
-ghost use Rattle.lists.specs.Lists.{all, part};
+ghost use Rattle.std.specs.Prelude.{◌≡◌, true, cond, ◌+◌, ◌*◌, ◌≤◌, length, leb, T};
+ghost use Rattle.lists.specs.Lists.{all};
 ghost use Rattle.text.specs.Bytes.{bytes};
 ghost use Rattle.text.specs.Counts.{Counts};
 ghost use Rattle.model.specs.Numbers.{code_of};
-ghost use Rattle.text.specs.Cursor.{Small, numbers_in, question_in};
+ghost use Rattle.text.specs.Cursor.{Small, Long, numbers_in, question_in};
 ghost use Rattle.text.specs.Printable.{Written, is_number, AllNumbers};
 ghost use Rattle.text.specs.Form.{small_text, values_text, line_text, lines_text, sizes_text, limits_text, shape_text, form};
 ghost use Rattle.text.specs.Form.{refusal_of, accepted_by, accepted, count_for, output_for, Rewrites, Within};
 
-use crate::cursor::{Asked, Sizes};
+use crate::cursor::{Asked, Doubles, Sizes};
 use crate::print::{put_count, put_double, put_word};
 use crate::question::behind;
-use crate::reading::{read, room};
+use crate::reading::{read, zeros};
 use geometry::call::question_refusal;
 use geometry::contains::positive_zero;
 use model::refusal::Refusal;
@@ -30,15 +29,16 @@ fn put_small(out: &mut [u8], at: usize, key: &[u8], n: usize) -> usize
     put_word(out, i, b"\n")
 }
 
-// The n doubles of `xs` from `from` on, from `at` on.
-fn put_values(out: &mut [u8], at: usize, xs: &[f64], from: usize, n: usize) -> usize
-    requires n_in_bounds { (at + 17 * n ≤ length out.old) × (from + n ≤ length xs.now) }
-    requires n_value { all is_number (part xs.now from n) ≡ true }
-    ensures { let v = part xs.now from n in
-        Written out.old at (values_text v) out.new result × (result ≡ at + 17 * n) }
+// These doubles, from `at` on.
+fn put_values(out: &mut [u8], at: usize, xs: &[f64]) -> usize
+    requires in_bounds { at + 17 * length xs.now ≤ length out.old }
+    requires all_numbers { all is_number xs.now ≡ true }
+    ensures { let v = xs.now in
+        Written out.old at (values_text v) out.new result × (result ≡ at + 17 * length v) }
 {
+    let n = xs.len();
     for i in 0..n {
-        let x = xs[from + i];
+        let x = xs[i];
         let y = positive_zero(x);
         let k = put_double(out, at + 17 * i, y);
         out[k] = behind(n - i - 1);
@@ -47,26 +47,26 @@ fn put_values(out: &mut [u8], at: usize, xs: &[f64], from: usize, n: usize) -> u
 }
 
 // A line of a key and of these doubles, from `at` on.
-fn put_line(out: &mut [u8], at: usize, key: &[u8], xs: &[f64], from: usize, n: usize) -> usize
-    requires n_in_bounds { (at + length key.now + 17 * n ≤ length out.old) × (from + n ≤ length xs.now) }
-    requires n_value { all is_number (part xs.now from n) ≡ true }
-    ensures { let k = key.now in let v = part xs.now from n in
-        Written out.old at (line_text k v) out.new result × (result ≡ at + length k + 17 * n) }
+fn put_line(out: &mut [u8], at: usize, key: &[u8], xs: &[f64]) -> usize
+    requires in_bounds { at + length key.now + 17 * length xs.now ≤ length out.old }
+    requires all_numbers { all is_number xs.now ≡ true }
+    ensures { let k = key.now in let v = xs.now in
+        Written out.old at (line_text k v) out.new result × (result ≡ at + length k + 17 * length v) }
 {
     let i = put_word(out, at, key);
-    put_values(out, i, xs, from, n)
+    put_values(out, i, xs)
 }
 
-// The lines of the points, of n doubles each, from `at` on.
-fn put_points(out: &mut [u8], at: usize, xs: &[f64], from: usize, n: usize, k: usize) -> usize
-    requires k_in_bounds { (at + (6 + 17 * n) * k ≤ length out.old) × (from + n * k ≤ length xs.now) }
-    requires k_value { all is_number (part xs.now from (n * k)) ≡ true }
-    ensures { let w = lines_text (bytes "point=") n k (part xs.now from (n * k)) in
+// The lines of k points, of n doubles each, from `at` on.
+fn put_points(out: &mut [u8], at: usize, xs: &[f64], n: usize, k: usize) -> usize
+    requires in_bounds { (at + (6 + 17 * n) * k ≤ length out.old) × (n * k ≤ length xs.now) }
+    requires all_numbers { all is_number xs.now ≡ true }
+    ensures { let w = lines_text (bytes "point=") n k xs.now in
         Written out.old at w out.new result × (result ≡ at + (6 + 17 * n) * k) }
 {
     let mut p = at;
     for i in 0..k {
-        p = put_line(out, p, b"point=", xs, from + n * i, n);
+        p = put_line(out, p, b"point=", &xs[n * i..n * i + n]);
     }
     p
 }
@@ -84,29 +84,28 @@ fn put_sizes(out: &mut [u8], rev: usize, s: Sizes) -> usize
     put_small(out, k, b"count=", s.count)
 }
 
-// The line of the nodes and that of the resolution, which is the first of `lines`, from `at` on.
-fn put_limits(out: &mut [u8], at: usize, nodes: usize, lines: &[f64]) -> usize
-    requires at_in_bounds { (at + 55 ≤ length out.old) × (1 ≤ length lines.now) }
-    requires lines_value { all is_number (part lines.now 0 1) ≡ true }
-    ensures { let x = get_or lines.now 0 nan in
-        Written out.old at (limits_text nodes x) out.new result × (result ≤ at + 55) }
+// The line of the nodes and that of the resolution, from `at` on.
+fn put_limits(out: &mut [u8], at: usize, nodes: usize, resolution: f64) -> usize
+    requires { (at + 55 ≤ length out.old) × T (is_number resolution) }
+    ensures { Written out.old at (limits_text nodes resolution) out.new result × (result ≤ at + 55) }
 {
     let i = put_small(out, at, b"nodes=", nodes);
-    put_line(out, i, b"resolution=", lines, 0, 1)
+    put_line(out, i, b"resolution=", &[resolution])
 }
 
-// The lines of the knots, the points and the box, which stand in `lines` from its second place on, from `at` on.
-fn put_shape(out: &mut [u8], at: usize, s: Sizes, lines: &[f64; 303]) -> usize
-    requires at_in_bounds { (at + 5336 ≤ length out.old) × Small s }
-    requires all_numbers { AllNumbers (numbers_in s 0 lines.now) }
-    ensures { let q = numbers_in s 0 lines.now in
-        Written out.old at (shape_text s q.knots q.points q.box) out.new result × (result ≤ at + 5336) }
+// The lines of the knots, the points and the box of a question, from `at` on.
+fn put_shape(out: &mut [u8], at: usize, s: Sizes, d: Doubles) -> usize
+    requires in_bounds { (at + 5336 ≤ length out.old) × Small s }
+    requires long { Long s d.knots.now d.points.now d.sides.now }
+    requires knots { all is_number d.knots.now ≡ true }
+    requires points { all is_number d.points.now ≡ true }
+    requires sides { all is_number d.sides.now ≡ true }
+    ensures { let e = d.entry in let w = shape_text s e.knots.now e.points.now e.sides.now in
+        Written out.old at w out.new result × (result ≤ at + 5336) }
 {
-    let k = s.count + s.degree + 1;
-    let i = put_line(out, at, b"knots=", lines, 1, k);
-    let w = 2 * (s.dim + 1);
-    let j = put_points(out, i, lines, 1 + k, w, s.count);
-    put_line(out, j, b"box=", lines, 1 + k + w * s.count, 2 * s.dim)
+    let i = put_line(out, at, b"knots=", d.knots);
+    let j = put_points(out, i, d.points, 2 * (s.dim + 1), s.count);
+    put_line(out, j, b"box=", d.sides)
 }
 
 // The one form of the question whose doubles stand in `lines`, at the front. The result is how many bytes it has.
@@ -118,8 +117,9 @@ fn put_form(out: &mut [u8], asked: Asked, lines: &[f64; 303]) -> usize
     ensures within { Counts result out.new }
 {
     let i = put_sizes(out, asked.rev, asked.sizes);
-    let j = put_limits(out, i, asked.nodes, lines);
-    put_shape(out, j, asked.sizes, lines)
+    let d = asked.doubles(lines);
+    let j = put_limits(out, i, asked.nodes, d.resolution);
+    put_shape(out, j, asked.sizes, d)
 }
 
 // ---- what is given
@@ -159,18 +159,16 @@ fn lines_refusal(asked: Asked, lines: &[f64; 303]) -> Result<(), Refusal>
         code_of result ≡ refusal_of asked.rev s (numbers_in s asked.nodes lines.now) }
 {
     let s = asked.sizes;
-    let k = 1 + (s.count + s.degree + 1);
-    let p = k + 2 * (s.dim + 1) * s.count;
-    let b = p + 2 * s.dim;
+    let d = asked.doubles(lines);
     question_refusal(
         asked.rev,
         s.dim,
         s.degree,
         s.count,
-        &lines[1..k],
-        &lines[k..p],
-        &lines[p..b],
-        lines[0],
+        d.knots,
+        d.points,
+        d.sides,
+        d.resolution,
         asked.nodes,
     )
 }
@@ -197,7 +195,7 @@ pub fn rewrite(text: &[u8], out: &mut [u8]) -> Result<usize, Refusal>
     ensures rewrites { Rewrites (accepted text.now) out.old out.new result }
     ensures within { Within result out.new }
 {
-    let mut lines = room();
+    let mut lines = zeros::<303>();
     let asked = read(text, &mut lines)?;
     rewrite_lines(asked, &lines, out)
 }

@@ -1,7 +1,7 @@
 -- The doubles of a question, read back from the memory that they were written to. Assumes nothing.
 use mathlib.Core.Path.{◌≡◌, refl, sym, ap, ◌∙◌}
 use mathlib.Core.List.{List, [], ◌∷◌, ◌++◌, append_assoc, append-nil}
-use Prim.Native.Nat.{ℕ, suc, ◌+◌, ◌-◌, ◌*◌, ◌≤◌}
+use Prim.Native.Nat.{ℕ, ◌+◌, ◌*◌, ◌≤◌}
 use native.Mathlib.Omega.{arith}
 use lib.ListN.{length, take, get_or, length-append}
 use lib.Seq.{take_at, drop_at}
@@ -83,31 +83,3 @@ module _ (s : Sizes) (q : Numbers) (l m : List Float) (long : Long s q.knots q.p
         points = points_back i;
         box = box_back i;
       }
-
--- ---- the parts that are lent on
-
--- The parts ks, ps and bs of the memory l are the knots, the points and the box of the question that is laid down there.
-pub record Parts (s : Sizes) (l ks ps bs : List Float) : Type 0 where
-  pub knots : ks ≡ (numbers_in s 0 l).knots
-  pub points : ps ≡ (numbers_in s 0 l).points
-  pub box : bs ≡ (numbers_in s 0 l).box
-
--- as the code cuts them out: from one place to the next
-pub parts-lent : (s : Sizes) (l : List Float)
-    → let k = 1 + (s.count + s.degree + 1) in
-    let q = k + 2 * (s.dim + 1) * s.count in
-    let b = q + 2 * s.dim in
-    Parts s l (part l 1 (k - 1)) (part l k (q - k)) (part l q (b - q))
-parts-lent s l =
-    let K : ℕ = s.count + s.degree + 1 in
-    let P : ℕ = 2 * (s.dim + 1) * s.count in
-    let one : s.dim + 1 ≡ suc s.dim = omega arith in
-    let e : P ≡ 2 * suc s.dim * s.count = ap (λ (k : ℕ). 2 * k * s.count) one in
-    let long-knots : 1 + K - 1 ≡ K = omega arith in
-    let long-points : 1 + K + P - (1 + K) ≡ P = omega arith in
-    let long-box : 1 + K + P + 2 * s.dim - (1 + K + P) ≡ 2 * s.dim = omega arith in
-    record {
-      knots = ap (part l 1) long-knots;
-      points = ap (part l (1 + K)) (long-points ∙ e);
-      box = λ i. part l (1 + K + e i) (long-box i);
-    }

@@ -2,9 +2,9 @@
 use mathlib.Core.Path.{◌≡◌, refl, sym, ap, ◌∙◌, subst}
 use mathlib.Core.List.{List, []}
 use Prim.Native.Nat.{ℕ}
-use lib.ListN.{length, get_or}
+use lib.ListN.{length}
 use lib.Dec.{T}
-use lib.Ieee.{Float, nan, le}
+use lib.Ieee.{Float, le}
 use Rattle.math.proofs.Bools.{and_l}
 use Rattle.math.proofs.Laws.{le_number_r}
 use Rattle.model.specs.NurbCurve.{start, end}
@@ -20,8 +20,7 @@ use Rattle.model.specs.declared.refusal.Refusal.{Refusal}
 use Rattle.model.specs.declared.contains.Found.{Found}
 use Rattle.model.specs.declared.contains.Found.TheVariants.{Refused}
 use Rattle.model.proofs.Numbers.{refusal-of-number}
-use Rattle.text.specs.Question.{Sizes, Reading, refused_by, asks, call_of}
-use Rattle.text.specs.Cursor.{numbers_in}
+use Rattle.text.specs.Question.{Sizes, Numbers, Reading, refused_by, asks, call_of}
 use Rattle.text.specs.Respond.{answered_by, AnswersReading}
 use Rattle.text.specs.Printable.{is_number, Printable}
 
@@ -42,13 +41,13 @@ whatever c held left r h before = record {
 }
 
 -- the numbers that the code cuts out of the memory and lends are those of the question
-pub lines-answer : (r : Found) (rev : ℕ) (s : Sizes) (nodes : ℕ) (l work left ks ps bs : List Float) → ks ≡ (numbers_in s nodes l).knots
-    → ps ≡ (numbers_in s nodes l).points → bs ≡ (numbers_in s nodes l).box → 8192 ≡ length work
-    → Answers (lent rev s.dim s.degree s.count ks ps bs (get_or l 0 nan) nodes (length work)) work left r
-    → AnswersReading (asks rev s (numbers_in s nodes l)) r
-lines-answer r rev s nodes l work left ks ps bs K P B W h before =
+pub lines-answer : (r : Found) (rev : ℕ) (s : Sizes) (q : Numbers) (x : Float) (work left ks ps bs : List Float) → ks ≡ q.knots
+    → ps ≡ q.points → bs ≡ q.box → x ≡ q.resolution → 8192 ≡ length work
+    → Answers (lent rev s.dim s.degree s.count ks ps bs x q.nodes (length work)) work left r
+    → AnswersReading (asks rev s q) r
+lines-answer r rev s q x work left ks ps bs K P B X W h before =
     subst (λ (c : Call). Answers c before (area_after c before) r)
-    (λ i. lent rev s.dim s.degree s.count (K i) (P i) (B i) (get_or l 0 nan) nodes (sym W i))
+    (λ i. lent rev s.dim s.degree s.count (K i) (P i) (B i) (X i) q.nodes (sym W i))
     (whatever _ work left r h before)
 
 -- ---- what the promises say

@@ -8,4 +8,4 @@ use Rattle.text.proofs.rewrite.put_points.Given as goal
 abbrev pub invariant-loop-i : goal.invariant-loop-i
 invariant-loop-i l =
     let w = 6 + 17 * l.n in
-    (l.p ≡ l.at + w * l.i) × Lines (bytes "point=") l.xs l.from l.n l.k l.initial.out l.at w l.i l.out
+    (l.p ≡ l.at + w * l.i) × Lines (bytes "point=") l.xs l.n l.k l.initial.out l.at w l.i l.out

@@ -4,7 +4,6 @@ use mathlib.Core.List.{◌++◌}
 use Prim.Native.Nat.{ℕ, suc, ◌+◌, ◌*◌, ◌≤◌}
 use native.Mathlib.Nat.{mul-le-mul}
 use native.Mathlib.Omega.{arith}
-use Rattle.lists.specs.Lists.{part}
 use Rattle.text.specs.Bytes.{bytes}
 use Rattle.text.specs.Printable.{Written}
 use Rattle.text.specs.Form.{line_text, lines_text, shape_text}
@@ -26,21 +25,21 @@ short dim count d n =
 pub returns : goal.returns
 unfolding shape_text bytes
 returns c =
-    let d : c.args.s.dim ≤ 3 = c.requires.at_in_bounds.1.0 in
-    let n : c.args.s.count ≤ 32 = c.requires.at_in_bounds.1.2 in
-    let point : 2 * (c.args.s.dim + 1) ≡ 2 * suc c.args.s.dim = omega arith in
     let a = c.args in
-    let l = a.lines.now in
-    let K : ℕ = a.s.count + a.s.degree + 1 in
+    let d : a.s.dim ≤ 3 = c.requires.in_bounds.1.0 in
+    let n : a.s.count ≤ 32 = c.requires.in_bounds.1.2 in
+    let long = c.requires.long in
+    let point : 2 * (a.s.dim + 1) ≡ 2 * suc a.s.dim = omega arith in
     let x = c.put_line-i.ensures in
     let y = c.put_points-j.ensures in
     let z = c.put_line.ensures in
-    let h : c.put_line.result ≤ a.at + 5336 = omega (arith, short c.args.s.dim c.args.s.count d n, x.1, y.1, z.1) in (
+    let h : c.put_line.result ≤ a.at + 5336 =
+    omega (arith, short a.s.dim a.s.count d n, long.knots_long, long.box_long, x.1, y.1, z.1) in (
       subst
           (λ (w : ℕ). Written a.out.now a.at
-          (line_text (bytes "knots=") (part l 1 K)
-          ++ lines_text (bytes "point=") w a.s.count (part l (1 + K) (w * a.s.count))
-          ++ line_text (bytes "box=") (part l (1 + K + w * a.s.count) (2 * a.s.dim)))
+          (line_text (bytes "knots=") a.d.knots.now
+          ++ lines_text (bytes "point=") w a.s.count a.d.points.now
+          ++ line_text (bytes "box=") a.d.sides.now)
           c.put_line.new.out c.put_line.result)
           point
           (joined (omega (arith, h, y.1, z.1)) (joined (omega (arith, h, x.1, y.1, z.1)) x.0 y.0) z.0),
