@@ -1,9 +1,8 @@
 // The sheet, and its questions.
-ghost use Rattle.std.specs.Prelude.{◌≡◌, cond, [], length};
+ghost use Rattle.std.specs.Prelude.{◌≡◌, [], length};
 ghost use Rattle.model.specs.Call.{lent};
 ghost use Rattle.text.specs.Printable.{Printable};
-ghost use Rattle.sheet.specs.Sheet.{is_none, is_enclosed, is_spent, is_refused, is_twelve, empty_sheet, Kept};
-ghost use Rattle.sheet.specs.Sheet.{one_more, SumAfter, Tallied, Asks, AsksText};
+ghost use Rattle.sheet.specs.Sheet.{is_twelve, empty_sheet, Kept, one_more, Tallied, Asks, AsksText};
 
 use crate::sum::{add_double, take_double};
 use geometry::contains::curve_could_contain;
@@ -45,33 +44,6 @@ pub struct Answered {
     pub found: Found,
 }
 
-// ---- kinds of answers
-
-fn is_none(f: Found) -> bool
-    ensures { result ≡ is_none f }
-{
-    matches!(f, Found::Nothing(_))
-}
-
-fn is_enclosed(f: Found) -> bool
-    ensures { result ≡ is_enclosed f }
-{
-    matches!(f, Found::Enclosed(..))
-}
-
-fn is_spent(f: Found) -> bool
-    ensures { result ≡ is_spent f }
-{
-    matches!(f, Found::Spent(..))
-}
-
-// Refused by whatever number.
-fn is_refused(f: Found) -> bool
-    ensures { result ≡ is_refused f }
-{
-    matches!(f, Found::Refused(..))
-}
-
 // Refused by 12.
 fn is_twelve(f: Found) -> bool
     ensures { result ≡ is_twelve f }
@@ -88,37 +60,33 @@ fn one_more(n: usize) -> usize
     if n < 65535 { n + 1 } else { n }
 }
 
-// One more, where the answer is of this kind.
-fn counted(n: usize, kind: bool) -> usize
-    ensures { result ≡ cond kind (one_more n) n }
-{
-    if kind { one_more(n) } else { n }
-}
-
-// The sum with what an answer adds to it: hi minus lo where it is enclosed.
-fn summed(sum: [u8; 150], f: Found) -> [u8; 150]
-    requires { Printable f }
-    ensures { SumAfter sum f result }
-{
-    match f {
-        Found::Enclosed(lo, hi, _) => { take_double(add_double(sum, hi), lo) }
-        _ => sum,
-    }
-}
-
-// The sheet with one question more, which had this answer.
+// The sheet with one question more, which had this answer: hi minus lo is added to the sum where it is enclosed.
 fn tally(s: Sheet, f: Found) -> Sheet
     requires { Printable f }
     ensures { Tallied s f result }
 {
-    let sum = s.sum;
-    Sheet {
+    let asked = Sheet {
         questions: one_more(s.questions),
-        none: counted(s.none, is_none(f)),
-        enclosed: counted(s.enclosed, is_enclosed(f)),
-        spent: counted(s.spent, is_spent(f)),
-        refused: counted(s.refused, is_refused(f)),
-        sum: summed(sum, f),
+        ..s
+    };
+    match f {
+        Found::Nothing(_) => Sheet {
+            none: one_more(s.none),
+            ..asked
+        },
+        Found::Enclosed(lo, hi, _) => Sheet {
+            enclosed: one_more(s.enclosed),
+            sum: take_double(add_double(s.sum, hi), lo),
+            ..asked
+        },
+        Found::Spent(..) => Sheet {
+            spent: one_more(s.spent),
+            ..asked
+        },
+        Found::Refused(..) => Sheet {
+            refused: one_more(s.refused),
+            ..asked
+        },
     }
 }
 
