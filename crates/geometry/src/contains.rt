@@ -47,6 +47,7 @@ fn completed(f: Option<Scalar>, v: Counts) -> Found
 }
 
 // ---- the search
+// (w, the words of a slot, follows from s, but is handed on: it is worked out once for a search.)
 
 // The depth of the first piece that waits, in slots of w words.
 fn next_depth(work: &[f64], q: Search, s: Shape, w: usize) -> usize

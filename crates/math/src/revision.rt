@@ -6,7 +6,7 @@ ghost use Rattle.math.specs.Scalars.{ENTIRE, value_or, union_s, interpolate_s};
 ghost use Rattle.math.specs.Bounds.{widen_b, divisor_of};
 ghost use Rattle.math.specs.Revision.{arithmetic};
 ghost use Rattle.math.specs.Paper.{quotient_in, Divides};
-ghost use Rattle.math.specs.Factors.{fraction_of, between_s};
+ghost use Rattle.math.specs.Factors.{fraction_of, both_ways, between_s};
 ghost use Rattle.math.specs.Laws.{AreDoubles, AreNumbers};
 
 use crate::bounds::{Bounds, Divisor};
@@ -113,6 +113,15 @@ pub trait Revision {
     {
         let beta = Self::sub(Scalar::ONE, alpha);
         Fraction { alpha, beta }
+    }
+
+    // What a + alpha (b - a) and (1 - alpha) a + alpha b have in common.
+    fn both_ways(a: Scalar, b: Scalar, f: Fraction) -> Scalar
+        ensures { result ≡ both_ways (arithmetic second) a b f }
+    {
+        let via_delta = Self::add(a, Self::mul(f.alpha, Self::sub(b, a)));
+        let via_weights = Self::add(Self::mul(f.beta, a), Self::mul(f.alpha, b));
+        via_delta.intersect(via_weights)
     }
 
     // The point a fraction alpha of the way from a to b: a where both are the same and alpha lies in 0 to 1, else what
@@ -224,9 +233,7 @@ impl Revision for First {
             };
             return Scalar::meet_of_sums(a, alpha.scale(delta), beta.scale(a), alpha.scale(b));
         }
-        let via_delta = Self::add(a, Self::mul(alpha, Self::sub(b, a)));
-        let via_weights = Self::add(Self::mul(beta, a), Self::mul(alpha, b));
-        via_delta.intersect(via_weights)
+        Self::both_ways(a, b, f)
     }
 }
 
@@ -321,13 +328,9 @@ impl Revision for Second {
     }
 
     fn between(a: Scalar, b: Scalar, f: Fraction) -> Scalar {
-        let alpha = f.alpha;
-        let beta = f.beta;
-        if Scalar::same_operands(a, b, alpha) {
+        if Scalar::same_operands(a, b, f.alpha) {
             return a;
         }
-        let via_delta = Self::add(a, Self::mul(alpha, Self::sub(b, a)));
-        let via_weights = Self::add(Self::mul(beta, a), Self::mul(alpha, b));
-        via_delta.intersect(via_weights)
+        Self::both_ways(a, b, f)
     }
 }

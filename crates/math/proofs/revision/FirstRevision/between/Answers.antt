@@ -3,7 +3,7 @@
 use mathlib.Core.Path.{sym, ◌∙◌}
 use lib.Ieee.{binary64, sub}
 use Rattle.math.specs.Scalars.{geop}
-use Rattle.math.proofs.Picks.{kept, went, blended, sums-meet}
+use Rattle.math.proofs.Picks.{kept, went, blended}
 use Rattle.math.proofs.Intervals.Factors.{lower_number, upper_number, delta_is, delta-order, AllInOrder, all_in_order_lem}
 use Rattle.math.proofs.revision.FirstRevision.between.Goals as goal
 
@@ -41,10 +41,4 @@ returns-then-all_in_order c =
     (sym c.same_operands.ensures ∙ c.if-same_operands.false)
 
 pub returns : goal.returns
-returns c =
-    let k = c.args in
-    went geop k.a k.b k.f _
-    (blended geop k.a k.b k.f c.sub.result c.mul.result c.mul-2.result c.mul-3.result c.intersect.result
-    c.sub.ensures c.mul.ensures c.mul-2.ensures c.mul-3.ensures
-    (sums-meet geop k.a c.mul.result c.mul-2.result c.mul-3.result c.add-via_delta.result c.add-via_weights.result c.intersect.result c.add-via_delta.ensures c.add-via_weights.ensures c.intersect.ensures))
-    (sym c.same_operands.ensures ∙ c.if-same_operands.false)
+returns c = let k = c.args in went geop k.a k.b k.f _ c.both_ways.ensures (sym c.same_operands.ensures ∙ c.if-same_operands.false)
