@@ -27,7 +27,7 @@ fn digit_of(n: u64) -> u8
     if n <= 9 { 48 + n as u8 } else { 87 + n as u8 }
 }
 
-// The last k digits of n in a base, from `at` on.
+// The last k digits of n in a base, from `at` on. (By an index: of what `iter_mut().rev()` writes, nothing is known.)
 pub(crate) fn put_digits(out: &mut [u8], at: usize, base: u64, k: usize, n: u64) -> usize
     requires { (0 < base) × (base ≤ 16) × (at + k ≤ length out.old) }
     ensures { Written out.old at (last_digits base k n) out.new result }

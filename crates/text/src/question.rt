@@ -53,44 +53,38 @@ fn value(rest: &[u8], b: u8) -> Option<(f64, &[u8])>
     Some((x, left))
 }
 
-// n doubles, written to `out` from `to` on.
-fn values<'a>(text: &'a [u8], n: usize, out: &mut [f64], to: usize) -> Option<&'a [u8]>
-    requires { to + n ≤ length out.old }
-    ensures { ValuesRead (values n text.now) n to out.old out.new result }
+// As many doubles as `out` has, written to it.
+fn values<'a>(text: &'a [u8], out: &mut [f64]) -> Option<&'a [u8]>
+    ensures { let n = length out.old in
+        ValuesRead (values n text.now) n 0 out.old out.new result }
 {
     let mut rest = text;
+    let n = out.len();
     for i in 0..n {
         let (x, left) = value(rest, behind(n - i - 1))?;
-        out[to + i] = x;
+        out[i] = x;
         rest = left;
     }
     Some(rest)
 }
 
-// A line of a key and n doubles.
-fn line<'a>(rest: &'a [u8], key: &[u8], n: usize, out: &mut [f64], to: usize) -> Option<&'a [u8]>
-    requires { to + n ≤ length out.old }
-    ensures { ValuesRead (line key.now n rest.now) n to out.old out.new result }
+// A line of a key and as many doubles as `out` has.
+fn line<'a>(rest: &'a [u8], key: &[u8], out: &mut [f64]) -> Option<&'a [u8]>
+    ensures { let n = length out.old in
+        ValuesRead (line key.now n rest.now) n 0 out.old out.new result }
 {
     let left = word(rest, key)?;
-    values(left, n, out, to)
+    values(left, out)
 }
 
-// k lines of a key and n doubles.
-fn lines<'a>(
-    text: &'a [u8],
-    key: &[u8],
-    n: usize,
-    k: usize,
-    out: &mut [f64],
-    to: usize,
-) -> Option<&'a [u8]>
-    requires { to + n * k ≤ length out.old }
-    ensures { ValuesRead (lines key.now n k text.now) (n * k) to out.old out.new result }
+// k lines of a key and n doubles, as many as `out` has.
+fn lines<'a>(text: &'a [u8], key: &[u8], n: usize, k: usize, out: &mut [f64]) -> Option<&'a [u8]>
+    requires { length out.old ≡ n * k }
+    ensures { ValuesRead (lines key.now n k text.now) (n * k) 0 out.old out.new result }
 {
     let mut rest = text;
     for i in 0..k {
-        rest = line(rest, key, n, out, to + n * i)?;
+        rest = line(rest, key, &mut out[n * i..n * i + n])?;
     }
     Some(rest)
 }
@@ -121,7 +115,7 @@ fn limits<'a>(rest: &'a [u8], out: &mut [f64]) -> Option<(usize, &'a [u8])>
     ensures { LimitsRead rest.now out.old out.new result }
 {
     let (n, a) = small_line(rest, b"nodes=")?;
-    let left = line(a, b"resolution=", 1, out, 0)?;
+    let left = line(a, b"resolution=", &mut out[..1])?;
     Some((n, left))
 }
 
@@ -131,10 +125,12 @@ fn shape<'a>(rest: &'a [u8], s: Sizes, out: &mut [f64; 303]) -> Option<&'a [u8]>
     ensures { ShapeRead rest.now s out.old out.new result }
 {
     let k = s.count + s.degree + 1;
-    let a = line(rest, b"knots=", k, out, 1)?;
+    let p = 1 + k;
+    let a = line(rest, b"knots=", &mut out[1..p])?;
     let w = 2 * (s.dim + 1);
-    let b = lines(a, b"point=", w, s.count, out, 1 + k)?;
-    line(b, b"box=", 2 * s.dim, out, 1 + k + w * s.count)
+    let b = p + w * s.count;
+    let c = lines(a, b"point=", w, s.count, &mut out[p..b])?;
+    line(c, b"box=", &mut out[b..b + 2 * s.dim])
 }
 
 // All the other lines.

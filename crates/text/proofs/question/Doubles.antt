@@ -5,10 +5,13 @@ use Prim.Native.Nat.{ℕ, suc, ◌+◌, ◌-◌, ◌*◌, ◌≤◌, ◌<◌}
 use native.Mathlib.Nat.{mul-zero, mul-suc, mul-le-mul_left}
 use native.Mathlib.Numerals.{add-one}
 use native.Mathlib.Omega.{arith}
-use lib.ListN.{length, set, length-append}
+use lib.ListN.{length, take, drop, set, length-append}
+use lib.Seq.{drop-drop}
+use borrow.Rule.Slice.PartMut.{put_mid}
 use lib.Ieee.{Float}
-use Rattle.lists.specs.Lists.{put}
-use Rattle.lists.proofs.Put.{put-nil, put-put, put_one, length-put}
+use Rattle.lists.specs.Lists.{part, put}
+use Rattle.lists.proofs.Part.{length_part}
+use Rattle.lists.proofs.Put.{put-nil, put-put, put_one, put_whole, length-put}
 use Rattle.std.specs.Borrow.{Bor}
 use Rattle.std.specs.Prelude.{Option, Some, None}
 use Rattle.text.specs.Bytes.{Read, bad, got, then, word}
@@ -60,26 +63,26 @@ unfolding prepend then
 prepend_more xs ys bad = refl
 prepend_more xs ys (got zs t) = rw (append_assoc xs ys zs)
 
--- Of what is read as `whole`, the first i doubles were written to the memory l from `to` on, which became m;
+-- Of what is read as `whole`, the first i doubles were written to the front of the memory l, which became m;
 -- the others are read as `left`.
-pub record Taken (whole left : Read (List Float)) (i to : ℕ) (l m : List Float) : Type 0 where
+pub record Taken (whole left : Read (List Float)) (i : ℕ) (l m : List Float) : Type 0 where
   pub xs : List Float
   pub long : length xs ≡ i
-  pub wrote : m ≡ put l to xs
+  pub wrote : m ≡ put l 0 xs
   pub told : whole ≡ prepend xs left
 
 -- nothing was taken yet
-taken_none : {whole left : Read (List Float)} (to : ℕ) (l : List Float) → whole ≡ left → Taken whole left 0 to l l
-taken_none {left = left} to l e =
-    record { xs = []; long = refl; wrote = sym (put-nil l to); told = e ∙ prepend_nil left }
+taken_none : {whole left : Read (List Float)} (l : List Float) → whole ≡ left → Taken whole left 0 l l
+taken_none {left = left} l e =
+    record { xs = []; long = refl; wrote = sym (put-nil l 0); told = e ∙ prepend_nil left }
 
-module _ {whole left : Read (List Float)} {i to : ℕ} {l m : List Float} (k : Taken whole left i to l m) where
+module _ {whole left : Read (List Float)} {i : ℕ} {l m : List Float} (k : Taken whole left i l m) where
   -- what is left cannot be read
   taken-bad : left ≡ bad → whole ≡ bad
   taken-bad e = k.told ∙ ap (prepend k.xs) e ∙ prepend_bad k.xs
 
   -- nothing is left
-  taken_all : {n : ℕ} {rest : List ℕ} → left ≡ got [] rest → i ≡ n → ValuesAt whole n to l m rest
+  taken_all : {n : ℕ} {rest : List ℕ} → left ≡ got [] rest → i ≡ n → ValuesAt whole n 0 l m rest
   taken_all {rest} e f = record {
     xs = k.xs;
     reads = k.told ∙ ap (prepend k.xs) e ∙ prepend_end k.xs rest;
@@ -89,14 +92,13 @@ module _ {whole left : Read (List Float)} {i to : ℕ} {l m : List Float} (k : T
 
   -- some more are taken
   taken_more : {rest : Read (List Float)} {j : ℕ} (ys : List Float) → left ≡ prepend ys rest → i + length ys ≡ j
-      → to + j ≤ length l
-      → Taken whole rest j to l (put m (to + i) ys)
+      → j ≤ length l → Taken whole rest j l (put m i ys)
   taken_more {rest} ys e f h =
-      let q : to + i ≡ to + length k.xs = omega (arith, k.long) in
+      let q : i ≡ 0 + length k.xs = omega (arith, k.long) in
       record {
         xs = k.xs ++ ys;
         long = length-append k.xs ys ∙ ap (λ (n : ℕ). n + length ys) k.long ∙ f;
-        wrote = (λ a. put (k.wrote a) (q a) ys) ∙ put-put l to k.xs ys (omega (arith, k.long));
+        wrote = (λ a. put (k.wrote a) (q a) ys) ∙ put-put l 0 k.xs ys (omega (arith, k.long));
         told = k.told ∙ ap (prepend k.xs) e ∙ prepend_more k.xs ys rest;
       }
 
@@ -129,14 +131,14 @@ values_one : (n m : ℕ) (t c : List ℕ) (b : ℕ) (x : Float) → n ≡ suc m 
     → values n t ≡ prepend (x ∷ []) (values m c)
 values_one n m t c b x e f h = values_by n m t b e f ∙ then-got (value b t) _ x c h
 
-module _ (n : ℕ) (t : List ℕ) (to : ℕ) (l : List Float) where
+module _ (n : ℕ) (t : List ℕ) (l : List Float) where
   -- The first i values are taken, the others are read from `rest`.
   abbrev pub Values : ℕ → List ℕ → List Float → Type 0
-  Values i rest m = Taken (values n t) (values (n - i) rest) i to l m
+  Values i rest m = Taken (values n t) (values (n - i) rest) i l m
 
   -- before the first value
   pub values_begin : Values 0 t l
-  values_begin = let z : n ≡ n - 0 = omega arith in taken_none to l (ap (λ (q : ℕ). values q t) z)
+  values_begin = let z : n ≡ n - 0 = omega arith in taken_none l (ap (λ (q : ℕ). values q t) z)
 
   module _ (i b : ℕ) (rest : List ℕ) (m : List Float) (r : Option (Float × Bor (List ℕ))) (less : i < n)
       (sep : b ≡ behind (n - i - 1)) (read : read_of r ≡ value b rest) (so : Values i rest m) where
@@ -148,18 +150,18 @@ module _ (n : ℕ) (t : List ℕ) (to : ℕ) (l : List Float) where
     values-stop e = taken-bad so (values-stuck (n - i) (n - i - 1) rest b next sep (nothing_read r read e))
 
     -- one value
-    pub values_turn : (x : Float) (c : Bor (List ℕ)) → r ≡ Some (x, c) → to + n ≤ length l
-        → Values (i + 1) c.now (set m (to + i) x)
+    pub values_turn : (x : Float) (c : Bor (List ℕ)) → r ≡ Some (x, c) → n ≤ length l
+        → Values (i + 1) c.now (set m i x)
     values_turn x c e h =
         let s : n - i - 1 ≡ n - (i + 1) = omega arith in
-        let w : length m ≡ length l = rw so.wrote (length-put l to so.xs (omega (arith, so.long))) in
+        let w : length m ≡ length l = rw so.wrote (length-put l 0 so.xs (omega (arith, so.long))) in
         let o : values (n - i) rest ≡ prepend (x ∷ []) (values (n - (i + 1)) c.now) =
         rw (← s) (values_one (n - i) (n - i - 1) rest c.now b x next sep (was_read r read x c e)) in
-        rw (put_one m (to + i) x (omega arith)) (taken_more so (x ∷ []) o refl (omega arith))
+        rw (put_one m i x (omega arith)) (taken_more so (x ∷ []) o refl (omega arith))
 
   -- behind the last value
   pub values_end : (i : ℕ) (rest : List ℕ) (m : List Float) → n ≤ i → i ≤ n → Values i rest m
-      → ValuesAt (values n t) n to l m rest
+      → ValuesAt (values n t) n 0 l m rest
   unfolding values
   values_end i rest m g h so =
       let z : n - i ≡ 0 = omega arith in
@@ -178,9 +180,9 @@ module _ (key t : List ℕ) (n : ℕ) (r : Option (Bor (List ℕ))) (w : word_of
   line_is a e = then-got (word key t) _ tt a.now (was_word r w a e)
 
   -- the values behind the key
-  pub line-rest : (a : Bor (List ℕ)) → r ≡ Some a → (to : ℕ) (l m : List Float) (q : Option (Bor (List ℕ)))
-      → ValuesRead (values n a.now) n to l m q → ValuesRead (line key n t) n to l m q
-  line-rest a e to l m q h = subst (λ (spec : Read (List Float)). ValuesRead spec n to l m q) (sym (line_is a e)) h
+  pub line-rest : (a : Bor (List ℕ)) → r ≡ Some a → (l m : List Float) (q : Option (Bor (List ℕ)))
+      → ValuesRead (values n a.now) n 0 l m q → ValuesRead (line key n t) n 0 l m q
+  line-rest a e l m q h = subst (λ (spec : Read (List Float)). ValuesRead spec n 0 l m q) (sym (line_is a e)) h
 
 lines-stuck : (key : List ℕ) (n k m : ℕ) (t : List ℕ) → k ≡ suc m → line key n t ≡ bad → lines key n k t ≡ bad
 unfolding lines
@@ -195,19 +197,19 @@ lines_one key n k m t a ys e h = rw e (then-got (line key n t) _ ys a h)
 pub row_in : (n i k : ℕ) → i < k → n * i + n ≤ n * k
 row_in n i k h = rw (← mul-suc n i) (mul-le-mul_left n h)
 
-module _ (key : List ℕ) (n k : ℕ) (t : List ℕ) (to : ℕ) (l : List Float) where
+module _ (key : List ℕ) (n k : ℕ) (t : List ℕ) (l : List Float) where
   -- The first i lines are taken, the others are read from `rest`.
   abbrev pub Lines : ℕ → List ℕ → List Float → Type 0
-  Lines i rest m = Taken (lines key n k t) (lines key n (k - i) rest) (n * i) to l m
+  Lines i rest m = Taken (lines key n k t) (lines key n (k - i) rest) (n * i) l m
 
   -- before the first line
   pub lines_begin : Lines 0 t l
   lines_begin =
       let z : k ≡ k - 0 = omega arith in
-      rw (mul-zero n) (taken_none to l (ap (λ (q : ℕ). lines key n q t) z))
+      rw (mul-zero n) (taken_none l (ap (λ (q : ℕ). lines key n q t) z))
 
   module _ (i : ℕ) (rest : List ℕ) (m w : List Float) (r : Option (Bor (List ℕ))) (less : i < k)
-      (read : ValuesRead (line key n rest) n (to + n * i) m w r) (so : Lines i rest m) where
+      (read : ValuesRead (line key n rest) n (n * i) m w r) (so : Lines i rest m) where
     left : k - i ≡ suc (k - (i + 1))
     left = omega arith
 
@@ -217,9 +219,9 @@ module _ (key : List ℕ) (n k : ℕ) (t : List ℕ) (to : ℕ) (l : List Float)
         taken-bad so (lines-stuck key n (k - i) (k - (i + 1)) rest left (subst (ValuesRead _ n _ m w) e read))
 
     -- one line
-    pub lines_turn : (c : Bor (List ℕ)) → r ≡ Some c → to + n * k ≤ length l → Lines (i + 1) c.now w
+    pub lines_turn : (c : Bor (List ℕ)) → r ≡ Some c → n * k ≤ length l → Lines (i + 1) c.now w
     lines_turn c e h =
-        let v = subst (ValuesRead (line key n rest) n (to + n * i) m w) e read in
+        let v = subst (ValuesRead (line key n rest) n (n * i) m w) e read in
         let f : n * i + length v.xs ≡ n * (i + 1) = rw (v.long, add-one i, mul-suc n i) in
         let g : n * (i + 1) ≤ n * k = rw (add-one i) (mul-le-mul_left n less) in
         let o = lines_one key n (k - i) (k - (i + 1)) rest c.now v.xs left v.reads in
@@ -227,9 +229,45 @@ module _ (key : List ℕ) (n k : ℕ) (t : List ℕ) (to : ℕ) (l : List Float)
 
   -- behind the last line
   pub lines_end : (i : ℕ) (rest : List ℕ) (m : List Float) → k ≤ i → i ≤ k → Lines i rest m
-      → ValuesAt (lines key n k t) (n * k) to l m rest
+      → ValuesAt (lines key n k t) (n * k) 0 l m rest
   unfolding lines
   lines_end i rest m g h so =
       let z : k - i ≡ 0 = omega arith in
       let y : i ≡ k = omega arith in
       taken_all so (ap (λ (q : ℕ). lines key n q rest) z) (ap (λ (q : ℕ). n * q) y)
+
+-- ---- doubles that are written to a part of a memory
+
+-- where the part comes back
+pub placed : (spec : Read (List Float)) (n at k : ℕ) (l m : List Float) (q : Option (Bor (List ℕ))) → at + k ≤ length l
+    → k ≡ n → ValuesRead spec n 0 (part l at k) m q → ValuesRead spec n at l (put_mid at k l m) q
+unfolding put
+placed spec n at k l m None h e v = v
+placed spec n at k l m (Some c) h e v =
+    let whole : length v.xs ≡ length (part l at k) = v.long ∙ sym e ∙ sym (length_part l at k h) in
+    let f : at + k ≡ at + length v.xs = omega (arith, e, v.long) in
+    record {
+      xs = v.xs;
+      reads = v.reads;
+      long = v.long;
+      wrote =
+          ap (put_mid at k l) (v.wrote ∙ put_whole (part l at k) v.xs whole)
+          ∙ (λ i. take at l ++ (v.xs ++ (drop-drop k at l ∙ ap (λ (x : ℕ). drop x l) f) i));
+    }
+
+pub line_placed : (key t : List ℕ) (n at k : ℕ) (l m : List Float) (q : Option (Bor (List ℕ))) → at + k ≤ length l
+    → k ≡ n
+    → let w = length (part l at k) in
+    ValuesRead (line key w t) w 0 (part l at k) m q → ValuesRead (line key n t) n at l (put_mid at k l m) q
+line_placed key t n at k l m q h e v =
+    placed (line key n t) n at k l m q h e
+    (subst (λ (w : ℕ). ValuesRead (line key w t) w 0 (part l at k) m q) (length_part l at k h ∙ e) v)
+
+-- row i of k
+pub row_placed : (key t : List ℕ) (n i k : ℕ) (l m : List Float) (q : Option (Bor (List ℕ))) → i < k → n * k ≤ length l
+    → let b = n * i + n - n * i in
+    let w = length (part l (n * i) b) in
+    ValuesRead (line key w t) w 0 (part l (n * i) b) m q → ValuesRead (line key n t) n (n * i) l (put_mid (n * i) b l m) q
+row_placed key t n i k l m q h g v =
+    let e : n * i + n - n * i ≡ n = omega arith in
+    line_placed key t n (n * i) _ l m q (omega (arith, e, row_in n i k h, g)) e v

@@ -4,4 +4,4 @@ use Rattle.text.proofs.question.Doubles.{Lines}
 use Rattle.text.proofs.question.lines.Given as goal
 
 abbrev pub invariant-loop-i : goal.invariant-loop-i
-invariant-loop-i l = Lines l.key l.n l.k l.text l.to l.initial.out l.i l.rest l.out
+invariant-loop-i l = Lines l.key l.n l.k l.text l.initial.out l.i l.rest l.out

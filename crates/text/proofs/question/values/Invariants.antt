@@ -3,4 +3,4 @@ use Rattle.text.proofs.question.Doubles.{Values}
 use Rattle.text.proofs.question.values.Given as goal
 
 abbrev pub invariant-loop-i : goal.invariant-loop-i
-invariant-loop-i l = Values l.n l.text l.to l.initial.out l.i l.rest l.out
+invariant-loop-i l = Values l.n l.text l.initial.out l.i l.rest l.out
