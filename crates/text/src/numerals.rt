@@ -63,7 +63,7 @@ pub(crate) fn small(rest: &[u8]) -> Option<(usize, &[u8])>
     Some((decimal_of(front), left))
 }
 
-// The value of a hexadecimal digit of either case, and 16 for any other byte.
+// The value of a hexadecimal digit of either case, and 16 for any other byte. (No Option: the definition too says 16.)
 #[tactic(auto, unfolding(crate::specs::Numerals::nibble))]
 fn nibble(b: u8) -> u8
     ensures { result ≡ nibble b }
