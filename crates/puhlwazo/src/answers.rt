@@ -19,12 +19,20 @@ pub(crate) fn number_of(f: Found) -> u64
 pub(crate) fn counts_of(f: Found) -> [u64; 5]
     ensures { result ≡ counts_of f }
 {
-    match f {
-        Found::Nothing(c) => [0, c.visited as u64, 0, c.cuts as u64, c.depth as u64],
-        Found::Enclosed(_, _, c) => [1, c.visited as u64, 0, c.cuts as u64, c.depth as u64],
-        Found::Spent(n, c) => [2, c.visited as u64, n as u64, c.cuts as u64, c.depth as u64],
-        Found::Refused(_, c) => [3, c.visited as u64, 0, c.cuts as u64, c.depth as u64],
-    }
+    let (kind, pending) = match f {
+        Found::Nothing(_) => (0, 0),
+        Found::Enclosed(..) => (1, 0),
+        Found::Spent(n, _) => (2, n as u64),
+        Found::Refused(..) => (3, 0),
+    };
+    let c = f.counts();
+    [
+        kind,
+        c.visited as u64,
+        pending,
+        c.cuts as u64,
+        c.depth as u64,
+    ]
 }
 
 // lo and hi.

@@ -1,7 +1,7 @@
 // Answers the questions in the files whose names are its arguments: texts one behind the other, a byte 0 behind each. It prints the answers in that order.
 #![tactic(auto)]
 
-ghost use Rattle.std.specs.Prelude.{◌≡◌, ◌≢◌, ℕ, ◌+◌, ◌-◌, ◌<◌, ◌≤◌, length, slice_index};
+ghost use Rattle.std.specs.Prelude.{◌≡◌, ◌≢◌, ℕ, ◌<◌, ◌≤◌, length, slice_index};
 
 use input::read_from;
 use std::env::{Env, FillError};
@@ -10,17 +10,16 @@ use std::rt::Files;
 use std::{fs, io};
 use text::respond::respond;
 
-// Where the text from `at` on ends: at the next byte 0, or else at the end.
-fn end_of(texts: &[u8], at: usize) -> usize
-    requires { at ≤ length texts.now }
-    ensures within { (at ≤ result) × (result ≤ length texts.now) }
-    ensures before { (k : ℕ) → k < result - at → slice_index texts.now (at + k) ≢ 0 }
+// How long the first text is: up to the next byte 0, or else to the end.
+fn end_of(texts: &[u8]) -> usize
+    ensures within { result ≤ length texts.now }
+    ensures before { (k : ℕ) → k < result → slice_index texts.now k ≢ 0 }
     ensures found { result < length texts.now → slice_index texts.now result ≡ 0 }
 {
-    match texts[at..].iter().position(|byte| *byte == 0) {
-        Some(n) => at + n,
-        None => texts.len(),
-    }
+    texts
+        .iter()
+        .position(|byte| *byte == 0)
+        .unwrap_or(texts.len())
 }
 
 // The answer to one text.
@@ -32,12 +31,14 @@ fn one(rt: &impl Print, text: &[u8]) -> io::Result<()> {
 
 // The answers to the texts of one file.
 fn all(rt: &impl Print, texts: &[u8]) -> io::Result<()> {
-    let mut at = 0;
-    // from text to text, each of its own length
-    while at < texts.len() {
-        let end = end_of(texts, at);
-        one(rt, &texts[at..end])?;
-        at = end + 1;
+    let mut rest = texts;
+    while !rest.is_empty() {
+        let (text, after) = rest.split_at(end_of(rest));
+        one(rt, text)?;
+        rest = match after {
+            [_, behind @ ..] => behind,
+            [] => after,
+        };
     }
     Ok(())
 }
