@@ -12,7 +12,7 @@ fn wrong_words(question: &[u8]) -> usize {
     let mut area = [7.0; 8192 + 64];
     let (knots, points, sides) = (&lines[1..k], &lines[k..p], &lines[p..p + 2 * dim]);
     let found = geometry::contains::curve_could_contain(rev, dim, degree, count, knots, points, sides, lines[0], nodes, &mut area[..8192]);
-    let refused = matches!(found, model::contains::Found::Refused(e, _) if e.number() != 11);
+    let refused = matches!(found, model::contains::Found::Refused(e, _) if geometry::answers::number(e) != 11);
     let stated = if refused { 0 } else { (nodes + 3) * (2 * (dim + 1) * (count + degree + 1) + 2 * (count + 2 * degree + 2) + 1) };
     area.iter().enumerate().filter(|&(i, &x)| x != if i < stated { 0.0 } else { 7.0 }).count()
 }

@@ -2,6 +2,7 @@
 #![tactic(auto)]
 
 mod aabb;
+pub mod answers;
 pub mod call;
 pub mod contains;
 mod fat_line;

@@ -116,11 +116,15 @@ pub(crate) fn points_in(work: &[f64], base: usize, s: Shape) -> Polygon<'_>
 }
 
 // The words at a become those of the source.
+// (By a loop, which becomes a call of memcpy: `copy_from_slice` becomes one of memmove, and the library calls nothing but
+// memcpy and memset.)
 pub(crate) fn write(work: &mut [f64], a: usize, source: &[f64])
     requires { a + length source.now ≤ length work.old }
     ensures { work.new ≡ put work.old a source.now }
 {
-    work[a..a + source.len()].copy_from_slice(source);
+    for i in 0..source.len() {
+        work[a + i] = source[i];
+    }
 }
 
 // The slot at base holds the whole curve, from its knots and the numbers of its points.

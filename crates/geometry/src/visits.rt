@@ -89,6 +89,7 @@ fn clip_axis<R: Revision>(
     requires dx_value { dx.now ≡ from_first (arithmetic R.second) xi.now }
     ensures value { result ≡ narrowed hat (fat_line_zeros (arithmetic R.second) xi.now
         (axis (arithmetic R.second) p.entry.dim k e (vectors p.entry))) }
+    ensures d_after { d.new ≡ axis (arithmetic R.second) p.entry.dim k e (vectors p.entry) }
 {
     axis::<R>(p, k, e, d);
     narrowed(hat, fat_line_zeros::<R>(xi, dx, d))

@@ -5,6 +5,7 @@
 
 ghost use Rattle.text.specs.Form.{Within};
 
+use geometry::answers;
 use input::read_input;
 use model::refusal::Refusal;
 use std::io;
@@ -12,7 +13,7 @@ use text::rewrite::rewrite;
 
 // Says on standard error by what the text is refused.
 fn say_refused(rt: &impl Eprint, refused: Refusal) -> io::Result<()> {
-    let number = refused.number();
+    let number = answers::number(refused);
     eprintln!(rt; "griptext: refused-{number}")
 }
 

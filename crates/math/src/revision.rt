@@ -304,7 +304,7 @@ impl Revision for Second {
     }
 
     fn pick(a: Bounds, b: Bounds) -> Bounds {
-        a.join(b)
+        Self::join(a, b)
     }
 
     fn bounds_sub(x: Scalar, y: Scalar) -> Bounds {
@@ -313,7 +313,7 @@ impl Revision for Second {
     }
 
     fn join(a: Bounds, b: Bounds) -> Bounds {
-        a.join(b)
+        Bounds::join(a, b)
     }
 
     fn close(b: Bounds) -> Scalar {

@@ -1,6 +1,4 @@
 // contains/curve.rs: the answer of a search.
-ghost use Rattle.std.specs.Prelude.{◌≡◌};
-ghost use Rattle.model.specs.Paper.{paper, counts_of};
 
 use crate::refusal::Refusal;
 use crate::subdivide::Counts;
@@ -16,18 +14,4 @@ pub enum Found {
     Spent(usize, Counts),
     // The call or the curve is refused.
     Refused(Refusal, Counts),
-}
-
-impl Found {
-    // What the search counted.
-    pub fn counts(self) -> Counts
-        ensures { result ≡ counts_of (paper self) }
-    {
-        match self {
-            Found::Nothing(counts) => counts,
-            Found::Enclosed(_, _, counts) => counts,
-            Found::Spent(_, counts) => counts,
-            Found::Refused(_, counts) => counts,
-        }
-    }
 }

@@ -1,8 +1,6 @@
-// By what a call, a text or an output is refused, each with its number in the papers.
-ghost use Rattle.std.specs.Prelude.{◌≡◌};
-ghost use Rattle.model.specs.Numbers.{number_of};
+// By what a call, a text or an output is refused, each with its number in the papers (specs/Numbers.antt).
 
-// What is wrong. README.md has a row for each, and what to do.
+// What is wrong. README.md has a row for each that a program or the library gives, and what to do.
 #[derive(Clone, Copy, Debug, PartialEq, Eq)]
 pub enum Refusal {
     // 1: the dimension.
@@ -37,30 +35,4 @@ pub enum Refusal {
     Revision,
     // 23: a sheet is full.
     Sheet,
-}
-
-impl Refusal {
-    // Its number in the papers.
-    pub fn number(self) -> u64
-        ensures { result ≡ number_of self }
-    {
-        match self {
-            Refusal::Dim => 1,
-            Refusal::Degree => 2,
-            Refusal::Count => 3,
-            Refusal::Length => 4,
-            Refusal::Value => 5,
-            Refusal::Order => 6,
-            Refusal::Weight => 7,
-            Refusal::Knots => 8,
-            Refusal::Nodes => 9,
-            Refusal::Work => 10,
-            Refusal::Piece => 11,
-            Refusal::Text => 12,
-            Refusal::Cart => 14,
-            Refusal::Room => 15,
-            Refusal::Revision => 16,
-            Refusal::Sheet => 23,
-        }
-    }
 }

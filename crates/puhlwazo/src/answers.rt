@@ -2,6 +2,7 @@
 ghost use Rattle.std.specs.Prelude.{◌≡◌};
 ghost use Rattle.puhlwazo.specs.Answers.{number_of, counts_of, bounds_of};
 
+use geometry::answers::{counts, number};
 use model::contains::Found;
 
 // The number of the refusal, and 0 where there is none.
@@ -10,7 +11,7 @@ pub(crate) fn number_of(f: Found) -> u64
 {
     match f {
         Found::Nothing(_) | Found::Enclosed(..) | Found::Spent(..) => 0,
-        Found::Refused(refused, _) => refused.number(),
+        Found::Refused(refused, _) => number(refused),
     }
 }
 
@@ -25,7 +26,7 @@ pub(crate) fn counts_of(f: Found) -> [u64; 5]
         Found::Spent(n, _) => (2, n as u64),
         Found::Refused(..) => (3, 0),
     };
-    let c = f.counts();
+    let c = counts(f);
     [
         kind,
         c.visited as u64,

@@ -3,11 +3,12 @@ use Rattle.std.specs.Prelude.{ℕ, ◌≡◌, cond, ◌&&◌, List, [], ◌++◌
 use Rattle.std.proofs.Math.Option.{Option, none, some}
 use Rattle.math.specs.declared.scalars.Scalar.{Scalar}
 use Rattle.model.specs.Call.{answer_to, area_after}
-use Rattle.model.specs.Paper.{Result, None-found, enclosed, spent, refused, Paper, paper}
+use Rattle.model.specs.Paper.{Result, None-found, enclosed, spent, refused, Paper, on_paper, paper}
 use Rattle.model.specs.Promise.{Answers}
 use Rattle.model.specs.Numbers.{number_of, refusal_of}
 use Rattle.model.specs.Subdivide.{no_counts}
 use Rattle.model.specs.declared.refusal.Refusal.{Refusal}
+use Rattle.model.specs.declared.subdivide.Counts.{Counts}
 use Rattle.model.specs.declared.contains.Found.{Found}
 use Rattle.model.specs.declared.contains.Found.TheVariants.{Refused}
 use Rattle.text.specs.Bytes.{bytes}
@@ -49,6 +50,14 @@ count_lines a =
 unfoldable pub printed : Paper → List ℕ
 printed a = bytes "result=" ++ result_word a.result ++ count_lines a ++ bound_lines a.bounds
 
+-- Of an answer with these counts, what the lines of the counts are made of.
+abbrev pub counted : Counts → ℕ → Paper
+counted v n = on_paper None-found v n none
+
+-- A refusal by a number, with these counts.
+abbrev pub numbered_paper : ℕ → Counts → Paper
+numbered_paper n v = on_paper (refused n) v 0 none
+
 -- What the program writes for a text.
 unfoldable pub response : List ℕ → List ℕ
 response text = printed (paper (answered text))
@@ -60,6 +69,10 @@ fitting n text = cond (leb 192 n) (response text) []
 -- What is written of the lines of an answer where there are n bytes for them: nothing where they are fewer than 192, or where a bound is a NaN.
 abbrev pub printed_in : ℕ → Found → List ℕ
 printed_in n f = cond (leb 192 n && is_printable f) (printed (paper f)) []
+
+-- The same of a refusal by a number: of any `Refused e v` it is `printed_in`, with e's number (law `refused-printed`).
+abbrev pub refused_in : ℕ → ℕ → Counts → List ℕ
+refused_in n r v = cond (leb 192 n) (printed (numbered_paper r v)) []
 
 -- ---- what the answer keeps
 

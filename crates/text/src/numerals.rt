@@ -63,17 +63,27 @@ pub(crate) fn small(rest: &[u8]) -> Option<(usize, &[u8])>
     Some((decimal_of(front), left))
 }
 
-// The value of a hexadecimal digit of either case, and 16 for any other byte. (No Option: the definition too says 16.)
-#[tactic(auto, unfolding(crate::specs::Numerals::nibble))]
+// What each byte is as a hexadecimal digit of either case, and 16 where it is none.
+static NIBBLES: [u8; 256] = [
+    16, 16, 16, 16, 16, 16, 16, 16, 16, 16, 16, 16, 16, 16, 16, 16, 16, 16, 16, 16, 16, 16, 16, 16,
+    16, 16, 16, 16, 16, 16, 16, 16, 16, 16, 16, 16, 16, 16, 16, 16, 16, 16, 16, 16, 16, 16, 16, 16,
+    0, 1, 2, 3, 4, 5, 6, 7, 8, 9, 16, 16, 16, 16, 16, 16, 16, 10, 11, 12, 13, 14, 15, 16, 16, 16,
+    16, 16, 16, 16, 16, 16, 16, 16, 16, 16, 16, 16, 16, 16, 16, 16, 16, 16, 16, 16, 16, 16, 16, 10,
+    11, 12, 13, 14, 15, 16, 16, 16, 16, 16, 16, 16, 16, 16, 16, 16, 16, 16, 16, 16, 16, 16, 16, 16,
+    16, 16, 16, 16, 16, 16, 16, 16, 16, 16, 16, 16, 16, 16, 16, 16, 16, 16, 16, 16, 16, 16, 16, 16,
+    16, 16, 16, 16, 16, 16, 16, 16, 16, 16, 16, 16, 16, 16, 16, 16, 16, 16, 16, 16, 16, 16, 16, 16,
+    16, 16, 16, 16, 16, 16, 16, 16, 16, 16, 16, 16, 16, 16, 16, 16, 16, 16, 16, 16, 16, 16, 16, 16,
+    16, 16, 16, 16, 16, 16, 16, 16, 16, 16, 16, 16, 16, 16, 16, 16, 16, 16, 16, 16, 16, 16, 16, 16,
+    16, 16, 16, 16, 16, 16, 16, 16, 16, 16, 16, 16, 16, 16, 16, 16, 16, 16, 16, 16, 16, 16, 16, 16,
+    16, 16, 16, 16, 16, 16, 16, 16, 16, 16, 16, 16, 16, 16,
+];
+
+// The value of a hexadecimal digit of either case, and 16 for any other byte. (No Option: the definition too says 16. By a
+// table: which digit is a letter, no processor foresees.)
 fn nibble(b: u8) -> u8
     ensures { result ≡ nibble b }
 {
-    match b {
-        b'0'..=b'9' => b - 48,
-        b'a'..=b'f' => b - 87,
-        b'A'..=b'F' => b - 55,
-        _ => 16,
-    }
+    NIBBLES[usize::from(b)]
 }
 
 // These bytes are all hexadecimal digits.

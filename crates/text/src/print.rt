@@ -2,10 +2,12 @@
 ghost use Rattle.std.specs.Prelude.{◌≡◌, ◌++◌, ◌+◌, ◌≤◌, ◌<◌, length, T};
 ghost use Rattle.model.specs.Paper.{paper};
 ghost use Rattle.text.specs.Numerals.{digit_of, last_digits, decimal_length, decimal, hexadecimal};
-ghost use Rattle.text.specs.Respond.{result_word, count_lines, bound_lines, printed};
+ghost use Rattle.text.specs.Respond.{result_word, count_lines, bound_lines, counted, numbered_paper, printed};
 ghost use Rattle.text.specs.Printable.{Written, is_number, Printable};
 
+use geometry::answers::{counts, number};
 use model::contains::Found;
+use model::subdivide::Counts;
 
 // ---- words and numbers
 
@@ -85,7 +87,7 @@ fn put_result(out: &mut [u8], at: usize, f: Found) -> usize
         Found::Spent(..) => { put_word(out, at, b"spent") }
         Found::Refused(refused, _) => {
             let i = put_word(out, at, b"refused-");
-            put_decimal(out, i, refused.number())
+            put_decimal(out, i, number(refused))
         }
     }
 }
@@ -110,18 +112,26 @@ pub(crate) fn put_count(out: &mut [u8], at: usize, key: &[u8], n: u64) -> usize
     put_decimal(out, i, n)
 }
 
-// The lines of the counts, from `at` on, where the line before them has to end.
+// The lines of these counts, of which so many are pending, from `at` on, where the line before them has to end.
+fn put_counted(out: &mut [u8], at: usize, counts: Counts, pending: u64) -> usize
+    requires { at + 112 ≤ length out.old }
+    ensures { let l = out.old in let m = out.new in
+        Written l at (count_lines (counted counts pending)) m result × (result ≤ at + 112) }
+{
+    let i = put_count(out, at, b"\nvisited=", counts.visited as u64);
+    let j = put_count(out, i, b"\ncuts=", counts.cuts as u64);
+    let k = put_count(out, j, b"\ndepth=", counts.depth as u64);
+    let l = put_count(out, k, b"\npending=", pending);
+    put_word(out, l, b"\n")
+}
+
+// The lines of the counts of an answer, from `at` on, where the line before them has to end.
 fn put_counts(out: &mut [u8], at: usize, f: Found) -> usize
     requires { at + 112 ≤ length out.old }
     ensures { let l = out.old in let m = out.new in
         Written l at (count_lines (paper f)) m result × (result ≤ at + 112) }
 {
-    let counts = f.counts();
-    let i = put_count(out, at, b"\nvisited=", counts.visited as u64);
-    let j = put_count(out, i, b"\ncuts=", counts.cuts as u64);
-    let k = put_count(out, j, b"\ndepth=", counts.depth as u64);
-    let l = put_count(out, k, b"\npending=", pending_of(f));
-    put_word(out, l, b"\n")
+    put_counted(out, at, counts(f), pending_of(f))
 }
 
 // The lines of the two bounds, from `at` on.
@@ -149,4 +159,16 @@ pub(crate) fn write(f: Found, out: &mut [u8]) -> usize
     let j = put_result(out, i, f);
     let k = put_counts(out, j, f);
     put_bounds(out, k, f)
+}
+
+// The seven lines of a refusal by this number, written to the front of `out`. The result is how many bytes they are.
+pub(crate) fn write_refused(number: u64, counts: Counts, out: &mut [u8]) -> usize
+    requires { 192 ≤ length out.old }
+    ensures { Written out.old 0 (printed (numbered_paper number counts)) out.new result × (result ≤ 192) }
+{
+    let i = put_word(out, 0, b"result=");
+    let j = put_word(out, i, b"refused-");
+    let k = put_decimal(out, j, number);
+    let l = put_counted(out, k, counts, 0);
+    put_word(out, l, b"lo=-\nhi=-\n")
 }

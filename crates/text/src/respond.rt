@@ -2,12 +2,12 @@
 ghost use Rattle.std.specs.Prelude.{◌≡◌, ◌&&◌, ◌≤◌, length, take};
 ghost use Rattle.text.specs.Question.{reading};
 ghost use Rattle.text.specs.Cursor.{Small, question_in};
-ghost use Rattle.text.specs.Respond.{fitting, printed_in, AnswersReading, SaysAnswer};
+ghost use Rattle.text.specs.Respond.{fitting, printed_in, refused_in, AnswersReading, SaysAnswer};
 ghost use Rattle.text.specs.Printable.{Written, is_number, is_printable};
 ghost use Rattle.text.specs.Counts.{Counts};
 
 use crate::cursor::Asked;
-use crate::print::write;
+use crate::print::{write, write_refused};
 use crate::reading::{read, zeros};
 use geometry::contains::curve_could_contain;
 use math::floats::is_nan;
@@ -95,4 +95,17 @@ pub fn print_answer(f: Found, out: &mut [u8]) -> usize
         return write(f, out);
     }
     0
+}
+
+// The same lines for a refusal by any number, one too that no `Refusal` has, with what was counted before it.
+// Where `out` has fewer than 192 bytes nothing is written, and the result is 0.
+pub fn print_refused(number: u64, counts: subdivide::Counts, out: &mut [u8]) -> usize
+    ensures written { let l = out.old in
+        Written l 0 (refused_in (length l) number counts) out.new result }
+    ensures within { Counts result out.new }
+{
+    if out.len() < 192 {
+        return 0;
+    }
+    write_refused(number, counts, out)
 }

@@ -14,14 +14,15 @@ use lib.Ieee.{Float, binary64, to_bits}
 use borrow.Author.Tests.{le-leb, lt-leb}
 use Rattle.lists.specs.Lists.{put}
 use Rattle.lists.proofs.Put.{put-nil, put-put, put-cons}
-use Rattle.model.specs.Paper.{paper}
+use Rattle.model.specs.Paper.{Paper, paper}
+use Rattle.model.specs.declared.subdivide.Counts.{Counts}
 use Rattle.model.specs.declared.contains.Found.{Found}
 use Rattle.model.specs.declared.contains.Found.TheVariants.{Nothing, Enclosed, Spent, Refused}
 use Rattle.model.specs.contracts.contains.Found.{the_type}
 use denote.Enum.Declared.{tag_of}
 use Rattle.math.specs.declared.scalars.Scalar.{Scalar}
 use Rattle.text.specs.Bytes.{bytes}
-use Rattle.text.specs.Respond.{result_word, count_lines, bound_lines, printed}
+use Rattle.text.specs.Respond.{result_word, count_lines, bound_lines, counted, numbered_paper, printed}
 use Rattle.text.specs.Numerals.{digit_of, last_digits, decimal_length, decimal, hexadecimal}
 use Rattle.text.specs.Printable.{Written}
 
@@ -194,13 +195,13 @@ pub five-joined : {l m₁ m₂ m₃ m₄ m₅ : List ℕ} {at p q r s t : ℕ} {
 five-joined h u v w x y = joined (omega arith) (four-joined (omega arith) u v w x) y
 
 -- The lines of the counts: the four counts behind their keys, and the end of the last line.
-pub counts-written : (f : Found) (v k d n : ℕ) {l m₁ m₂ m₃ m₄ m₅ : List ℕ} {at p q r s t : ℕ}
-    → v ≡ (paper f).visited → k ≡ (paper f).cuts → d ≡ (paper f).depth → n ≡ (paper f).pending → t ≤ length l
+pub counts-written : (a : Paper) (v k d n : ℕ) {l m₁ m₂ m₃ m₄ m₅ : List ℕ} {at p q r s t : ℕ}
+    → v ≡ a.visited → k ≡ a.cuts → d ≡ a.depth → n ≡ a.pending → t ≤ length l
     → Written l at (bytes "\nvisited=" ++ decimal v) m₁ p → Written m₁ p (bytes "\ncuts=" ++ decimal k) m₂ q
     → Written m₂ q (bytes "\ndepth=" ++ decimal d) m₃ r → Written m₃ r (bytes "\npending=" ++ decimal n) m₄ s
-    → Written m₄ s (bytes "\n") m₅ t → Written l at (count_lines (paper f)) m₅ t
+    → Written m₄ s (bytes "\n") m₅ t → Written l at (count_lines a) m₅ t
 unfolding count_lines
-counts-written f v k d n {l} {m₅ = m₅} {at = at} {t = t} a b c e h u w x y z =
+counts-written p v k d n {l} {m₅ = m₅} {at = at} {t = t} a b c e h u w x y z =
     subst (λ (ws : List ℕ). Written l at ws m₅ t)
     (λ i.
     (bytes "\nvisited=" ++ decimal (a i)) ++ (bytes "\ncuts=" ++ decimal (b i)) ++ (bytes "\ndepth=" ++ decimal (c i))
@@ -214,3 +215,22 @@ pub printed-written : (f : Found) {l m₁ m₂ m₃ m₄ : List ℕ} {p q r s : 
     → Written l 0 (printed (paper f)) m₄ s
 unfolding printed
 printed-written f h u w x y = four-joined h u w x y
+
+-- The lines of the counts of an answer are those of its counts.
+pub counts-of : (a : Paper) (v : Counts) (n : ℕ) {l m : List ℕ} {at t : ℕ}
+    → v ≡ record { visited = a.visited; cuts = a.cuts; depth = a.depth } → n ≡ a.pending
+    → Written l at (count_lines (counted v n)) m t → Written l at (count_lines a) m t
+unfolding count_lines
+counts-of a v n {l} {m} {at} {t} e f w =
+    subst (λ (ws : List ℕ). Written l at ws m t)
+    (λ i. count_lines (counted (e i) (f i))) w
+
+-- The seven lines of a refusal by a number.
+pub refused-written : (n : ℕ) (v : Counts) {l m₁ m₂ m₃ m₄ m₅ : List ℕ} {p q r s t : ℕ} → t ≤ length l
+    → Written l 0 (bytes "result=") m₁ p → Written m₁ p (bytes "refused-") m₂ q → Written m₂ q (decimal n) m₃ r
+    → Written m₃ r (count_lines (counted v 0)) m₄ s → Written m₄ s (bytes "lo=-\nhi=-\n") m₅ t
+    → Written l 0 (printed (numbered_paper n v)) m₅ t
+unfolding printed result_word count_lines bound_lines
+refused-written n v {l} {m₅ = m₅} {t = t} h u w x y z =
+    subst (λ (ws : List ℕ). Written l 0 (ws ++ count_lines (counted v 0) ++ bytes "lo=-\nhi=-\n") m₅ t)
+    (append_assoc (bytes "result=") (bytes "refused-") (decimal n)) (five-joined h u w x y z)
