@@ -5,6 +5,7 @@ pub mod Question
 pub mod Respond
 pub mod Cursor
 pub mod Printable
+pub mod Answer
 pub mod Counts
 pub mod Form
 pub mod OneForm

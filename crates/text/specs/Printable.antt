@@ -3,7 +3,10 @@ use Rattle.std.specs.Prelude.{ℕ, ◌+◌, ◌≤◌, ◌<◌, ◌≡◌, Bool,
 use Rattle.std.specs.Float.Ieee.{is_nan}
 use Rattle.lists.specs.Lists.{put, all}
 use Rattle.model.specs.Enclosure.{OfBounds}
-use Rattle.model.specs.Paper.{paper}
+use Rattle.std.proofs.Math.Option.{Option, none, some}
+use Rattle.math.specs.declared.scalars.Scalar.{Scalar}
+use Rattle.model.specs.Paper.{Paper, on_paper, refused, paper}
+use Rattle.model.specs.declared.subdivide.Counts.{Counts}
 use Rattle.model.specs.declared.contains.Found.{Found}
 use Rattle.model.specs.declared.contains.Found.TheVariants.{Nothing, Enclosed, Spent, Refused}
 use Rattle.text.specs.Question.{Numbers}
@@ -39,3 +42,12 @@ is_printable (Nothing v) = true
 is_printable (Enclosed lo hi v) = is_number lo && is_number hi
 is_printable (Spent n v) = true
 is_printable (Refused e v) = true
+
+-- The same of the two bounds that stand on paper.
+abbrev pub are_printable : Option Scalar → Bool
+are_printable none = true
+are_printable (some x) = is_number x.lo && is_number x.hi
+
+-- A refusal by a number, with these counts, on paper.
+abbrev pub numbered_paper : ℕ → Counts → Paper
+numbered_paper n v = on_paper (refused n) v 0 none

@@ -13,7 +13,7 @@ use Rattle.model.specs.declared.contains.Found.{Found}
 use Rattle.model.specs.declared.contains.Found.TheVariants.{Refused}
 use Rattle.text.specs.Bytes.{bytes}
 use Rattle.text.specs.Numerals.{decimal, hexadecimal}
-use Rattle.text.specs.Printable.{is_printable}
+use Rattle.text.specs.Printable.{is_printable, are_printable}
 use Rattle.text.specs.Question.{Reading, refused_by, asks, call_of, reading}
 
 -- The answer to what was read: "A refusal other than 11 prints visited=0", cuts=0 (request E2) and depth=0 (request E5).
@@ -54,10 +54,6 @@ printed a = bytes "result=" ++ result_word a.result ++ count_lines a ++ bound_li
 abbrev pub counted : Counts → ℕ → Paper
 counted v n = on_paper None-found v n none
 
--- A refusal by a number, with these counts.
-abbrev pub numbered_paper : ℕ → Counts → Paper
-numbered_paper n v = on_paper (refused n) v 0 none
-
 -- What the program writes for a text.
 unfoldable pub response : List ℕ → List ℕ
 response text = printed (paper (answered text))
@@ -70,9 +66,9 @@ fitting n text = cond (leb 192 n) (response text) []
 abbrev pub printed_in : ℕ → Found → List ℕ
 printed_in n f = cond (leb 192 n && is_printable f) (printed (paper f)) []
 
--- The same of a refusal by a number: of any `Refused e v` it is `printed_in`, with e's number (law `refused-printed`).
-abbrev pub refused_in : ℕ → ℕ → Counts → List ℕ
-refused_in n r v = cond (leb 192 n) (printed (numbered_paper r v)) []
+-- The same of what stands on paper: of an answer f it is `printed_in` (law `found-lines`).
+abbrev pub lines_in : ℕ → Paper → List ℕ
+lines_in n a = cond (leb 192 n && are_printable a.bounds) (printed a) []
 
 -- ---- what the answer keeps
 

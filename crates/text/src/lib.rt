@@ -1,6 +1,7 @@
 // The text of a question, of its answer, and its one form; and what others write their lines by.
 #![tactic(auto)]
 
+pub mod answer;
 pub mod cursor;
 mod numerals;
 mod print;

@@ -2,8 +2,8 @@
 ghost use Rattle.std.specs.Prelude.{◌≡◌, ◌++◌, ◌+◌, ◌≤◌, ◌<◌, length, T};
 ghost use Rattle.model.specs.Paper.{paper};
 ghost use Rattle.text.specs.Numerals.{digit_of, last_digits, decimal_length, decimal, hexadecimal};
-ghost use Rattle.text.specs.Respond.{result_word, count_lines, bound_lines, counted, numbered_paper, printed};
-ghost use Rattle.text.specs.Printable.{Written, is_number, Printable};
+ghost use Rattle.text.specs.Respond.{result_word, count_lines, bound_lines, counted, printed};
+ghost use Rattle.text.specs.Printable.{Written, is_number, Printable, numbered_paper};
 
 use geometry::answers::{counts, number};
 use model::contains::Found;

@@ -2,10 +2,11 @@
 ghost use Rattle.std.specs.Prelude.{◌≡◌, ◌&&◌, ◌≤◌, length, take};
 ghost use Rattle.text.specs.Question.{reading};
 ghost use Rattle.text.specs.Cursor.{Small, question_in};
-ghost use Rattle.text.specs.Respond.{fitting, printed_in, refused_in, AnswersReading, SaysAnswer};
-ghost use Rattle.text.specs.Printable.{Written, is_number, is_printable};
+ghost use Rattle.text.specs.Respond.{fitting, printed_in, lines_in, AnswersReading, SaysAnswer};
+ghost use Rattle.text.specs.Printable.{Written, is_number, is_printable, numbered_paper};
 ghost use Rattle.text.specs.Counts.{Counts};
 
+use crate::answer::{Answer, Numbered};
 use crate::cursor::Asked;
 use crate::print::{write, write_refused};
 use crate::reading::{read, zeros};
@@ -80,10 +81,8 @@ fn is_printable(f: Found) -> bool
     }
 }
 
-// The seven lines of an answer, written to the front of `out`. The result is how many bytes they are.
-// Where `out` has fewer than 192 bytes, or a bound is a NaN, which no answer of the search has, nothing is written, and the
-// result is 0.
-pub fn print_answer(f: Found, out: &mut [u8]) -> usize
+// The lines of an answer of the search.
+fn print_found(f: Found, out: &mut [u8]) -> usize
     ensures written { let l = out.old in
         Written l 0 (printed_in (length l) f) out.new result }
     ensures within { Counts result out.new }
@@ -97,15 +96,29 @@ pub fn print_answer(f: Found, out: &mut [u8]) -> usize
     0
 }
 
-// The same lines for a refusal by any number, one too that no `Refusal` has, with what was counted before it.
-// Where `out` has fewer than 192 bytes nothing is written, and the result is 0.
-pub fn print_refused(number: u64, counts: subdivide::Counts, out: &mut [u8]) -> usize
+// Those of a refusal by a number.
+fn print_numbered(refused: Numbered, out: &mut [u8]) -> usize
     ensures written { let l = out.old in
-        Written l 0 (refused_in (length l) number counts) out.new result }
+        Written l 0 (lines_in (length l) (numbered_paper refused.number refused.counts)) out.new result }
     ensures within { Counts result out.new }
 {
     if out.len() < 192 {
         return 0;
     }
-    write_refused(number, counts, out)
+    write_refused(refused.number, refused.counts, out)
+}
+
+// The seven lines of an answer, written to the front of `out`: of one of the search, or of a refusal by any number
+// (`Numbered`). The result is how many bytes they are.
+// Where `out` has fewer than 192 bytes, or a bound is a NaN, which no answer of the search has, nothing is written, and the
+// result is 0.
+pub fn print_answer<A: Answer>(answer: A, out: &mut [u8]) -> usize
+    ensures written { let l = out.old in
+        Written l 0 (lines_in (length l) (A.on_paper answer)) out.new result }
+    ensures within { Counts result out.new }
+{
+    match answer.found() {
+        Ok(f) => print_found(f, out),
+        Err(refused) => print_numbered(refused, out),
+    }
 }

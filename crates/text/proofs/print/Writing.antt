@@ -22,9 +22,9 @@ use Rattle.model.specs.contracts.contains.Found.{the_type}
 use denote.Enum.Declared.{tag_of}
 use Rattle.math.specs.declared.scalars.Scalar.{Scalar}
 use Rattle.text.specs.Bytes.{bytes}
-use Rattle.text.specs.Respond.{result_word, count_lines, bound_lines, counted, numbered_paper, printed}
+use Rattle.text.specs.Respond.{result_word, count_lines, bound_lines, counted, printed}
 use Rattle.text.specs.Numerals.{digit_of, last_digits, decimal_length, decimal, hexadecimal}
-use Rattle.text.specs.Printable.{Written}
+use Rattle.text.specs.Printable.{Written, numbered_paper}
 
 -- ---- words
 

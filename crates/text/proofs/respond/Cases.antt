@@ -4,21 +4,19 @@ use Prim.Native.Nat.{ℕ, ◌≤◌, ◌<◌}
 use native.Mathlib.Omega.{arith}
 use borrow.Author.Tests.{le-leb, lt-leb}
 use lib.Dec.{leb}
-use mathlib.Core.Bool.{Bool, true, false, cond, ◌&&◌}
+use mathlib.Core.Bool.{Bool, true, false, ◌&&◌}
 use mathlib.Core.List.{List, []}
 use Rattle.lists.proofs.Put.{put-nil}
-use Rattle.text.specs.Printable.{Written, is_printable}
+use Rattle.text.specs.Printable.{Written, is_printable, numbered_paper}
 use lib.ListN.{length, take}
 use lib.Seq.{length-take-le}
 use Rattle.math.proofs.Bools.{and_yes, and_no, pick_yes, pick_no}
 use Rattle.model.specs.Paper.{paper}
 use Rattle.model.specs.declared.contains.Found.{Found}
-use Rattle.model.specs.declared.contains.Found.TheVariants.{Refused}
-use Rattle.model.specs.declared.refusal.Refusal.{Refusal}
+use Rattle.model.specs.declared.contains.Found.TheVariants.{Nothing, Enclosed, Spent, Refused}
 use Rattle.model.specs.declared.subdivide.Counts as Count
-use Rattle.model.specs.Numbers.{number_of}
 use Rattle.text.specs.Question.{reading}
-use Rattle.text.specs.Respond.{answered, printed, response, fitting, printed_in, numbered_paper, refused_in, AnswersReading, SaysAnswer}
+use Rattle.text.specs.Respond.{answered, printed, response, fitting, printed_in, lines_in, AnswersReading, SaysAnswer}
 use Rattle.text.specs.Counts.{Counts}
 use Rattle.text.proofs.print.Writing.{written-front}
 use Rattle.text.proofs.respond.Lent.{answer_same}
@@ -72,28 +70,31 @@ no_bytes f l e =
     )
 
 -- those of a refusal by a number, where there is room
-pub refused-there : {l m : List ℕ} {r : ℕ} (n : ℕ) (v : Count.Counts) → 192 ≤ length l → length m ≡ length l → r ≤ 192
-    → Written l 0 (printed (numbered_paper n v)) m r → Written l 0 (refused_in (length l) n v) m r × Counts r m
-refused-there {l} {m} {r} n v room long few w = (
-  subst (λ (x : List ℕ). Written l 0 x m r) (pick_yes (leb 192 (length l)) (printed (numbered_paper n v)) [] (le-leb 192 (length l) room)) w,
+pub numbered-there : {l m : List ℕ} {r : ℕ} (n : ℕ) (v : Count.Counts) → 192 ≤ length l → length m ≡ length l → r ≤ 192
+    → Written l 0 (printed (numbered_paper n v)) m r → Written l 0 (lines_in (length l) (numbered_paper n v)) m r × Counts r m
+numbered-there {l} {m} {r} n v room long few w = (
+  subst (λ (x : List ℕ). Written l 0 x m r) (pick_yes (leb 192 (length l) && true) (printed (numbered_paper n v)) [] both) w,
   (omega arith, sym (length-take-le r m (omega arith))),
 )
+  where
+    both : (leb 192 (length l) && true) ≡ true
+    both = ap (λ (b : Bool). b && true) (le-leb 192 (length l) room)
 
 -- and where there is not
-pub refused-short : (n : ℕ) (v : Count.Counts) (l : List ℕ) → length l < 192 → Written l 0 (refused_in (length l) n v) l 0 × Counts 0 l
-refused-short n v l h =
+pub numbered-short : (n : ℕ) (v : Count.Counts) (l : List ℕ) → length l < 192
+    → Written l 0 (lines_in (length l) (numbered_paper n v)) l 0 × Counts 0 l
+numbered-short n v l h =
     let w : Written l 0 [] l 0 = record { memory = sym (put-nil l 0); end = refl } in (
-      subst (λ (x : List ℕ). Written l 0 x l 0) (pick_no (leb 192 (length l)) (printed (numbered_paper n v)) [] (lt-leb 192 (length l) h)) w,
+      subst (λ (x : List ℕ). Written l 0 x l 0) (pick_no (leb 192 (length l) && true) (printed (numbered_paper n v)) [] (ap (λ (b : Bool). b && true) (lt-leb 192 (length l) h))) w,
       (omega arith, sym (length-take-le 0 l (omega arith))),
     )
 
--- of a `Refusal` they are the answer's
-pub refused-printed : (n : ℕ) (e : Refusal) (v : Count.Counts) → printed_in n (Refused e v) ≡ refused_in n (number_of e) v
-refused-printed n e v = ap (λ (b : Bool). cond b (printed (paper (Refused e v))) []) (by (leb 192 n))
-  where
-    by : (b : Bool) → (b && true) ≡ b
-    by true = refl
-    by false = refl
+-- of an answer they are those of what it is on paper
+pub found-lines : (n : ℕ) (f : Found) → printed_in n f ≡ lines_in n (paper f)
+found-lines n (Nothing v) = refl
+found-lines n (Enclosed lo hi v) = refl
+found-lines n (Spent k v) = refl
+found-lines n (Refused e v) = refl
 
 pub short_none : (f : Found) (l : List ℕ) → length l < 192 → Written l 0 (printed_in (length l) f) l 0 × Counts 0 l
 short_none f l h =

@@ -1,6 +1,6 @@
--- `print_answer` writes the lines where there is room for them and they can be written.
+-- `print_found` writes the lines where there is room for them and they can be written.
 use Rattle.text.proofs.respond.Cases.{short_none, prints_none}
-use Rattle.text.proofs.respond.print_answer.Goals as goal
+use Rattle.text.proofs.respond.print_found.Goals as goal
 
 pub returns-then-out-lt192 : goal.returns-then-out-lt192
 returns-then-out-lt192 c = let g = c.args in
